@@ -1,0 +1,11 @@
+pub mod Places
+pub mod Bytes
+pub mod Marks
+pub mod Keywords
+pub mod Pieces
+pub mod Tokens
+pub mod Outside
+pub mod Counts
+pub mod Memory
+pub mod MemoryViews
+pub mod RealWords

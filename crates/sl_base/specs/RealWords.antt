@@ -1,0 +1,19 @@
+-- Which word of the command a read that failed was of.
+use Rattle.std.specs.Prelude.{◌≡◌, ◌<◌, ℕ, List, String, string_bytes, length, slice_index_or}
+use Rattle.std.specs.declared.alloc.Global.{Global}
+use Rattle.sl_base.specs.declared.outside.real_files.Blame.{Blame}
+use Rattle.sl_base.specs.declared.outside.real_files.Blame.TheVariants.{Nothing, Word, Missing}
+
+-- no word is this name
+abbrev pub HasNoWord : List (String Global) → List ℕ → Type 0
+HasNoWord words name = (k : ℕ) (d : String Global) → k < length words → string_bytes (slice_index_or words k d) ≡ name → ⊥
+
+-- the word at i is this name
+abbrev pub IsWordAt : List (String Global) → List ℕ → ℕ → Type 0
+IsWordAt words name i = (i < length words) × ((d : String Global) → string_bytes (slice_index_or words i d) ≡ name)
+
+-- the last read that failed was of this name
+abbrev pub IsBlamedWord : List (String Global) → Blame → List ℕ → Type 0
+IsBlamedWord words Nothing name = ⊥
+IsBlamedWord words (Word i) name = IsWordAt words name i
+IsBlamedWord words Missing name = HasNoWord words name

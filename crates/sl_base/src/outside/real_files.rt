@@ -1,0 +1,100 @@
+ghost use Rattle.std.specs.Prelude.{◌≡◌, ◌<◌, ◌≤◌, ℕ, List, None, length, MatchOption, IfOk, string_bytes, vec_len};
+ghost use Rattle.sl_base.specs.RealWords.{HasNoWord, IsWordAt, IsBlamedWord};
+ghost use Rattle.sl_base.specs.Counts.{one_more};
+
+use crate::{Failed, Files};
+use std::alloc::{AllocError, Global};
+use std::fs;
+use std::io::Read;
+use std::rt::Files as System;
+
+/// What the last read that failed was of.
+#[derive(Drop)]
+enum Blame {
+    Nothing,
+    Word(usize),
+    Missing,
+}
+
+/// The files of the system that the words of a command name. They tell nothing of their bytes. A file is opened
+/// at its first read and stays open; a name that is none of the words fails.
+#[derive(Drop)]
+pub struct RealFiles<R: System + Drop> {
+    system: R,
+    words: Vec<String>,
+    opened: Vec<Option<R::File>>,
+    faults: u64,
+    blame: Blame,
+    ghost one_each: { vec_len opened ≡ vec_len words },
+}
+
+impl<R: System + Drop> RealFiles<R> {
+    /// The files that these words name. Takes memory for a copy of the words and for one open file a word.
+    pub fn new(system: R, alloc: Global, words: &[String]) -> Result<RealFiles<R>, AllocError>
+        ensures { IfOk result (λ f. f.faults ≡ 0) }
+    {
+        let mut copies = Vec::new(alloc);
+        let mut opened = Vec::new(alloc);
+        for word in words {
+            copies.push(word.clone()?)?;
+            opened.push(None)?;
+        }
+        Ok(RealFiles {
+            system,
+            words: copies,
+            opened,
+            faults: 0,
+            blame: Blame::Nothing,
+        })
+    }
+
+    // Counts a fault, and says what it was of.
+    fn fail(&mut self, blame: Blame) -> Failed
+        ensures faults { self.new.faults ≡ one_more self.old.faults }
+        ensures no_fall { self.old.faults ≤ self.new.faults }
+        ensures blame { self.new.blame ≡ blame }
+        ensures words { self.new.words ≡ self.old.words }
+    {
+        self.faults = self.faults.saturating_add(1);
+        self.blame = blame;
+        Failed
+    }
+}
+
+// The index of the first word that is this name.
+fn place_of_word(words: &[String], name: &str) -> Option<usize>
+    ensures { MatchOption result (HasNoWord words.now name.now) (IsWordAt words.now name.now) }
+{
+    for (i, word) in words.iter().enumerate() {
+        if word.as_str() == name {
+            return Some(i);
+        }
+    }
+    None
+}
+
+impl<R: System + Drop> Files for RealFiles<R> {
+    ghost left = { λ _ _. None };
+
+    ghost faults = { λ f. f.faults };
+
+    ghost blamed = { λ f name. IsBlamedWord f.words.items f.blame name };
+
+    fn read(&mut self, name: &str, buf: &mut [u8]) -> Result<usize, Failed> {
+        let Some(i) = place_of_word(&self.words, name) else {
+            return Err(self.fail(Blame::Missing));
+        };
+        if self.opened[i].is_none() {
+            match fs::open(&self.system, name) {
+                Ok(file) => self.opened[i] = Some(file),
+                Err(_) => return Err(self.fail(Blame::Word(i))),
+            }
+        }
+        if let Some(file) = &mut self.opened[i] {
+            if let Ok(count) = file.read(buf) {
+                return Ok(count);
+            }
+        }
+        Err(self.fail(Blame::Word(i)))
+    }
+}

@@ -1,0 +1,8 @@
+/// The type of a number: `int`, `bool`, `std::size_t`, `std::ptrdiff_t`.
+#[derive(Clone, Copy, Debug, PartialEq, Eq)]
+pub enum Scalar {
+    Int,
+    Bool,
+    Size,
+    Diff,
+}
