@@ -1,3 +1,4 @@
 pub mod PlaceLaws
 pub mod Told
 pub mod Names
+pub mod WordLaws

@@ -1,8 +1,11 @@
 -- Which word of the command a read that failed was of.
-use Rattle.std.specs.Prelude.{◌≡◌, ◌<◌, ℕ, List, String, string_bytes, length, slice_index_or}
+use Rattle.std.specs.Prelude.{◌≡◌, ◌<◌, ℕ, List, String, string_bytes, length, map, slice_index_or}
 use Rattle.std.specs.declared.alloc.Global.{Global}
 use Rattle.sl_base.specs.declared.outside.real_files.Blame.{Blame}
 use Rattle.sl_base.specs.declared.outside.real_files.Blame.TheVariants.{Nothing, Word, Missing}
+
+abbrev pub names_of_words : List (String Global) → List (List ℕ)
+names_of_words words = map string_bytes words
 
 -- no word is this name
 abbrev pub HasNoWord : List (String Global) → List ℕ → Type 0

@@ -1,6 +1,7 @@
-ghost use Rattle.std.specs.Prelude.{◌≡◌, ◌<◌, ◌≤◌, ℕ, List, None, length, MatchOption, IfOk, string_bytes, vec_len};
-ghost use Rattle.sl_base.specs.RealWords.{HasNoWord, IsWordAt, IsBlamedWord};
-ghost use Rattle.sl_base.specs.Counts.{one_more};
+ghost use Rattle.std.specs.Prelude.{◌≡◌, ◌<◌, ◌≤◌, ℕ, List, None, length, MatchOption, IfOk, OnOk, OnErr, vec_len};
+ghost use Rattle.sl_base.specs.RealWords.{names_of_words, HasNoWord, IsWordAt, IsBlamedWord};
+ghost use Rattle.sl_base.specs.Counts.{one_more, faults_after};
+ghost use Rattle.sl_base.specs.Outside.{Rose};
 
 use crate::{Failed, Files};
 use std::alloc::{AllocError, Global};
@@ -31,7 +32,8 @@ pub struct RealFiles<R: System + Drop> {
 impl<R: System + Drop> RealFiles<R> {
     /// The files that these words name. Takes memory for a copy of the words and for one open file a word.
     pub fn new(system: R, alloc: Global, words: &[String]) -> Result<RealFiles<R>, AllocError>
-        ensures { IfOk result (λ f. f.faults ≡ 0) }
+        ensures faults { IfOk result (λ f. f.faults ≡ 0) }
+        ensures words { IfOk result (λ f. names_of_words f.words.items ≡ names_of_words words.now) }
     {
         let mut copies = Vec::new(alloc);
         let mut opened = Vec::new(alloc);
@@ -80,7 +82,19 @@ impl<R: System + Drop> Files for RealFiles<R> {
 
     ghost blamed = { λ f name. IsBlamedWord f.words.items f.blame name };
 
-    fn read(&mut self, name: &str, buf: &mut [u8]) -> Result<usize, Failed> {
+    // The clauses of the trait.
+    fn read(&mut self, name: &str, buf: &mut [u8]) -> Result<usize, Failed>
+        requires { 0 < length buf.old }
+        ensures bound { IfOk result (λ n. n ≤ length buf.new) }
+        ensures no_fall { self.old.faults ≤ self.new.faults }
+        ensures risen { OnErr result (Rose self.old.faults self.new.faults) }
+        ensures blame { OnErr result (IsBlamedWord self.new.words.items self.new.blame name.now) }
+
+        // A name that is none of the words fails; what fails is counted; the words stay.
+        ensures is_word { OnOk result (HasNoWord self.old.words.items name.now → ⊥) }
+        ensures counted { self.new.faults ≡ faults_after result self.old.faults }
+        ensures words { self.new.words.items ≡ self.old.words.items }
+    {
         let Some(i) = place_of_word(&self.words, name) else {
             return Err(self.fail(Blame::Missing));
         };
