@@ -1,0 +1,31 @@
+-- Answers to a text that was read are those to all that was left of the file, and no text has two tokenings.
+use Rattle.std.proofs.Common.{◌≡◌, ◌≤◌, ◌<◌, ◌+◌, ◌++◌, ℕ, List, [], length, Option, Some, None, sym, ap, ◌∙◌, arith, length-append, append-nil, subst}
+use Rattle.sl_base.specs.declared.limits.TheConstants.{TEXT_BYTES}
+use Rattle.sl_base.specs.Outside.{IsRead}
+use Rattle.sl_tool.specs.declared.status.Status.{Status}
+use Rattle.sl_tool.specs.Answers.{AnswerTo, too_long, not_built, passed}
+
+-- an answer with equal bytes
+pub AnswerTo-bytes : (file text : List ℕ) (status : Status) (b d : List ℕ) → b ≡ d → AnswerTo file text status d → AnswerTo file text status b
+AnswerTo-bytes file text status b d e h = rw e h
+
+-- a text that isn't too long was read whole
+read_whole : (text all rest : List ℕ) → IsRead TEXT_BYTES text (Some all) (Some rest) → length text ≤ TEXT_BYTES → text ≡ all
+read_whole text all rest read short = sym (read.consumed ∙ ap (λ l. text ++ l) (read.whole short) ∙ append-nil text)
+
+same_text : (file text all : List ℕ) (status : Status) (bytes : List ℕ) → text ≡ all → AnswerTo file text status bytes → AnswerTo file all status bytes
+same_text file text all status bytes e h = rw e at h
+
+-- the answer to what was read is the answer to all that was left
+told_at : (file text all rest : List ℕ) (status : Status) (bytes : List ℕ) → IsRead TEXT_BYTES text (Some all) (Some rest) → AnswerTo file text status bytes → AnswerTo file all status bytes
+told_at file text all rest _ _ read (too_long h) = too_long (omega (arith, length-append text rest, ap length read.consumed))
+told_at file text all rest _ _ read (not_built short h) = same_text file text all _ _ (read_whole text all rest read short) (not_built short h)
+told_at file text all rest _ _ read (passed short h) = same_text file text all _ _ (read_whole text all rest read short) (passed short h)
+
+same_all : (file x all : List ℕ) (status : Status) (bytes : List ℕ) → Some x ≡ Some all → AnswerTo file x status bytes → AnswerTo file all status bytes
+same_all file x all status bytes e h = let q : x ≡ all = cc in rw q at h
+
+pub told : (file text all : List ℕ) (left left' : Option (List ℕ)) (status : Status) (bytes : List ℕ) → IsRead TEXT_BYTES text left left' → AnswerTo file text status bytes → left ≡ Some all → AnswerTo file all status bytes
+told file text all (Some x) (Some rest) status bytes read h e = same_all file x all status bytes e (told_at file text x rest status bytes read h)
+told file text all (Some x) None status bytes read h e = absurd read.consumed
+told file text all None left' status bytes read h e = absurd cc

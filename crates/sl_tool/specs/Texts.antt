@@ -1,0 +1,21 @@
+-- The lines that the tool prints.
+use Rattle.std.specs.Prelude.{ℕ, List, [], ◌∷◌, ◌++◌, codes}
+
+-- a text, and then a line's rest and its end
+abbrev pub line : List ℕ → List ℕ → List ℕ
+line text rest = text ++ (rest ++ 10 ∷ [])
+
+abbrev pub usage_line : List ℕ
+usage_line = line [] (codes "usage: stllint check FILE | run FILE INPUT SCHEDULE STEPS | specs | self N")
+
+abbrev pub fault_line : List ℕ → List ℕ
+fault_line file = codes "read fault: " ++ line file []
+
+abbrev pub passed_line : List ℕ → List ℕ
+passed_line file = line file (codes ": passed")
+
+abbrev pub too_long_line : List ℕ → List ℕ
+too_long_line file = line file (codes ": refused: longer than 1048576 bytes")
+
+abbrev pub not_built_line : List ℕ → List ℕ
+not_built_line file = line file (codes ":1:1: refused: not built")
