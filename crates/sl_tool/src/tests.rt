@@ -43,7 +43,10 @@ fn words_of(alloc: Global, words: &[&str]) -> Result<Vec<String>, AllocError> {
 
 fn run(alloc: Global, words: &[&str], outside: &Outside) -> Result<Ran, AllocError> {
     let mut all = Vec::new(alloc);
-    all.push((String::from_str(alloc, "a.cpp")?, outside.text.to_vec(alloc)?))?;
+    all.push((
+        String::from_str(alloc, "a.cpp")?,
+        outside.text.to_vec(alloc)?,
+    ))?;
     let mut files = MemFiles::new(all, outside.chunk.max(1), outside.read_fails.to_vec(alloc)?);
     let mut out = MemSink::new(alloc, 10, outside.room, outside.write_fails.to_vec(alloc)?)?;
     let words = words_of(alloc, words)?;
@@ -56,6 +59,7 @@ fn check(alloc: Global, text: &[u8]) -> Result<Ran, AllocError> {
 }
 
 const PASSED: &str = "a.cpp: passed\n";
+
 const NOT_BUILT: &str = "a.cpp:1:1: refused: not built\n";
 
 #[test]
@@ -78,8 +82,14 @@ fn texts(rt: HostRuntime) -> Result<(), Fail> {
         ("int main() {} #", false),
         ("", false),
         (" ", false),
-        ("int x64_aaaaaaaaaaaaaaaaaaaaaaaaaaaaaaaaaaaaaaaaaaaaaaaaaaaaaaaaaaaa", false),
-        ("int x65_aaaaaaaaaaaaaaaaaaaaaaaaaaaaaaaaaaaaaaaaaaaaaaaaaaaaaaaaaaaaa", false),
+        (
+            "int x64_aaaaaaaaaaaaaaaaaaaaaaaaaaaaaaaaaaaaaaaaaaaaaaaaaaaaaaaaaaaa",
+            false,
+        ),
+        (
+            "int x65_aaaaaaaaaaaaaaaaaaaaaaaaaaaaaaaaaaaaaaaaaaaaaaaaaaaaaaaaaaaaa",
+            false,
+        ),
         ("int main() {} 2147483647", false),
         ("int main() {} 2147483648", false),
         ("0", false),
@@ -193,7 +203,11 @@ fn write_faults(rt: HostRuntime) -> Result<(), Fail> {
         };
         let ran = run(rt.alloc(), &["check", "a.cpp"], &outside)?;
         assert_eq!(rt; ran.status, status, "write {call}, room {room}");
-        assert_eq!(rt; ran.out.bytes(), line.as_bytes(), "write {call}, room {room}");
+        assert_eq!(rt;
+            ran.out.bytes(),
+            line.as_bytes(),
+            "write {call}, room {room}"
+        );
     }
     // The line of a fault may fail too.
     let outside = Outside {
@@ -218,6 +232,9 @@ fn real_ends(rt: HostRuntime) -> Result<(), Fail> {
     assert_eq!(rt; out.bytes(), b"read fault: a.cpp\n".as_slice());
     // The standard output takes a line.
     let mut out = StdSink::new(rt);
-    assert_eq!(rt; run_tool(rt.alloc(), &[], &mut files, &mut out), Status::Usage);
+    assert_eq!(rt;
+        run_tool(rt.alloc(), &[], &mut files, &mut out),
+        Status::Usage
+    );
     Ok(())
 }
