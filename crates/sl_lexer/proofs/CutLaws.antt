@@ -63,11 +63,11 @@ one_follow text from (p ∷ ps) (q ∷ qs) to h k =
     ap (λ r. r ∷ ps) same ∙ ap (λ rs. q ∷ rs) rest
 
 -- one goes on where the other ends
-abbrev GoesOn : List ℕ → ℕ → ℕ → Type 0
+abbrev pub GoesOn : List ℕ → ℕ → ℕ → Type 0
 GoesOn text from to = (rest : List Piece) × Follow text from rest to
 
 -- two cuts run along one another
-along : (text : List ℕ) (from : ℕ) (ps qs : List Piece) (to end : ℕ) → Follow text from ps to → Follow text from qs end → GoesOn text to end ⊎ GoesOn text end to
+pub along : (text : List ℕ) (from : ℕ) (ps qs : List Piece) (to end : ℕ) → Follow text from ps to → Follow text from qs end → GoesOn text to end ⊎ GoesOn text end to
 along text from [] qs to end h k = inl (qs, subst (λ n. Follow text n qs end) h k)
 along text from (p ∷ ps) [] to end h k = inr (p ∷ ps, subst (λ n. Follow text n (p ∷ ps) to) k h)
 along text from (p ∷ ps) (q ∷ qs) to end h k =

@@ -96,12 +96,7 @@ const KEYWORDS: [&str; 85] = [
 fn any_equal(words: &[&str], name: &[u8]) -> bool
     ensures { result ≡ list_any (λ word. bytes_eq word.now name.now) words.now }
 {
-    for word in words {
-        if word.as_bytes() == name {
-            return true;
-        }
-    }
-    false
+    words.iter().any(|word| word.as_bytes() == name)
 }
 
 /// Whether a name is no name of a program.

@@ -22,12 +22,7 @@ fn name_len(rest: &[u8]) -> usize
     ensures count { result ≡ prefix_len bytes.is_name_byte rest.now }
     ensures within { result ≤ length rest.now }
 {
-    for (i, byte) in rest.iter().enumerate() {
-        if !is_name_byte(*byte) {
-            return i;
-        }
-    }
-    rest.len()
+    rest.iter().take_while(|byte| is_name_byte(**byte)).count()
 }
 
 /// Whether `std::` and a name, with nothing between, stand at the front.

@@ -17,12 +17,7 @@ fn digits_len(rest: &[u8]) -> usize
     ensures count { result ≡ prefix_len bytes.is_digit rest.now }
     ensures within { result ≤ length rest.now }
 {
-    for (i, byte) in rest.iter().enumerate() {
-        if !is_digit(*byte) {
-            return i;
-        }
-    }
-    rest.len()
+    rest.iter().take_while(|byte| is_digit(**byte)).count()
 }
 
 /// How many bytes of a number stand at the front: after `0` no digit follows.
