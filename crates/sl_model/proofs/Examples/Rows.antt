@@ -1,0 +1,148 @@
+-- Closed calls of the library.
+use Rattle.std.specs.Prelude.{◌≡◌, ◌+◌, refl, ℕ, List, [], ◌∷◌, Option, Some, None, pos, codes}
+use Rattle.sl_base.specs.declared.form.Form.TheVariants as f
+use Rattle.sl_base.specs.declared.limits.TheConstants.{ELEMENTS}
+use Rattle.sl_syntax.specs.Typed.{row, operator, hidden, star, up}
+use Rattle.sl_model.specs.Containers.{Cell, Memory, empty_memory, end_from, locate, killer, key_part}
+use Rattle.sl_model.specs.Values.{Value, nothing, number, iterator, element_at, Args, trapped, thrown, gives, unbuilt}
+use Rattle.sl_model.specs.Edits.{AllAndEnd}
+use Rattle.sl_model.specs.Situation.{Situation}
+use Rattle.sl_model.specs.Needs.{Dereferenceable, first_failure}
+use Rattle.sl_model.specs.Rows.{an_iterator, Effect, throws, keeps, edits, Row, unless_too_many, call_name}
+use Rattle.sl_model.specs.Library.{row_out, lib}
+
+-- a call at site 9
+abbrev pub call : Option ℕ → List Value → Args
+call object values = record { site = 9; object = object; values = values }
+
+-- an element
+abbrev pub cell : ℕ → ℕ → Cell
+cell stamp key = record { stamp = stamp; key = pos key; value = pos 0 }
+
+-- a memory with one vector of 7 and 8, of a room; the stamps are 0, 1 and 2
+abbrev pub pair_with : ℕ → Memory
+pair_with room = record { conts = record { form = f.Vector; cells = cell 0 7 ∷ cell 1 8 ∷ []; end = 2; room = room } ∷ []; graves = []; fresh = 3 }
+
+-- a memory with an empty deque
+abbrev pub deque : Memory
+deque = record { conts = record { form = f.Deque; cells = []; end = 0; room = 0 } ∷ []; graves = []; fresh = 1 }
+
+made_with_room : lib (row 0) (call None []) empty_memory (5 ∷ 6 ∷ [])
+    ≡ gives nothing (record { conts = record { form = f.Vector; cells = []; end = 0; room = 5 } ∷ []; graves = []; fresh = 1 }) (6 ∷ [])
+made_with_room = refl
+
+begin_of_two : lib (row 7) (call (Some 0) []) (pair_with 2) (4 ∷ []) ≡ gives (iterator 0) (pair_with 2) (4 ∷ [])
+begin_of_two = refl
+
+-- there is room: the end alone is invalidated, and no pick is taken
+pushed_into_room : lib (row 15) (call (Some 0) (number (pos 9) ∷ [])) (pair_with 3) (4 ∷ []) ≡ gives nothing (record {
+  conts = record { form = f.Vector; cells = cell 0 7 ∷ cell 1 8 ∷ cell 8 9 ∷ []; end = 5; room = 3 } ∷ [];
+  graves = record { stamp = 2; site = 9 } ∷ [];
+  fresh = 9;
+}) (4 ∷ [])
+pushed_into_room = refl
+
+-- there is none: all is invalidated, and the new room is 3 and the pick
+pushed_and_grown : lib (row 15) (call (Some 0) (number (pos 9) ∷ [])) (pair_with 2) (4 ∷ []) ≡ gives nothing (record {
+  conts = record { form = f.Vector; cells = cell 3 7 ∷ cell 4 8 ∷ cell 8 9 ∷ []; end = 5; room = 7 } ∷ [];
+  graves = record { stamp = 0; site = 9 } ∷ record { stamp = 1; site = 9 } ∷ record { stamp = 2; site = 9 } ∷ [];
+  fresh = 9;
+}) []
+pushed_and_grown = refl
+
+too_many : unless_too_many (ELEMENTS + 1) keeps ≡ throws
+too_many = refl
+
+just_enough : unless_too_many ELEMENTS keeps ≡ keeps
+just_enough = refl
+
+element_behind_an_iterator : lib (operator star) (call None (iterator 1 ∷ [])) (pair_with 2) [] ≡ gives (element_at 0 1 key_part) (pair_with 2) []
+element_behind_an_iterator = refl
+
+end_iterator : lib (hidden star) (call None (iterator 2 ∷ [])) (pair_with 2) [] ≡ trapped 4 1
+end_iterator = refl
+
+invalid_iterator : lib (operator star) (call None (iterator 3 ∷ [])) (pair_with 2) [] ≡ trapped 1 1
+invalid_iterator = refl
+
+ended_container : killer (end_from 6 0 (pair_with 2)) 1 ≡ Some 6
+ended_container = refl
+
+stands_nowhere : locate (end_from 6 0 (pair_with 2)) 1 ≡ None
+stands_nowhere = refl
+
+-- what no row takes
+another_row : lib (row 9) (call (Some 0) []) (pair_with 2) [] ≡ unbuilt
+another_row = refl
+
+another_operator : lib (operator up) (call None (iterator 0 ∷ [])) (pair_with 2) [] ≡ unbuilt
+another_operator = refl
+
+another_form : lib (row 7) (call (Some 0) []) deque [] ≡ unbuilt
+another_form = refl
+
+no_object : lib (row 7) (call None []) (pair_with 2) [] ≡ unbuilt
+no_object = refl
+
+no_container : lib (row 7) (call (Some 1) []) (pair_with 2) [] ≡ unbuilt
+no_container = refl
+
+an_object_too_many : lib (row 0) (call (Some 0) []) (pair_with 2) [] ≡ unbuilt
+an_object_too_many = refl
+
+no_operand : lib (row 15) (call (Some 0) []) (pair_with 2) [] ≡ unbuilt
+no_operand = refl
+
+another_sort : lib (row 15) (call (Some 0) (iterator 0 ∷ [])) (pair_with 2) [] ≡ unbuilt
+another_sort = refl
+
+an_operand_too_many : lib (row 15) (call (Some 0) (number (pos 1) ∷ number (pos 2) ∷ [])) (pair_with 2) [] ≡ unbuilt
+an_operand_too_many = refl
+
+name_in_a_range_for : call_name (hidden star) ≡ codes "for"
+name_in_a_range_for = refl
+
+-- A row that the library doesn't have, with an iterator operand and this effect: what a need comes before.
+abbrev with_effect : Effect → Row
+with_effect effect = record {
+  name = codes "f";
+  object = None;
+  operands = an_iterator ∷ [];
+  needs = Dereferenceable ∷
+      [];
+  class = AllAndEnd;
+  effect = λ s. effect;
+  result = λ s m. nothing;
+}
+
+-- its call with an iterator, at site 9
+abbrev called_with : ℕ → Situation
+called_with stamp = record { memory = pair_with 2; object = 0; values = iterator stamp ∷ []; picks = []; site = 9 }
+
+-- each iterator is invalidated
+abbrev all_die : Effect
+all_die = edits 0 (record { from = 2; gone = 0; come = []; room = 2 })
+
+need_before_exception : row_out (with_effect throws) (called_with 2) ≡ trapped 4 1
+need_before_exception = refl
+
+exception_where_needs_hold : row_out (with_effect throws) (called_with 1) ≡ thrown
+exception_where_needs_hold = refl
+
+-- the need is tested in the memory before the effect: there the iterator is the end, and there the other one is valid
+need_before_effect : row_out (with_effect all_die) (called_with 2) ≡ trapped 4 1
+need_before_effect = refl
+
+need_of_before : row_out (with_effect all_die) (called_with 1) ≡ gives nothing (record {
+  conts = record { form = f.Vector; cells = cell 3 7 ∷ cell 4 8 ∷ []; end = 5; room = 2 } ∷ [];
+  graves = record { stamp = 0; site = 9 } ∷ record { stamp = 1; site = 9 } ∷ record { stamp = 2; site = 9 } ∷ [];
+  fresh = 8;
+}) []
+need_of_before = refl
+
+-- of several failures the least kind counts, and of one kind the least argument
+least_kind : first_failure ((4, 1) ∷ (2, 3) ∷ (2, 2) ∷ (5, 0) ∷ []) ≡ Some (2, 2)
+least_kind = refl
+
+no_failure : first_failure [] ≡ None
+no_failure = refl
