@@ -1,2 +1,14 @@
 pub mod AnswerLaws
 pub mod BuiltLaws
+pub mod Describes
+pub mod Lists
+pub mod Goes
+pub mod Calls
+pub mod Killers
+pub mod Kept
+pub mod Steps
+pub mod Soundness
+pub mod TextLaws
+pub mod ItemLaws
+pub mod NameLaws
+pub mod BodyLaws

@@ -1,6 +1,10 @@
 pub mod Numbers
 pub mod Command
 pub mod Texts
-pub mod Built
+pub mod Form
 pub mod Answers
 pub mod Outcome
+pub mod Analysis
+pub mod KnownView
+pub mod Told
+pub mod Reading

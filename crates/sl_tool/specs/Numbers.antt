@@ -1,10 +1,11 @@
 -- The exit status of each way in which the tool ends.
 use Rattle.std.specs.Prelude.{ℕ}
 use Rattle.sl_tool.specs.declared.status.Status.{Status}
-use Rattle.sl_tool.specs.declared.status.Status.TheVariants.{Passed, Refused, Usage, ReadFault, WriteFault, Memory}
+use Rattle.sl_tool.specs.declared.status.Status.TheVariants.{Passed, Warned, Refused, Usage, ReadFault, WriteFault, Memory}
 
 abbrev pub number_of : Status → ℕ
 number_of Passed = 0
+number_of Warned = 1
 number_of Refused = 2
 number_of Usage = 3
 number_of ReadFault = 4

@@ -1,4 +1,4 @@
--- The lines that the tool prints.
+-- The lines that the tool prints beside reports.
 use Rattle.std.specs.Prelude.{ℕ, List, [], ◌∷◌, ◌++◌, codes}
 
 -- a text, and then a line's rest and its end
@@ -10,9 +10,6 @@ usage_line = line [] (codes "usage: stllint check FILE | run FILE INPUT SCHEDULE
 
 abbrev pub fault_line : List ℕ → List ℕ
 fault_line file = codes "read fault: " ++ line file []
-
-abbrev pub passed_line : List ℕ → List ℕ
-passed_line file = line file (codes ": passed")
 
 abbrev pub too_long_line : List ℕ → List ℕ
 too_long_line file = line file (codes ": refused: longer than 1048576 bytes")

@@ -1,7 +1,10 @@
 // The program: `check FILE`, over the files of the system and the standard output.
 #![tactic(auto)]
 
-mod built;
+mod analysis;
+mod checking;
+mod reading;
+mod rendering;
 mod status;
 mod tool;
 

@@ -6,6 +6,8 @@ ghost use Rattle.sl_tool.specs.Numbers.{number_of};
 pub enum Status {
     /// The text was checked, and nothing is to be warned of.
     Passed,
+    /// The text was checked, and something is warned of.
+    Warned,
     /// The text is too long, or leaves the subset.
     Refused,
     /// The words are no command.
@@ -25,6 +27,7 @@ impl Status {
     {
         match self {
             Status::Passed => 0,
+            Status::Warned => 1,
             Status::Refused => 2,
             Status::Usage => 3,
             Status::ReadFault => 4,

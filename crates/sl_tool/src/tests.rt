@@ -108,6 +108,177 @@ fn texts(rt: HostRuntime) -> Result<(), Fail> {
     Ok(())
 }
 
+// `main` with these statements, one a line, each behind two blanks.
+fn main_of(alloc: Global, statements: &str) -> Result<String, AllocError> {
+    let mut text = String::from_str(alloc, "int main() {\n")?;
+    for statement in statements.split_inclusive(';') {
+        text.push_str("  ")?;
+        text.push_str(statement.trim())?;
+        text.push_str("\n")?;
+    }
+    text.push_str("}\n")?;
+    Ok(text)
+}
+
+#[test]
+fn reports(rt: HostRuntime) -> Result<(), Fail> {
+    let cases = [
+        (
+            "std::vector<int> v; v.push_back(1); auto it = v.begin(); int x = *it;",
+            PASSED,
+        ),
+        (
+            "std::vector<int> v; v.push_back(1); auto it = v.begin(); v.push_back(2); int x = *it;",
+            "a.cpp:6:11: invalid iterator in *: it, invalidated at 5:5\na.cpp: warnings: 1\n",
+        ),
+        // What was dereferenced is valid in each run that goes on.
+        (
+            "std::vector<int> v; v.push_back(1); auto it = v.begin(); v.push_back(2); int x = *it; int y = *it;",
+            "a.cpp:6:11: invalid iterator in *: it, invalidated at 5:5\na.cpp: warnings: 1\n",
+        ),
+        (
+            "std::vector<int> v; v.push_back(1); auto it = v.begin(); v.push_back(2); v.push_back(3); int x = *it;",
+            "a.cpp:7:11: invalid iterator in *: it, invalidated at 5:5, 6:5\na.cpp: warnings: 1\n",
+        ),
+        // An iterator from behind the growth is valid.
+        (
+            "std::vector<int> v; v.push_back(1); auto it = v.begin(); v.push_back(2); auto at = v.begin(); int x = *at; int y = *it;",
+            "a.cpp:8:11: invalid iterator in *: it, invalidated at 5:5\na.cpp: warnings: 1\n",
+        ),
+        (
+            "std::vector<int> v; auto it = v.begin(); int x = *it;",
+            "a.cpp:4:11: end iterator in *: it\na.cpp: warnings: 1\n",
+        ),
+        (
+            "std::vector<int> v; auto it = v.begin(); v.push_back(1); int x = *it;",
+            "a.cpp:5:11: invalid iterator in *: it, invalidated at 4:5\na.cpp: warnings: 1\n",
+        ),
+        (
+            "std::vector<int> v; std::vector<int> w; v.push_back(1); auto it = v.begin(); w.push_back(2); int x = *it;",
+            PASSED,
+        ),
+        (
+            "std::vector<int> v; std::vector<int> w; auto a = v.begin(); auto b = w.begin(); v.push_back(2147483647); int x = *a; int y = *b;",
+            "a.cpp:7:11: invalid iterator in *: a, invalidated at 6:5\na.cpp:8:11: end iterator in *: b\na.cpp: warnings: 2\n",
+        ),
+    ];
+    for (statements, answer) in cases {
+        let text = main_of(rt.alloc(), statements)?;
+        let ran = check(rt.alloc(), text.as_bytes())?;
+        let status = if answer == PASSED {
+            Status::Passed
+        } else {
+            Status::Warned
+        };
+        assert_eq!(rt; ran.status, status, "{statements}");
+        assert_eq!(rt; ran.out.bytes(), answer.as_bytes(), "{statements}");
+    }
+    Ok(())
+}
+
+#[test]
+fn other_statements(rt: HostRuntime) -> Result<(), Fail> {
+    let cases = [
+        "v.clear();",
+        "std::vector<int> v; v.push_back(1); auto it = v.begin(); v.clear(); int x = *it;",
+        // used before it is declared
+        "v.push_back(1); std::vector<int> v;",
+        "auto it = v.begin(); std::vector<int> v;",
+        "std::vector<int> v; int x = *it; auto it = v.begin();",
+        // declared twice
+        "std::vector<int> v; std::vector<int> v;",
+        "std::vector<int> v; auto v = v.begin();",
+        "std::vector<int> v; auto it = v.begin(); auto it = v.begin();",
+        "std::vector<int> v; auto it = v.begin(); int v = *it;",
+        "std::vector<int> v; auto it = v.begin(); int it = *it;",
+        // of the wrong kind
+        "std::vector<int> v; int x = *v;",
+        "std::vector<int> v; auto it = v.begin(); it.push_back(1);",
+        "std::vector<int> v; auto it = v.begin(); auto at = it.begin();",
+        "std::vector<int> v; v.push_back(1); auto it = v.begin(); int x = *it; int y = *x;",
+        // of another form
+        "std::list<int> v;",
+        "std::vector<bool> v;",
+        "std::vector<int> v",
+        "std::vector<int> v; v.push_back();",
+        "std::vector<int> v; v.push_back(v);",
+        "std::vector<int> v; v.push_back(1; );",
+        "std::vector<int> v; int it = v.begin();",
+        "std::vector<int> v; auto it = v.end();",
+        "std::vector<int> v; auto it = v.begin(); auto x = *it;",
+        "std::vector<int> v; auto it = v.begin(); *it;",
+        "double d;",
+        ";",
+    ];
+    for statements in cases {
+        let text = main_of(rt.alloc(), statements)?;
+        let ran = check(rt.alloc(), text.as_bytes())?;
+        assert_eq!(rt; ran.status, Status::Refused, "{statements}");
+        assert_eq!(rt; ran.out.bytes(), NOT_BUILT.as_bytes(), "{statements}");
+    }
+    Ok(())
+}
+
+/// Statements of each sort: vectors, calls of `push_back`, iterators, numbers.
+#[derive(Drop)]
+struct Counts {
+    vectors: usize,
+    pushes: usize,
+    iterators: usize,
+    numbers: usize,
+}
+
+fn counted(alloc: Global, counts: &Counts) -> Result<String, AllocError> {
+    let mut text = String::from_str(alloc, "int main() {\n")?;
+    for k in 1..=counts.vectors {
+        text.push_str(&format!(in alloc; "std::vector<int> v{k};\n")?)?;
+    }
+    for k in 0..counts.pushes {
+        text.push_str(&format!(in alloc; "v1.push_back({k});\n")?)?;
+    }
+    for k in 1..=counts.iterators {
+        text.push_str(&format!(in alloc; "auto i{k} = v1.begin();\n")?)?;
+    }
+    for k in 1..=counts.numbers {
+        text.push_str(&format!(in alloc; "int x{k} = *i1;\n")?)?;
+    }
+    text.push_str("}\n")?;
+    Ok(text)
+}
+
+#[test]
+fn limits(rt: HostRuntime) -> Result<(), Fail> {
+    let cases = [
+        (16, 4095, 32, 48, true),
+        (17, 4095, 32, 48, false),
+        (16, 4096, 32, 48, false),
+        (16, 4095, 33, 48, false),
+        (16, 4095, 32, 49, false),
+    ];
+    for (vectors, pushes, iterators, numbers, passes) in cases {
+        let counts = Counts {
+            vectors,
+            pushes,
+            iterators,
+            numbers,
+        };
+        let text = counted(rt.alloc(), &counts)?;
+        let outside = Outside {
+            text: text.as_bytes(),
+            chunk: 10_000,
+            ..HONEST
+        };
+        let ran = run(rt.alloc(), &["check", "a.cpp"], &outside)?;
+        let line = if passes { PASSED } else { NOT_BUILT };
+        assert_eq!(rt;
+            ran.out.bytes(),
+            line.as_bytes(),
+            "{vectors} {pushes} {iterators} {numbers}"
+        );
+    }
+    Ok(())
+}
+
 // The empty program behind blanks, `length` bytes in all.
 fn padded(alloc: Global, length: usize) -> Result<Vec<u8>, AllocError> {
     let program = b"int main() {}";

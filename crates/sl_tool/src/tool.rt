@@ -1,11 +1,11 @@
 //! The top call.
-ghost use Rattle.std.specs.Prelude.{◌≡◌, IfOk, string_bytes};
+ghost use Rattle.std.specs.Prelude.{◌≡◌, IfOk};
 ghost use Rattle.sl_base.specs.Outside.{Rose};
 ghost use Rattle.sl_tool.specs.Command.{file_of, words_of, text_in};
 ghost use Rattle.sl_tool.specs.Answers.{AnswerTo};
 ghost use Rattle.sl_tool.specs.Outcome.{Written, Outcome};
 
-use crate::built::is_built;
+use crate::checking::{check, typed_text};
 use crate::status::Status;
 use sl_base::limits::TEXT_BYTES;
 use sl_base::{Files, ReadErr, Sink, read_all, write_all};
@@ -15,8 +15,8 @@ const USAGE: &str = "usage: stllint check FILE | run FILE INPUT SCHEDULE STEPS |
 
 /// Runs the tool on the words behind the program's name.
 ///
-/// With `check FILE` it reads FILE, as far as 1,048,577 bytes, and writes the answer to its text: that it
-/// passes, or that it is refused. `ReadFault` comes only where a read of FILE failed in this call, which is
+/// With `check FILE` it reads FILE, as far as 1,048,577 bytes, and writes the answer to its text: a
+/// report on it, or that it is refused. `ReadFault` comes only where a read of FILE failed in this call, which is
 /// then written; `Usage` exactly where the words are anything else, and no memory is taken then. `WriteFault`
 /// comes in place of any of these, only where a write failed; then the bytes that the sink took are a first part of the
 /// answer. `Memory` comes where memory ran out, before the first write. The answer is written at once, and
@@ -32,7 +32,7 @@ pub fn run_tool<F: Files, K: Sink>(
         (K.taken out.old) (K.taken out.new) (Rose (K.faults out.old) (K.faults out.new)) }
 {
     let Some(file) = file_in(words) else {
-        return deliver(out, Status::Usage, USAGE);
+        return deliver(out, Status::Usage, USAGE.as_bytes());
     };
     let text = match read_all(alloc, files, file, TEXT_BYTES) {
         Ok(text) => text,
@@ -41,11 +41,11 @@ pub fn run_tool<F: Files, K: Sink>(
             let Ok(line) = format!(in alloc; "read fault: {file}\n") else {
                 return Status::Memory;
             };
-            return deliver(out, Status::ReadFault, line.as_str());
+            return deliver(out, Status::ReadFault, line.as_bytes());
         }
     };
     match answer(alloc, file, &text) {
-        Ok((status, line)) => deliver(out, status, line.as_str()),
+        Ok((status, text)) => deliver(out, status, &text),
         Err(AllocError) => Status::Memory,
     }
 }
@@ -61,26 +61,27 @@ fn file_in(words: &[String]) -> Option<&str>
 }
 
 // The answer to a text.
-fn answer(alloc: Global, file: &str, text: &[u8]) -> Result<(Status, String), AllocError>
-    ensures { IfOk result (λ a. AnswerTo file.now text.now a.0 (string_bytes a.1)) }
+fn answer(alloc: Global, file: &str, text: &[u8]) -> Result<(Status, Vec<u8>), AllocError>
+    ensures { IfOk result (λ a. AnswerTo file.now text.now a.0 a.1.items) }
 {
     if text.len() > TEXT_BYTES {
         let line = format!(in alloc; "{file}: refused: longer than 1048576 bytes\n")?;
-        return Ok((Status::Refused, line));
+        return Ok((Status::Refused, line.into_bytes()));
     }
-    if is_built(alloc, text)? {
-        let line = format!(in alloc; "{file}: passed\n")?;
-        return Ok((Status::Passed, line));
+    match typed_text(alloc, text)? {
+        Some(p) => check(alloc, file, &p),
+        None => {
+            let line = format!(in alloc; "{file}:1:1: refused: not built\n")?;
+            Ok((Status::Refused, line.into_bytes()))
+        }
     }
-    let line = format!(in alloc; "{file}:1:1: refused: not built\n")?;
-    Ok((Status::Refused, line))
 }
 
 // Writes an answer, and tells its status or that a write failed.
-fn deliver<K: Sink>(out: &mut K, status: Status, text: &str) -> Status
+fn deliver<K: Sink>(out: &mut K, status: Status, text: &[u8]) -> Status
     ensures { Written status text.now result (K.taken out.old) (K.taken out.new) (Rose (K.faults out.old) (K.faults out.new)) }
 {
-    match write_all(out, text.as_bytes()) {
+    match write_all(out, text) {
         Ok(()) => status,
         Err(_) => Status::WriteFault,
     }

@@ -5,13 +5,13 @@ use Rattle.sl_tool.proofs.AnswerLaws.{told}
 use Rattle.sl_tool.proofs.tool.run_tool.Goals as goal
 
 pub returns-in_default : goal.returns-in_default
-returns-in_default g c = rw (← c.in_default.ensures) (λ other. Keeps-refl _, c.deliver.ensures)
+returns-in_default g c = rw (← c.in_default.ensures) (λ other. Keeps-refl _, rw c.as_bytes.ensures.value at c.deliver.ensures)
 
 pub returns-in-Err-Failed : goal.returns-in-Err-Failed
 returns-in-Err-Failed g c = rw (← c.in-Some.ensures) (
   c.read_all.ensures.others,
   to_fault (c.in-Err-Failed.ensures.risen (search rules), c.in-Err-Failed.ensures.blame (search rules)) c.in-Err-Failed.ensures.part
-      (rw (c.as_str.ensures.value, c.in-Ok-format.ensures.ok) at c.deliver-in-Err-Failed.ensures),
+      (rw (c.as_bytes-in-Err-Failed.ensures.value, c.in-Ok-format.ensures.ok) at c.deliver-in-Err-Failed.ensures),
 )
 
 pub returns-in-Ok-answer : goal.returns-in-Ok-answer
@@ -22,5 +22,5 @@ returns-in-Ok-answer g c =
       c.read_all.ensures.others,
       to_text c.in-Ok.text.items _ _
           (record { read = read; answer = answer; told = λ all e. told _ _ all _ _ _ _ read answer e })
-          (rw c.as_str-in-Ok-answer.ensures.value at c.deliver-in-Ok-answer.ensures),
+          (rw c.deref-in-Ok-answer.ensures.value at c.deliver-in-Ok-answer.ensures),
     )

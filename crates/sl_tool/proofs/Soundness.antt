@@ -1,0 +1,115 @@
+-- Every failure of every run of a text of the form is told.
+use Rattle.std.proofs.Common.{◌≡◌, ℕ, true, false, List, [], ◌∷◌, length, refl, sym, length-append}
+use Rattle.std.specs.Prelude.{unwrap_or, ℤ}
+use Rattle.std.proofs.Math.ListN.{length-set}
+use Rattle.sl_syntax.specs.declared.typed.Stmt.{Stmt}
+use Rattle.sl_syntax.specs.declared.typed.Stmt.TheVariants.{Vector, PushBack, Begin, Dereference}
+use Rattle.sl_syntax.specs.declared.typed.Typed.{Typed}
+use Rattle.sl_syntax.specs.Typed.{Function}
+use Rattle.sl_syntax.specs.View.{stmt_of, stmts_of, typed_of, main_of, brace_site}
+use Rattle.sl_model.specs.Containers.{empty_memory}
+use Rattle.sl_model.specs.Good.{IsAt}
+use Rattle.sl_model.specs.Ends.{Trap}
+use Rattle.sl_model.specs.State.{State}
+use Rattle.sl_model.specs.Eval.{Oracle}
+use Rattle.sl_model.specs.Exec.{Flow, Next, Broke, Continued, Returned, Over, exec, exec_all, scoped}
+use Rattle.sl_model.specs.Calls.{called, call_of}
+use Rattle.sl_model.specs.Values.{Value, nothing, number, iterator, pair, scalar_at, container_at, element_at}
+use Rattle.sl_model.specs.Run.{done_with, empty_state, finished, run}
+use Rattle.sl_model.specs.Library.{lib}
+use Rattle.sl_model.specs.Covers.{Covers, Reports, HasMeaning, Warning as WarningValue}
+use Rattle.sl_tool.specs.Answers.{IsReport}
+use Rattle.sl_tool.specs.declared.analysis.Warning.{Warning}
+use Rattle.sl_tool.specs.Analysis.{Known, nothing_known, standing_at, warned, warnings_of, with_vector, with_push, with_iterator, found_valid}
+use Rattle.sl_tool.specs.Form.{UsesDeclared}
+use Rattle.sl_tool.specs.Told.{report_of}
+use Rattle.sl_tool.proofs.Describes.{Describes}
+use Rattle.sl_tool.proofs.Goes.{EndsTold, IsTold, goes-on}
+use Rattle.sl_tool.proofs.Steps.{world_of, goes-vector, goes-push_back, goes-begin, goes-star}
+
+same_uses : (a b c d : ℕ) (ss : List Stmt) → a ≡ c → b ≡ d → UsesDeclared a b ss → UsesDeclared c d ss
+same_uses a b c d ss e q h = rw (← e, ← q) h
+
+-- the statements from a state that is described
+pub walk : (names : List (List ℕ)) (own : Oracle) (ss : List Stmt) (k : Known) (s : State) → Describes k s.memory s.frame s.iters → UsesDeclared (length k.filled) (length k.iterators) ss
+    → EndsTold names (warnings_of k ss) (exec_all (world_of own) (stmts_of ss) s)
+walk names own [] k s d u = tt
+walk names own (Vector place ∷ ss) k s d u =
+    goes-on names (with_vector k) [] (warnings_of (with_vector k) ss) (exec (world_of own) (stmt_of (Vector place)) s) (exec_all (world_of own) (stmts_of ss)) (goes-vector names k own place s d)
+    (λ t e. walk names own ss (with_vector k) t e (same_uses _ _ _ _ ss (sym (length-append k.filled (false ∷ []))) refl u))
+walk names own (PushBack place v name site z ∷ ss) k s d u =
+    goes-on names (with_push k v site) [] (warnings_of (with_push k v site) ss) (exec (world_of own) (stmt_of (PushBack place v name site z)) s) (exec_all (world_of own) (stmts_of ss)) (goes-push_back names k own place v name site z s d u.0)
+    (λ t e. walk names own ss (with_push k v site) t e (same_uses _ _ _ _ ss (sym (length-set k.filled v true)) refl u.1))
+walk names own (Begin place v name ∷ ss) k s d u =
+    goes-on names (with_iterator k v) [] (warnings_of (with_iterator k v) ss) (exec (world_of own) (stmt_of (Begin place v name)) s) (exec_all (world_of own) (stmts_of ss)) (goes-begin names k own place v name s d u.0)
+    (λ t e. walk names own ss (with_iterator k v) t e (same_uses _ _ _ _ ss refl (sym (length-append k.iterators (record { vector = v; since = length k.pushes } ∷ []))) u.1))
+walk names own (Dereference place it name ∷ ss) k s d u =
+    goes-on names (found_valid k it (standing_at k it)) (warned k (Dereference place it name)) (warnings_of (found_valid k it (standing_at k it)) ss) (exec (world_of own) (stmt_of (Dereference place it name)) s) (exec_all (world_of own) (stmts_of ss)) (goes-star names k own place it name s d u.0)
+    (λ t e. walk names own ss (found_valid k it (standing_at k it)) t e (same_uses _ _ _ _ ss refl (sym (length-set k.iterators it (record { vector = (standing_at k it).vector; since = length k.pushes }))) u.1))
+
+none_at : (j k s : ℕ) → IsAt empty_memory j k s → ⊥
+none_at j k s h = let e = h.there in cc
+
+-- a run begins where nothing is known
+begins : (input : List ℤ) (picks : List ℕ) (steps : ℕ) → let s : State = empty_state input picks steps in Describes nothing_known s.memory s.frame s.iters
+begins input picks steps = record {
+  sound = record {
+    once = λ j k i h s a b. absurd (none_at j k s a);
+    used = λ j k s a. absurd (none_at j k s a);
+    dropped = λ s site d. absurd (let e = d.1 in cc);
+    dead = λ j k s site a d. none_at j k s a;
+    small = λ j c e. absurd cc;
+  };
+  vectors = refl;
+  iterators = refl;
+  conts_frame = refl;
+  iters_frame = refl;
+  forms = λ j c e. absurd cc;
+  filled = λ j c e. absurd cc;
+  stands = λ i stamp standing e q. absurd cc;
+  since = λ i standing e. absurd cc;
+}
+
+-- what `main` gave is no failure
+done_told : (names : List (List ℕ)) (ws : List Warning) (v : Value) → IsTold names ws (done_with v)
+done_told names ws nothing = tt
+done_told names ws (number z) = tt
+done_told names ws (iterator x) = tt
+done_told names ws (pair x b) = tt
+done_told names ws (scalar_at l) = tt
+done_told names ws (container_at l) = tt
+done_told names ws (element_at i k p) = tt
+
+-- the end of `main` is that of its body
+finished_told : (names : List (List ℕ)) (ws : List Warning) (f : Function) (before start : State) (site : ℕ) (flow : Flow) → EndsTold names ws flow → IsTold names ws (finished (called true f before (scoped site start flow))).end
+finished_told names ws f before start site (Next s) h = tt
+finished_told names ws f before start site (Broke s) h = tt
+finished_told names ws f before start site (Continued s) h = tt
+finished_told names ws f before start site (Returned v s) h = done_told names ws v
+finished_told names ws f before start site (Over e s) h = h
+
+-- each end of a run is told
+pub run_told : (p : Typed) (input : List ℤ) (picks : List ℕ) (steps : ℕ) → UsesDeclared 0 0 p.stmts → IsTold p.names (warnings_of nothing_known p.stmts) (run (typed_of p) input picks steps).end
+run_told p input picks steps u =
+    let s : State = empty_state input picks steps in
+    finished_told p.names (warnings_of nothing_known p.stmts) (main_of p.stmts p.close) s s (unwrap_or (brace_site p.stmts) 0) (exec_all (world_of (call_of lib 255 (typed_of p))) (stmts_of p.stmts) s)
+    (walk p.names (call_of lib 255 (typed_of p)) p.stmts nothing_known s (begins input picks steps) u)
+
+-- the report covers the trap of every run
+pub reports : (p : Typed) → UsesDeclared 0 0 p.stmts → Reports (typed_of p) (report_of p.names (warnings_of nothing_known p.stmts))
+reports p u t h = let told = run_told p h.input h.picks h.steps u in rw h.traps at told
+
+-- no run meets a call without a meaning
+pub meaning : (p : Typed) → UsesDeclared 0 0 p.stmts → HasMeaning (typed_of p)
+meaning p u input picks steps place e = let told = run_told p input picks steps u in rw e at told
+
+covers_none : (names : List (List ℕ)) (r : List WarningValue) (t : Trap) → r ≡ [] → Covers names r t → ⊥
+covers_none names r t e c = let there = rw e at c.there in cc
+
+-- what the analysis warns of is a report on the text
+pub is_report : (p : Typed) → UsesDeclared 0 0 p.stmts → IsReport (typed_of p) (report_of p.names (warnings_of nothing_known p.stmts))
+is_report p u = record {
+  reports = reports p u;
+  meaning = meaning p u;
+  safe = λ e t can. covers_none p.names (report_of p.names (warnings_of nothing_known p.stmts)) t e (reports p u t can);
+}
