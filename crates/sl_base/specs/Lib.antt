@@ -1,6 +1,10 @@
 pub mod Places
 pub mod Bytes
 pub mod Marks
+pub mod Headers
+pub mod Comments
+pub mod Directives
+pub mod Quoted
 pub mod Keywords
 pub mod Pieces
 pub mod Tokens

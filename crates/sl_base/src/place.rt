@@ -34,11 +34,10 @@ impl Place {
     }
 }
 
-/// The place of an offset, in bytes from 0, that lies in the text or directly behind it. It takes no memory.
+/// The place of an offset, in bytes from 0. One past the text has the place directly behind the text. It takes no memory.
 pub fn place_of(text: &[u8], offset: usize) -> Place
-    requires within { offset ≤ length text.now }
     requires short { length text.now < 2 ^ 32 - 1 }
     ensures { result ≡ place_at text.now offset }
 {
-    Place::FIRST.after(&text[..offset])
+    Place::FIRST.after(&text[..offset.min(text.len())])
 }

@@ -1,204 +1,270 @@
--- What begins a rest of the text: `front_of` gives the longest piece there, or the one rule that is broken.
-use Rattle.std.proofs.Common.{◌≡◌, ℕ, ◌+◌, ◌<◌, ◌≤◌, inl, inr, Bool, true, false, ◌||◌, ltb, List, [], ◌∷◌, length, take, drop, Result, Ok, Err, is_some, refl, sym, ◌∙◌, subst, arith, add-zero, zero-add}
-use Rattle.std.specs.List.{prefix_len}
-use Rattle.std.proofs.lemmas.Bool.{or_cases, cond_both, both_ways, ltb-true, ltb-false, or_parts}
+-- What begins a rest of the text: `front_of` gives the piece that stands there, or the first rule that is broken.
+use Rattle.std.proofs.Common.{◌≡◌, ℕ, zero, suc, ◌+◌, ◌<◌, ◌≤◌, ◌||◌, inl, inr, Bool, true, false, cond, ltb, List, [], ◌∷◌, length, take, drop, codes, Option, Some, None, option_map, Result, Ok, Err, refl, sym, ap, ◌∙◌, subst, arith, add-zero}
+use Rattle.std.proofs.lemmas.Bool.{cond_both, both_ways, ltb-true, ltb-false, or_cases, or_parts}
 use Rattle.std.proofs.lemmas.List.{drop-drop, length-drop}
-use Rattle.std.proofs.lemmas.List.Sums.{prefix_len-le-length}
-use Rattle.sl_base.specs.Bytes.{is_blank, is_letter, is_digit, is_name_byte, spoils_number, begins}
-use Rattle.sl_base.specs.Marks.{mark_of}
+use Rattle.std.proofs.lemmas.Option.{some_pair_parts}
+use Rattle.sl_base.specs.Bytes.{spoils_number, begins, begins_with, begins_joint}
+use Rattle.sl_base.specs.Directives.{opens_directive}
 use Rattle.sl_base.specs.declared.limits.TheConstants.{NAME_BYTES, LARGEST_NUMBER}
-use Rattle.sl_base.specs.Pieces.{PieceKind, blank_piece, name_piece, lib_piece, number_piece, mark_piece, has_form, decimal, IsPiece, IsLongest, TokenRule, bad_byte, bad_number, IsBadNumber, Breaks, begins_nothing, long_name, long_lib, no_number}
+use Rattle.sl_base.specs.Pieces.{PieceKind, blank_piece, comment_piece, directive_piece, name_piece, lib_piece, number_piece, text_piece, mark_piece, decimal, IsPiece, IsLongest, TokenRule, bad_byte, bad_number, open_comment, rule_of, IsBadNumber, Breaks, begins_nothing, long_name, long_lib, wrong_escape, joint, no_number, no_comment}
+use Rattle.sl_base.specs.Quoted.{unescaped, between}
 use Rattle.sl_base.specs.Tokens.{Stands}
-use Rattle.sl_lexer.specs.Front.{name_front, begins_lib, number_len, number_front, mark_front, front_of}
-use Rattle.sl_lexer.proofs.ShapeLaws.{letter-blank, letter-digit, digit-blank, name-form, name-run, lib-letter, lib-std, lib-long, lib-form, number-form, number-within, Shape, shape, one_kind}
+use Rattle.sl_lexer.specs.Front.{first_at, comment_len, mark_len, as_piece, comment_or_mark, piece_in, joint_in, judged_comment, judged_text, judged, rule_for, front_from, front_of}
+use Rattle.sl_lexer.specs.declared.byte.First.TheVariants.{Other}
+use Rattle.sl_lexer.proofs.CommentLaws.{block-first, comment-shape, comment-form}
+use Rattle.sl_lexer.proofs.FirstLaws.{begins-is, rule-for}
+use Rattle.sl_lexer.proofs.PieceLaws.{Found, piece_at, found-longest, found-none, longest-found, one_longest}
 
--- ## The longest piece
+-- ## A backslash directly before a line's end
 
-pub one_longest : (text : List ℕ) (from : ℕ) (kind other : PieceKind) (len more : ℕ) → IsLongest text from kind len → IsLongest text from other more → (kind ≡ other) × (len ≡ more)
-one_longest text from kind other len more l m =
-    let same : len ≡ more = omega (arith, l.longest other more m.piece, m.longest kind len l.piece) in (
-      one_kind kind other (take len (drop from text)) l.piece.form (subst (λ n. has_form other (take n (drop from text)) ≡ true) (sym same) m.piece.form),
-      same,
+-- what `joint_in` answers
+abbrev IsFirstJoint : ℕ → List ℕ → Option ℕ → Type 0
+IsFirstJoint len rest None = (m : ℕ) → m < len → begins_joint (drop m rest) ≡ true → ⊥
+IsFirstJoint len rest (Some n) = (n < len) × (begins_joint (drop n rest) ≡ true) × ((m : ℕ) → m < len → begins_joint (drop m rest) ≡ true → n ≤ m)
+
+first-joint : (len : ℕ) (rest : List ℕ) → IsFirstJoint len rest (joint_in len rest)
+first-joint len [] = none len
+  where
+    none : (len : ℕ) (m : ℕ) → m < len → begins_joint (drop m []) ≡ true → ⊥
+    none len zero h e = both_ways _ refl e
+    none len (suc m) h e = both_ways _ refl e
+first-joint zero (b ∷ bs) = λ m h e. absurd (omega arith)
+first-joint (suc len) (b ∷ bs) =
+    elim (begins_joint (b ∷ bs)) as (λ t. begins_joint (b ∷ bs) ≡ t → IsFirstJoint (suc len) (b ∷ bs) (cond t (Some 0) (option_map (λ k. k + 1) (joint_in len bs)))) [
+      | true ↦ λ here. (omega arith, here, λ m h e. omega arith)
+      | false ↦ λ not_here. behind len b bs (joint_in len bs) not_here (first-joint len bs)
+    ] refl
+  where
+    behind : (len b : ℕ) (bs : List ℕ) (o : Option ℕ) → begins_joint (b ∷ bs) ≡ false → IsFirstJoint len bs o → IsFirstJoint (suc len) (b ∷ bs) (option_map (λ k. k + 1) o)
+    behind len b bs None not_here f = later
+      where
+        later : (m : ℕ) → m < suc len → begins_joint (drop m (b ∷ bs)) ≡ true → ⊥
+        later zero h e = both_ways _ not_here e
+        later (suc m) h e = f m (omega arith) e
+    behind len b bs (Some n) not_here f = (
+      omega (arith, f.0),
+      subst (λ k. begins_joint (drop k (b ∷ bs)) ≡ true) (one-more n) f.1,
+      later,
     )
+      where
+        one-more : (n : ℕ) → suc n ≡ n + 1
+        one-more n = omega arith
 
-longest_by : (text : List ℕ) (from : ℕ) (kind : PieceKind) (len : ℕ) → len ≤ length (drop from text) → has_form kind (take len (drop from text)) ≡ true
-    → ((other : PieceKind) (m : ℕ) → Shape other (drop from text) m → m ≤ len) → IsLongest text from kind len
-longest_by text from kind len within form most = record {
-  piece = record { within = within; form = form };
-  longest = λ other more p. most other more (shape other (drop from text) more p.within p.form);
-}
+        later : (m : ℕ) → m < suc len → begins_joint (drop m (b ∷ bs)) ≡ true → n + 1 ≤ m
+        later zero h e = absurd (both_ways _ not_here e)
+        later (suc m) h e = omega (arith, f.2 m (omega arith) e)
 
-blank-most : (rest : List ℕ) → begins is_blank rest ≡ true → (other : PieceKind) (m : ℕ) → Shape other rest m → m ≤ 1
-blank-most rest b blank_piece m s = omega (arith, s.1)
-blank-most rest b name_piece m s = absurd (both_ways _ (letter-blank rest s.0) b)
-blank-most rest b lib_piece m s = absurd (both_ways _ (letter-blank rest (lib-letter rest s.0)) b)
-blank-most rest b number_piece m s = absurd (both_ways _ (digit-blank rest s.0) b)
-blank-most rest b mark_piece m s = omega (arith, s.1)
-
-lib-most : (rest : List ℕ) → begins_lib rest ≡ true → (other : PieceKind) (m : ℕ) → Shape other rest m → m ≤ 5 + prefix_len is_name_byte (drop 5 rest)
-lib-most rest l blank_piece m s = omega (arith, s.1)
-lib-most rest l name_piece m s = omega (arith, s.1, lib-std rest l)
-lib-most rest l lib_piece m s = s.1
-lib-most rest l number_piece m s = absurd (both_ways _ (letter-digit rest (lib-letter rest l)) s.0)
-lib-most rest l mark_piece m s = omega (arith, s.1)
-
-name-most : (rest : List ℕ) → begins is_letter rest ≡ true → begins_lib rest ≡ false → (other : PieceKind) (m : ℕ) → Shape other rest m → m ≤ prefix_len is_name_byte rest
-name-most rest l n blank_piece m s = omega (arith, s.1, name-run rest l)
-name-most rest l n name_piece m s = s.1
-name-most rest l n lib_piece m s = absurd (both_ways _ n s.0)
-name-most rest l n number_piece m s = absurd (both_ways _ (letter-digit rest l) s.0)
-name-most rest l n mark_piece m s = omega (arith, s.1, name-run rest l)
-
-number-most : (rest : List ℕ) → begins is_digit rest ≡ true → begins is_letter rest ≡ false → (other : PieceKind) (m : ℕ) → Shape other rest m → m ≤ number_len rest
-number-most rest d n blank_piece m s = absurd (both_ways _ (digit-blank rest d) s.0)
-number-most rest d n name_piece m s = absurd (both_ways _ n s.0)
-number-most rest d n lib_piece m s = absurd (both_ways _ n (lib-letter rest s.0))
-number-most rest d n number_piece m s = s.1
-number-most rest d n mark_piece m s = absurd (both_ways _ s.4 d)
-
--- none of the classes of a first byte
-record BeginsNone (rest : List ℕ) : Type 0 where
-  no_blank : begins is_blank rest ≡ false
-  no_letter : begins is_letter rest ≡ false
-  no_digit : begins is_digit rest ≡ false
-
-mark-most : (rest : List ℕ) → BeginsNone rest → (other : PieceKind) (m : ℕ) → Shape other rest m → (is_some (mark_of (take 1 rest)) ≡ true) × (m ≡ 1)
-mark-most rest n blank_piece m s = absurd (both_ways _ n.no_blank s.0)
-mark-most rest n name_piece m s = absurd (both_ways _ n.no_letter s.0)
-mark-most rest n lib_piece m s = absurd (both_ways _ n.no_letter (lib-letter rest s.0))
-mark-most rest n number_piece m s = absurd (both_ways _ n.no_digit s.0)
-mark-most rest n mark_piece m s = (s.0, s.1)
-
--- ## The rules
+-- ## The rules at a piece
 
 -- what a rule that is broken says of the longest piece
 abbrev Faulty : List ℕ → ℕ → PieceKind → ℕ → TokenRule → ℕ → Type 0
 Faulty text from blank_piece len rule at = ⊥
+Faulty text from comment_piece len rule at = (n : ℕ) × (n < len) × (begins_joint (drop n (drop from text)) ≡ true) × (rule ≡ bad_byte) × (at ≡ from + n)
+Faulty text from directive_piece len rule at = ⊥
 Faulty text from name_piece len rule at = (NAME_BYTES < len) × (rule ≡ bad_byte) × (at ≡ from + NAME_BYTES)
 Faulty text from lib_piece len rule at = (5 + NAME_BYTES < len) × (rule ≡ bad_byte) × (at ≡ from + (5 + NAME_BYTES))
 Faulty text from number_piece len rule at = IsBadNumber (take len (drop from text)) (drop (from + len) text) × (rule ≡ bad_number) × (at ≡ from)
-Faulty text from mark_piece len rule at = ⊥
+Faulty text from text_piece len rule at = (n : ℕ) × (unescaped false (between (take len (drop from text))) ≡ Err n) × (rule ≡ bad_byte) × (at ≡ from + n)
+Faulty text from mark_piece len rule at = (begins_with (codes "/*") (drop from text) ≡ true) × (rule ≡ open_comment) × (at ≡ from)
 
-faulty : (text : List ℕ) (from : ℕ) (kind : PieceKind) (len : ℕ) (rule : TokenRule) (at : ℕ) → IsLongest text from kind len → Breaks text from rule at → Faulty text from kind len rule at
-faulty text from kind len _ _ l (begins_nothing within none) = absurd (none kind len l.piece)
-faulty text from kind len _ _ l (long_name n m past) =
-    let same = one_longest text from name_piece kind n len m l in
-    subst (λ k. Faulty text from k len bad_byte (from + NAME_BYTES)) same.0 (subst (λ n. NAME_BYTES < n) same.1 past, refl, refl)
-faulty text from kind len _ _ l (long_lib n m past) =
-    let same = one_longest text from lib_piece kind n len m l in
-    subst (λ k. Faulty text from k len bad_byte (from + (5 + NAME_BYTES))) same.0 (subst (λ n. 5 + NAME_BYTES < n) same.1 past, refl, refl)
-faulty text from kind len _ _ l (no_number n m bad) =
-    let same = one_longest text from number_piece kind n len m l in
-    subst (λ k. Faulty text from k len bad_number from) same.0 (subst (λ n. IsBadNumber (take n (drop from text)) (drop (from + n) text)) same.1 bad, refl, refl)
+as-kind : (given kind : PieceKind) (o : Option ℕ) (len : ℕ) → as_piece given o ≡ Some (kind, len) → given ≡ kind
+as-kind given kind None len e = absurd cc
+as-kind given kind (Some n) len e = (some_pair_parts given kind n len e).0
+
+module _ (text : List ℕ) (seen : Bool) (from : ℕ) where
+  -- where `/*` begins no comment it begins a mark
+  mark-opens : (kind : PieceKind) (len : ℕ) → piece_at text seen from ≡ Some (kind, len) → begins_with (codes "/*") (drop from text) ≡ true
+      → ((n : ℕ) → IsPiece text seen from comment_piece n → ⊥) → kind ≡ mark_piece
+  mark-opens kind len e opens none =
+      let rest = drop from text in
+      let other : piece_in Other (opens_directive seen (take from text)) rest ≡ Some (kind, len) =
+      ap (λ f. piece_in f (opens_directive seen (take from text)) rest) (sym (block-first rest opens)) ∙ e in
+      elim (comment_len rest) as (λ o. comment_len rest ≡ o → comment_or_mark o rest ≡ Some (kind, len) → kind ≡ mark_piece) [
+        | None ↦ λ _ mark. sym (as-kind mark_piece kind (mark_len rest) len mark)
+        | Some n ↦ λ is comment.
+            let c = comment-form rest n is in
+            absurd (none n (record { within = c.within; form = c.form; fit = refl }))
+      ] refl other
+
+  faulty : (kind : PieceKind) (len : ℕ) (rule : TokenRule) (at : ℕ) → IsLongest text seen from kind len → Breaks text seen from rule at → Faulty text from kind len rule at
+  faulty kind len _ _ l (begins_nothing b bs is none) = absurd (none kind len l.piece)
+  faulty kind len _ _ l (long_name n m past) =
+      let same = one_longest text seen from name_piece kind n len m l in
+      subst (λ k. Faulty text from k len bad_byte (from + NAME_BYTES)) same.0 (subst (λ n. NAME_BYTES < n) same.1 past, refl, refl)
+  faulty kind len _ _ l (long_lib n m past) =
+      let same = one_longest text seen from lib_piece kind n len m l in
+      subst (λ k. Faulty text from k len bad_byte (from + (5 + NAME_BYTES))) same.0 (subst (λ n. 5 + NAME_BYTES < n) same.1 past, refl, refl)
+  faulty kind len _ _ l (wrong_escape n k m wrong) =
+      let same = one_longest text seen from text_piece kind n len m l in
+      subst (λ kind. Faulty text from kind len bad_byte (from + k)) same.0
+      (k, subst (λ n. unescaped false (between (take n (drop from text))) ≡ Err k) same.1 wrong, refl, refl)
+  faulty kind len _ _ l (joint n k m within here) =
+      let same = one_longest text seen from comment_piece kind n len m l in
+      subst (λ kind. Faulty text from kind len bad_byte (from + k)) same.0
+      (k, subst (λ n. k < n) same.1 within, subst (λ r. begins_joint r ≡ true) (sym (drop-drop k from text)) here, refl, refl)
+  faulty kind len _ _ l (no_number n m bad) =
+      let same = one_longest text seen from number_piece kind n len m l in
+      subst (λ k. Faulty text from k len bad_number from) same.0 (subst (λ n. IsBadNumber (take n (drop from text)) (drop (from + n) text)) same.1 bad, refl, refl)
+  faulty kind len _ _ l (no_comment opens none) =
+      subst (λ k. Faulty text from k len open_comment from) (sym (mark-opens kind len (longest-found text seen from kind len l) opens none)) (opens, refl, refl)
 
 -- ## What `front_of` gives
 
-abbrev Claim : List ℕ → ℕ → Result (PieceKind × ℕ) (TokenRule × ℕ) → Type 0
-Claim text from (Ok p) = Stands text (record { kind = p.0; from = from; len = p.1 })
-Claim text from (Err b) = Breaks text from b.0 (from + b.1) × ((other : TokenRule) (there : ℕ) → Breaks text from other there → (other ≡ b.0) × (there ≡ from + b.1))
+abbrev Claim : List ℕ → Bool → ℕ → Result (PieceKind × ℕ) (TokenRule × ℕ) → Type 0
+Claim text seen from (Ok p) = Stands text seen (record { kind = p.0; from = from; len = p.1 })
+Claim text seen from (Err b) = Breaks text seen from b.0 (from + b.1) × ((other : TokenRule) (there : ℕ) → Breaks text seen from other there → (other ≡ b.0) × (from + b.1 ≤ there))
 
-claim_ok : (text : List ℕ) (from : ℕ) (kind : PieceKind) (len : ℕ) → IsLongest text from kind len → ((rule : TokenRule) (at : ℕ) → Faulty text from kind len rule at → ⊥)
-    → Claim text from (Ok (kind, len))
-claim_ok text from kind len l none = record { longest = l; unbroken = λ rule at b. none rule at (faulty text from kind len rule at l b) }
+module _ (text : List ℕ) (seen : Bool) (from : ℕ) where
+  claim_ok : (kind : PieceKind) (len : ℕ) → IsLongest text seen from kind len → ((rule : TokenRule) (at : ℕ) → Faulty text from kind len rule at → ⊥) → Claim text seen from (Ok (kind, len))
+  claim_ok kind len l none = record { longest = l; unbroken = λ rule at b. none rule at (faulty text seen from kind len rule at l b) }
 
-some-begins : (p : ℕ → Bool) (rest : List ℕ) → begins p rest ≡ true → 1 ≤ length rest
-some-begins p [] e = absurd cc
-some-begins p (b ∷ bs) e = omega arith
+  claim_name : (len : ℕ) → IsLongest text seen from name_piece len → Claim text seen from (judged name_piece len (drop from text))
+  claim_name n l =
+      cond_both (ltb NAME_BYTES n) (Err (bad_byte, NAME_BYTES)) (Ok (name_piece, n)) (Claim text seen from)
+      (λ past. (long_name n l (ltb-true NAME_BYTES n past), λ other there b. let f = faulty text seen from name_piece n other there l b in (f.1, omega (arith, f.2))))
+      (λ short. claim_ok name_piece n l (λ rule at f. omega (arith, f.0, ltb-false NAME_BYTES n short)))
 
-blank-form : (rest : List ℕ) → begins is_blank rest ≡ true → has_form blank_piece (take 1 rest) ≡ true
-blank-form [] e = absurd cc
-blank-form (b ∷ bs) e = e
+  claim_lib : (len : ℕ) → IsLongest text seen from lib_piece len → Claim text seen from (judged lib_piece len (drop from text))
+  claim_lib n l =
+      cond_both (ltb (5 + NAME_BYTES) n) (Err (bad_byte, 5 + NAME_BYTES)) (Ok (lib_piece, n)) (Claim text seen from)
+      (λ past. (long_lib n l (ltb-true (5 + NAME_BYTES) n past), λ other there b. let f = faulty text seen from lib_piece n other there l b in (f.1, omega (arith, f.2))))
+      (λ short. claim_ok lib_piece n l (λ rule at f. omega (arith, f.0, ltb-false (5 + NAME_BYTES) n short)))
 
-claim_blank : (text : List ℕ) (from : ℕ) → begins is_blank (drop from text) ≡ true → Claim text from (Ok (blank_piece, 1))
-claim_blank text from b =
-    claim_ok text from blank_piece 1
-    (longest_by text from blank_piece 1 (some-begins is_blank (drop from text) b) (blank-form (drop from text) b) (blank-most (drop from text) b))
-    (λ rule at f. f)
+  claim_number : (len : ℕ) → IsLongest text seen from number_piece len → Claim text seen from (judged number_piece len (drop from text))
+  claim_number n l =
+      let rest = drop from text in
+      let behind : drop n rest ≡ drop (from + n) text = drop-drop n from text in
+      cond_both (ltb LARGEST_NUMBER (decimal (take n rest)) || begins spoils_number (drop n rest)) (Err (bad_number, 0)) (Ok (number_piece, n)) (Claim text seen from)
+      (λ e.
+      let bad : IsBadNumber (take n rest) (drop (from + n) text) =
+      elim (or_cases _ _ e) [
+        | inl past ↦ inl (ltb-true LARGEST_NUMBER (decimal (take n rest)) past)
+        | inr spoilt ↦ inr (subst (λ r. begins spoils_number r ≡ true) behind spoilt)
+      ] in (
+        subst (Breaks text seen from bad_number) (sym (add-zero from)) (no_number n l bad),
+        λ other there b. let f = faulty text seen from number_piece n other there l b in (f.1, omega (arith, f.2)),
+      ))
+      (λ e.
+      let good = or_parts (ltb LARGEST_NUMBER (decimal (take n rest))) (begins spoils_number (drop n rest)) e in
+      claim_ok number_piece n l
+      (λ rule at f.
+      elim f.0 [
+        | inl past ↦ omega (arith, past, ltb-false LARGEST_NUMBER (decimal (take n rest)) good.0)
+        | inr spoilt ↦ both_ways _ (subst (λ r. begins spoils_number r ≡ false) behind good.1) spoilt
+      ]))
 
-claim_lib : (text : List ℕ) (from : ℕ) → begins_lib (drop from text) ≡ true → Claim text from (name_front lib_piece 5 (drop 5 (drop from text)))
-claim_lib text from h =
-    let rest = drop from text in
-    let n = prefix_len is_name_byte (drop 5 rest) in
-    let l : IsLongest text from lib_piece (5 + n) =
-    longest_by text from lib_piece (5 + n) (lib-long rest n h (prefix_len-le-length is_name_byte (drop 5 rest))) (lib-form rest h) (lib-most rest h) in
-    cond_both (ltb NAME_BYTES n) (Err (bad_byte, 5 + NAME_BYTES)) (Ok (lib_piece, 5 + n)) (Claim text from)
-    (λ past. (long_lib (5 + n) l (omega (arith, ltb-true NAME_BYTES n past)), λ other there b. let f = faulty text from lib_piece (5 + n) other there l b in (f.1, f.2)))
-    (λ short. claim_ok text from lib_piece (5 + n) l (λ rule at f. omega (arith, f.0, ltb-false NAME_BYTES n short)))
+  claim_comment : (len : ℕ) → IsLongest text seen from comment_piece len → Claim text seen from (judged comment_piece len (drop from text))
+  claim_comment len l =
+      let rest = drop from text in
+      elim (joint_in len rest) as (λ o. IsFirstJoint len rest o → Claim text seen from (judged_comment len o)) [
+        | None ↦ λ none. claim_ok comment_piece len l (λ rule at f. none f.0 f.1 f.2)
+        | Some n ↦ λ first. (
+          joint len n l first.0 (subst (λ r. begins_joint r ≡ true) (drop-drop n from text) first.1),
+          λ other there b.
+              let f = faulty text seen from comment_piece len other there l b in
+              (f.3, omega (arith, f.4, first.2 f.0 f.1 f.2)),
+        )
+      ] (first-joint len rest)
 
-claim_name : (text : List ℕ) (from : ℕ) → begins is_letter (drop from text) ≡ true → begins_lib (drop from text) ≡ false → Claim text from (name_front name_piece 0 (drop from text))
-claim_name text from h no_lib =
-    let rest = drop from text in
-    let n = prefix_len is_name_byte rest in
-    let l : IsLongest text from name_piece n =
-    longest_by text from name_piece n (prefix_len-le-length is_name_byte rest) (name-form rest h) (name-most rest h no_lib) in
-    cond_both (ltb NAME_BYTES n) (Err (bad_byte, NAME_BYTES)) (Ok (name_piece, 0 + n)) (Claim text from)
-    (λ past. (long_name n l (ltb-true NAME_BYTES n past), λ other there b. let f = faulty text from name_piece n other there l b in (f.1, f.2)))
-    (λ short.
-    subst (λ m. Claim text from (Ok (name_piece, m))) (sym (zero-add n))
-    (claim_ok text from name_piece n l (λ rule at f. omega (arith, f.0, ltb-false NAME_BYTES n short))))
+  claim_text : (len : ℕ) → IsLongest text seen from text_piece len → Claim text seen from (judged text_piece len (drop from text))
+  claim_text len l =
+      let bytes = between (take len (drop from text)) in
+      elim (unescaped false bytes) as (λ u. unescaped false bytes ≡ u → Claim text seen from (judged_text len u)) [
+        | Ok ws ↦ λ e. claim_ok text_piece len l (λ rule at f. let wrong = f.1 in absurd cc)
+        | Err n ↦ λ e. (
+          wrong_escape len n l e,
+          λ other there b.
+              let f = faulty text seen from text_piece len other there l b in
+              let wrong = f.1 in
+              let same : f.0 ≡ n = cc in
+              (f.2, omega (arith, f.3, same)),
+        )
+      ] refl
 
-claim_number : (text : List ℕ) (from : ℕ) → begins is_digit (drop from text) ≡ true → begins is_letter (drop from text) ≡ false → Claim text from (number_front (drop from text))
-claim_number text from h no_letter =
-    let rest = drop from text in
-    let n = number_len rest in
-    let l : IsLongest text from number_piece n = longest_by text from number_piece n (number-within rest h) (number-form rest h) (number-most rest h no_letter) in
-    let behind : drop n rest ≡ drop (from + n) text = drop-drop n from text in
-    cond_both (ltb LARGEST_NUMBER (decimal (take n rest)) || begins spoils_number (drop n rest)) (Err (bad_number, 0)) (Ok (number_piece, n)) (Claim text from)
-    (λ e.
-    let bad : IsBadNumber (take n rest) (drop (from + n) text) =
-    elim (or_cases _ _ e) [
-      | inl past ↦ inl (ltb-true LARGEST_NUMBER (decimal (take n rest)) past)
-      | inr spoilt ↦ inr (subst (λ r. begins spoils_number r ≡ true) behind spoilt)
-    ] in (
-      subst (Breaks text from bad_number) (sym (add-zero from)) (no_number n l bad),
-      λ other there b. let f = faulty text from number_piece n other there l b in (f.1, f.2 ∙ sym (add-zero from)),
-    ))
-    (λ e.
-    let good = or_parts (ltb LARGEST_NUMBER (decimal (take n rest))) (begins spoils_number (drop n rest)) e in
-    claim_ok text from number_piece n l
-    (λ rule at f.
-    elim f.0 [
-      | inl past ↦ omega (arith, past, ltb-false LARGEST_NUMBER (decimal (take n rest)) good.0)
-      | inr spoilt ↦ both_ways _ (subst (λ r. begins spoils_number r ≡ false) behind good.1) spoilt
-    ]))
+  claim_mark : (len : ℕ) → IsLongest text seen from mark_piece len → ((n : ℕ) → IsPiece text seen from comment_piece n → ⊥) → Claim text seen from (judged mark_piece len (drop from text))
+  claim_mark len l none =
+      cond_both (begins_with (codes "/*") (drop from text)) (Err (open_comment, 0)) (Ok (mark_piece, len)) (Claim text seen from)
+      (λ opens. (
+        subst (Breaks text seen from open_comment) (sym (add-zero from)) (no_comment opens none),
+        λ other there b. let f = faulty text seen from mark_piece len other there l b in (f.1, omega (arith, f.2)),
+      ))
+      (λ e. claim_ok mark_piece len l (λ rule at f. both_ways _ e f.0))
 
--- where no piece begins, one rule is broken
-nothing_only : (text : List ℕ) (from : ℕ) → ((kind : PieceKind) (len : ℕ) → IsPiece text from kind len → ⊥) → (rule : TokenRule) (at : ℕ) → Breaks text from rule at
-    → (rule ≡ bad_byte) × (at ≡ from)
-nothing_only text from none _ _ (begins_nothing within _) = (refl, refl)
-nothing_only text from none _ _ (long_name n m past) = absurd (none name_piece n m.piece)
-nothing_only text from none _ _ (long_lib n m past) = absurd (none lib_piece n m.piece)
-nothing_only text from none _ _ (no_number n m bad) = absurd (none number_piece n m.piece)
+  -- where a mark is the longest there is no comment
+  no-comment : (len n : ℕ) → IsLongest text seen from mark_piece len → IsPiece text seen from comment_piece n → ⊥
+  no-comment len n l p =
+      let rest = drop from text in
+      let opens = opens_directive seen (take from text) in
+      let s = comment-shape rest n p.within p.form in
+      let comment : piece_at text seen from ≡ Some (comment_piece, s.len) =
+      ap (λ f. piece_in f opens rest) s.other ∙ ap (λ o. comment_or_mark o rest) s.counted in
+      let same = (some_pair_parts comment_piece mark_piece s.len len (sym comment ∙ longest-found text seen from mark_piece len l)).0 in
+      absurd cc
 
-claim_mark : (text : List ℕ) (from : ℕ) → from < length text → BeginsNone (drop from text) → Claim text from (mark_front (drop from text))
-claim_mark text from within n =
-    let rest = drop from text in
-    let some : 1 ≤ length rest = omega (arith, length-drop from text) in
-    cond_both (is_some (mark_of (take 1 rest))) (Ok (mark_piece, 1)) (Err (bad_byte, 0)) (Claim text from)
-    (λ e. claim_ok text from mark_piece 1 (longest_by text from mark_piece 1 some e (λ other m s. omega (arith, (mark-most rest n other m s).1))) (λ rule at f. f))
-    (λ e.
-    let none : (kind : PieceKind) (len : ℕ) → IsPiece text from kind len → ⊥ =
-    λ kind len p. both_ways _ e (mark-most rest n kind len (shape kind rest len p.within p.form)).0 in (
-      subst (Breaks text from bad_byte) (sym (add-zero from)) (begins_nothing within none),
-      λ other there b. let f = nothing_only text from none other there b in (f.0, f.1 ∙ sym (add-zero from)),
-    ))
+  claim_judged : (kind : PieceKind) (len : ℕ) → IsLongest text seen from kind len → Claim text seen from (judged kind len (drop from text))
+  claim_judged blank_piece len l = claim_ok blank_piece len l (λ rule at f. f)
+  claim_judged comment_piece len l = claim_comment len l
+  claim_judged directive_piece len l = claim_ok directive_piece len l (λ rule at f. f)
+  claim_judged name_piece len l = claim_name len l
+  claim_judged lib_piece len l = claim_lib len l
+  claim_judged number_piece len l = claim_number len l
+  claim_judged text_piece len l = claim_text len l
+  claim_judged mark_piece len l = claim_mark len l (λ n p. no-comment len n l p)
 
-claim : (text : List ℕ) (from : ℕ) → from < length text → Claim text from (front_of (drop from text))
-claim text from within =
-    let rest = drop from text in
-    cond_both (begins is_blank rest) _ _ (Claim text from) (claim_blank text from) (λ no_blank.
-    cond_both (begins_lib rest) _ _ (Claim text from) (claim_lib text from) (λ no_lib.
-    cond_both (begins is_letter rest) _ _ (Claim text from) (λ l. claim_name text from l no_lib) (λ no_letter.
-    cond_both (begins is_digit rest) _ _ (Claim text from) (λ d. claim_number text from d no_letter) (λ no_digit.
-    claim_mark text from within (record { no_blank = no_blank; no_letter = no_letter; no_digit = no_digit })))))
+  -- where `/*` stands something begins
+  opens-something : begins_with (codes "/*") (drop from text) ≡ true → piece_at text seen from ≡ None → ⊥
+  opens-something opens e =
+      let rest = drop from text in
+      let other : comment_or_mark (comment_len rest) rest ≡ None = ap (λ f. piece_in f (opens_directive seen (take from text)) rest) (sym (block-first rest opens)) ∙ e in
+      let mark : mark_len rest ≡ Some 1 = subst (λ r. mark_len r ≡ Some 1) (sym (begins-is (codes "/*") rest opens)) refl in
+      elim (comment_len rest) as (λ o. comment_or_mark o rest ≡ None → ⊥) [
+        | None ↦ λ nothing. let none : as_piece mark_piece (Some 1) ≡ None = ap (as_piece mark_piece) (sym mark) ∙ nothing in absurd cc
+        | Some n ↦ λ nothing. absurd cc
+      ] other
 
-pub front-ok : (text : List ℕ) (from : ℕ) (kind : PieceKind) (len : ℕ) → from < length text → front_of (drop from text) ≡ Ok (kind, len)
-    → Stands text (record { kind = kind; from = from; len = len })
-front-ok text from kind len within e = subst (Claim text from) e (claim text from within)
+  -- where nothing begins, the rule of the first byte is broken
+  claim_nothing : (b : ℕ) (bs : List ℕ) → drop from text ≡ b ∷ bs → piece_at text seen from ≡ None → Claim text seen from (Err (rule_for (first_at (b ∷ bs)), 0))
+  claim_nothing b bs is e =
+      let none = found-none text seen from e in (
+        subst (λ rule. Breaks text seen from rule (from + 0)) (sym (rule-for b)) (subst (Breaks text seen from (rule_of b)) (sym (add-zero from)) (begins_nothing b bs is none)),
+        only none,
+      )
+    where
+      only : ((kind : PieceKind) (len : ℕ) → IsPiece text seen from kind len → ⊥) → (rule : TokenRule) (at : ℕ) → Breaks text seen from rule at → (rule ≡ rule_for (first_at (b ∷ bs))) × (from + 0 ≤ at)
+      only none _ _ (begins_nothing c cs there _) = (ap rule_of (first-byte (sym there ∙ is)) ∙ sym (rule-for b), omega arith)
+        where
+          first-byte : c ∷ cs ≡ b ∷ bs → c ≡ b
+          first-byte same = cc
+      only none _ _ (long_name n m past) = absurd (none name_piece n m.piece)
+      only none _ _ (long_lib n m past) = absurd (none lib_piece n m.piece)
+      only none _ _ (wrong_escape n k m wrong) = absurd (none text_piece n m.piece)
+      only none _ _ (joint n k m within here) = absurd (none comment_piece n m.piece)
+      only none _ _ (no_number n m bad) = absurd (none number_piece n m.piece)
+      only none _ _ (no_comment opens _) = absurd (opens-something opens e)
 
-pub front-err : (text : List ℕ) (from : ℕ) (rule : TokenRule) (at : ℕ) → from < length text → front_of (drop from text) ≡ Err (rule, at) → Breaks text from rule (from + at)
-front-err text from rule at within e = (subst (Claim text from) e (claim text from within)).0
+  claim_found : (b : ℕ) (bs : List ℕ) → drop from text ≡ b ∷ bs → (found : Found) → piece_at text seen from ≡ found → Claim text seen from (front_from (rule_for (first_at (b ∷ bs))) (drop from text) found)
+  claim_found b bs is None e = claim_nothing b bs is e
+  claim_found b bs is (Some p) e = claim_judged p.0 p.1 (found-longest text seen from p.0 p.1 e)
 
-pub front-err-only : (text : List ℕ) (from : ℕ) (rule : TokenRule) (at : ℕ) → from < length text → front_of (drop from text) ≡ Err (rule, at)
-    → (other : TokenRule) (there : ℕ) → Breaks text from other there → (other ≡ rule) × (there ≡ from + at)
-front-err-only text from rule at within e = (subst (Claim text from) e (claim text from within)).1
+  claim_at : (rest : List ℕ) → 0 < length rest → drop from text ≡ rest → Claim text seen from (front_from (rule_for (first_at rest)) (drop from text) (piece_at text seen from))
+  claim_at [] some is = absurd (omega arith)
+  claim_at (b ∷ bs) some is = claim_found b bs is (piece_at text seen from) refl
+
+  claim : from < length text → Claim text seen from (front_of (opens_directive seen (take from text)) (drop from text))
+  claim within = claim_at (drop from text) (omega (arith, length-drop from text)) refl
+
+-- what `front_of` gives at an offset, with what stands before it
+abbrev pub front_at : List ℕ → Bool → ℕ → Result (PieceKind × ℕ) (TokenRule × ℕ)
+front_at text seen from = front_of (opens_directive seen (take from text)) (drop from text)
+
+module _ (text : List ℕ) (seen : Bool) (from : ℕ) where
+  pub front-ok : (kind : PieceKind) (len : ℕ) → from < length text → front_at text seen from ≡ Ok (kind, len) → Stands text seen (record { kind = kind; from = from; len = len })
+  front-ok kind len within e = subst (Claim text seen from) e (claim text seen from within)
+
+  pub front-err : (rule : TokenRule) (at : ℕ) → from < length text → front_at text seen from ≡ Err (rule, at) → Breaks text seen from rule (from + at)
+  front-err rule at within e = (subst (Claim text seen from) e (claim text seen from within)).0
+
+  -- no other rule is broken at a smaller offset, and none at all but with this number
+  pub front-err-first : (rule : TokenRule) (at : ℕ) → from < length text → front_at text seen from ≡ Err (rule, at)
+      → (other : TokenRule) (there : ℕ) → Breaks text seen from other there → (other ≡ rule) × (from + at ≤ there)
+  front-err-first rule at within e = (subst (Claim text seen from) e (claim text seen from within)).1

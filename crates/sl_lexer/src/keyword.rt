@@ -93,10 +93,15 @@ const KEYWORDS: [&str; 85] = [
 ];
 
 /// Whether one of the words has these bytes.
-fn any_equal(words: &[&str], name: &[u8]) -> bool
+pub fn any_equal(words: &[&str], name: &[u8]) -> bool
     ensures { result ≡ list_any (λ word. bytes_eq word.now name.now) words.now }
 {
-    words.iter().any(|word| word.as_bytes() == name)
+    for word in words {
+        if word.as_bytes() == name {
+            return true;
+        }
+    }
+    false
 }
 
 /// Whether a name is no name of a program.

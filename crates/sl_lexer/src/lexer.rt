@@ -6,7 +6,9 @@ ghost use Rattle.sl_base.specs.Tokens.{Tokens, TokenFault};
 ghost use Rattle.sl_lexer.specs.Faults.{fault_of};
 
 use crate::LexErr;
+use crate::directive::opens_directive;
 use crate::front::{Front, front_of};
+use crate::line::blank_line_after;
 use sl_base::{Items, Place, Token};
 use std::alloc::Global;
 
@@ -24,12 +26,14 @@ pub fn lex(alloc: Global, text: &[u8]) -> Result<Items<Token>, LexErr>
     ensures only_fault { (rule : TokenRule) (at : ℕ) → TokenFault text.now rule at →
         IsErrAnd result (λ e. (e ≡ LexErr.Memory) ⊎ (fault_of e ≡ Some (rule, at))) }
 {
-    // The text is cut up to `done`, which stands at `place`.
+    // The text is cut up to `done`, which stands at `place`; `blank_line` says whether its line is blank so far.
     let mut tokens = Items::new(alloc);
     let mut place = Place::FIRST;
+    let mut blank_line = true;
     let mut done = 0;
     while done < text.len() {
-        let Front { word, len } = front_of(&text[done..], done)?;
+        let opens = opens_directive(tokens.len(), blank_line);
+        let Front { word, len } = front_of(alloc, &text[done..], done, opens)?;
         if let Some(word) = word {
             tokens.push(Token {
                 word,
@@ -39,6 +43,7 @@ pub fn lex(alloc: Global, text: &[u8]) -> Result<Items<Token>, LexErr>
         }
         let end = done + len;
         place = place.after(&text[done..end]);
+        blank_line = blank_line_after(blank_line, &text[done..end]);
         done = end;
     }
     Ok(tokens)

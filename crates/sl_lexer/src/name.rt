@@ -1,4 +1,4 @@
-ghost use Rattle.std.specs.Prelude.{◌≡◌, ◌+◌, ◌^◌, ◌<◌, ◌≤◌, length, take, drop, nat_lt, IsTrue, if◌then◌else◌};
+ghost use Rattle.std.specs.Prelude.{◌≡◌, ◌+◌, ◌^◌, ◌<◌, ◌≤◌, length, take, drop, nat_lt, false, IsTrue, if◌then◌else◌};
 ghost use Rattle.std.specs.List.{prefix_len};
 ghost use Rattle.sl_base.specs.Bytes as bytes;
 ghost use Rattle.sl_base.specs.Pieces as base;
@@ -6,6 +6,7 @@ ghost use Rattle.sl_base.specs.Pieces.{name_piece, lib_piece};
 ghost use Rattle.sl_base.specs.declared.limits.TheConstants.{NAME_BYTES, TEXT_BYTES};
 ghost use Rattle.sl_lexer.specs.Answers.{answer_of};
 ghost use Rattle.sl_lexer.specs.Front as spec;
+ghost use Rattle.sl_lexer.specs.declared.byte.First.TheVariants.{Letter};
 
 use crate::LexErr;
 use crate::byte::{is_letter, is_name_byte};
@@ -18,15 +19,20 @@ use sl_base::{Name, Word};
 const STD_COLONS: usize = 5;
 
 /// How many bytes of a name stand at the front.
-fn name_len(rest: &[u8]) -> usize
+pub fn name_len(rest: &[u8]) -> usize
     ensures count { result ≡ prefix_len bytes.is_name_byte rest.now }
     ensures within { result ≤ length rest.now }
 {
-    rest.iter().take_while(|byte| is_name_byte(**byte)).count()
+    for (i, byte) in rest.iter().enumerate() {
+        if !is_name_byte(*byte) {
+            return i;
+        }
+    }
+    rest.len()
 }
 
 /// Whether `std::` and a name, with nothing between, stand at the front.
-pub fn begins_lib(rest: &[u8]) -> bool
+fn begins_lib(rest: &[u8]) -> bool
     ensures { result ≡ spec.begins_lib rest.now }
 {
     match rest {
@@ -64,10 +70,10 @@ fn name_at(rest: &[u8], at: usize) -> Result<Name, LexErr>
 }
 
 /// The name at the front of a rest, which begins with a letter and stands at an offset, as a piece.
-pub fn name_front(rest: &[u8], from: usize) -> Result<Front, LexErr>
+fn name_front(rest: &[u8], from: usize) -> Result<Front, LexErr>
     requires letter { IsTrue (bytes.begins bytes.is_letter rest.now) }
     requires short { from ≤ TEXT_BYTES }
-    ensures { result ≡ answer_of from rest.now (spec.name_front name_piece 0 rest.now) }
+    ensures { result ≡ answer_of from rest.now (spec.judged name_piece (prefix_len bytes.is_name_byte rest.now) rest.now) }
 {
     let name = name_at(rest, from)?;
     let len = name.as_slice().len();
@@ -78,10 +84,10 @@ pub fn name_front(rest: &[u8], from: usize) -> Result<Front, LexErr>
 }
 
 /// `std::` and a name at the front of a rest, which stands at an offset, as a piece.
-pub fn lib_front(rest: &[u8], from: usize) -> Result<Front, LexErr>
+fn lib_front(rest: &[u8], from: usize) -> Result<Front, LexErr>
     requires lib { IsTrue (spec.begins_lib rest.now) }
     requires short { from ≤ TEXT_BYTES }
-    ensures { result ≡ answer_of from rest.now (spec.name_front lib_piece 5 (drop 5 rest.now)) }
+    ensures { result ≡ answer_of from rest.now (spec.judged lib_piece (5 + prefix_len bytes.is_name_byte (drop 5 rest.now)) rest.now) }
 {
     let name = name_at(&rest[STD_COLONS..], from + STD_COLONS)?;
     let len = STD_COLONS + name.as_slice().len();
@@ -89,4 +95,17 @@ pub fn lib_front(rest: &[u8], from: usize) -> Result<Front, LexErr>
         word: Some(Word::Lib(name)),
         len,
     })
+}
+
+/// The name or the lib at the front of a rest, which begins with a letter and stands at an offset.
+pub fn letter_front(rest: &[u8], from: usize) -> Result<Front, LexErr>
+    requires letter { IsTrue (bytes.begins bytes.is_letter rest.now) }
+    requires short { from + length rest.now ≤ TEXT_BYTES }
+    ensures { result ≡ answer_of from rest.now (spec.front_in Letter false rest.now) }
+{
+    if begins_lib(rest) {
+        lib_front(rest, from)
+    } else {
+        name_front(rest, from)
+    }
 }

@@ -1,6 +1,7 @@
-ghost use Rattle.std.specs.Prelude.{◌≡◌, ◌<◌, ◌≤◌, length, nat_lt, IsTrue, None, Some, if◌then◌else◌};
+ghost use Rattle.std.specs.Prelude.{◌≡◌, ◌+◌, ◌<◌, ◌≤◌, length, nat_lt, IsTrue, None, Some, if◌then◌else◌};
 ghost use Rattle.sl_base.specs.Bytes as bytes;
 ghost use Rattle.sl_base.specs.Pieces as base;
+ghost use Rattle.sl_base.specs.Pieces.{number_piece};
 ghost use Rattle.sl_base.specs.declared.limits.TheConstants.{LARGEST_NUMBER, TEXT_BYTES};
 ghost use Rattle.sl_lexer.specs.Answers.{answer_of};
 ghost use Rattle.sl_lexer.specs.Front as spec;
@@ -17,7 +18,12 @@ fn digits_len(rest: &[u8]) -> usize
     ensures count { result ≡ prefix_len bytes.is_digit rest.now }
     ensures within { result ≤ length rest.now }
 {
-    rest.iter().take_while(|byte| is_digit(**byte)).count()
+    for (i, byte) in rest.iter().enumerate() {
+        if !is_digit(*byte) {
+            return i;
+        }
+    }
+    rest.len()
 }
 
 /// How many bytes of a number stand at the front: after `0` no digit follows.
@@ -58,8 +64,8 @@ fn spoils(rest: &[u8]) -> bool
 /// The number at the front of the rest, which begins with a digit.
 pub fn number_front(rest: &[u8], from: usize) -> Result<Front, LexErr>
     requires digit { IsTrue (bytes.begins bytes.is_digit rest.now) }
-    requires short { from ≤ TEXT_BYTES }
-    ensures { result ≡ answer_of from rest.now (spec.number_front rest.now) }
+    requires short { from + length rest.now ≤ TEXT_BYTES }
+    ensures { result ≡ answer_of from rest.now (spec.judged number_piece (spec.number_len rest.now) rest.now) }
 {
     let len = number_len(rest);
     match decimal(&rest[..len]) {

@@ -1,4 +1,4 @@
--- The text of a report, in bytes: a line for each warning and a last line with their count, or the one line of a text that passed.
+-- The text of a refusal, and that of a report, in bytes: a line for each warning and a last line with their count, or the one line of a text that passed.
 -- No standard says any of it; all of it is chosen here. A warning's line is `NAME:L:C: KIND in CALL: WHO`, and behind it for an
 -- invalid iterator the places at which it may have been invalidated, in the order of their sites.
 use Rattle.std.specs.Prelude.{ℕ, ◌==◌, nat_eq, Bool, List, [], ◌∷◌, ◌++◌, length, Option, Some, None, slice_get, slice_index_or, codes, decimal, if◌then◌else◌}
@@ -75,3 +75,7 @@ passed_line file = file ++ (codes ": passed" ++ 10 ∷ [])
 abbrev pub report_text : List ℕ → List Place → List Warning → List ℕ
 report_text file sites [] = passed_line file
 report_text file sites (w ∷ ws) = flat_map (warning_line file sites) (w ∷ ws) ++ count_line file (length (w ∷ ws))
+
+-- the line of a text that is refused at a place, with the words that say why
+abbrev pub refusal_line : List ℕ → Place → List ℕ → List ℕ
+refusal_line file place why = file ++ (codes ":" ++ (decimal place.line ++ (codes ":" ++ (decimal place.col ++ (codes ": refused: " ++ (why ++ 10 ∷ []))))))

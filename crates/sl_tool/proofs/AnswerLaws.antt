@@ -5,18 +5,27 @@ use Rattle.std.specs.declared.alloc.Global.{Global}
 use Rattle.sl_syntax.specs.declared.typed.Typed.{Typed as TypedCode}
 use Rattle.sl_syntax.specs.View.{typed_of}
 use Rattle.sl_model.specs.Covers.{Warning}
-use Rattle.sl_model.specs.Texts.{report_text}
+use Rattle.sl_model.specs.Texts.{report_text, refusal_line}
+use Rattle.sl_tool.specs.declared.refusal.Refusal.{Refusal}
+use Rattle.sl_tool.specs.declared.status.Status.TheVariants.{Refused}
+use Rattle.sl_tool.specs.Refusals.{IsRefused, reason_words}
 use Rattle.sl_tool.specs.Form.{IsBuilt}
 use Rattle.sl_base.specs.declared.limits.TheConstants.{TEXT_BYTES}
 use Rattle.sl_base.specs.Outside.{IsRead}
 use Rattle.sl_tool.specs.declared.status.Status.{Status}
-use Rattle.sl_tool.specs.Answers.{AnswerTo, too_long, not_built, reported, IsReport, status_of}
+use Rattle.sl_tool.specs.Answers.{AnswerTo, too_long, refused, reported, IsReport, status_of}
 
 -- the report on a text of the form is its answer
 pub AnswerTo-report : (file text : List ℕ) (p : TypedCode) (result : Result (Status × Vec ℕ Global) AllocError) → length text ≤ TEXT_BYTES → IsBuilt text p
     → IfOk result (λ a. (r : List Warning) × IsReport (typed_of p) r × (a.0 ≡ status_of r) × (a.1.items ≡ report_text file p.sites r)) → IfOk result (λ a. AnswerTo file text a.0 a.1.items)
 AnswerTo-report file text p (Ok a) short built h = rw (h.2, h.3) (reported short p built h.0 h.1)
 AnswerTo-report file text p (Err e) short built h = tt
+
+-- where a text is refused, that is its answer
+pub AnswerTo-refusal : (file text : List ℕ) (r : Refusal) (result : Result (Status × Vec ℕ Global) AllocError) → length text ≤ TEXT_BYTES → IsRefused text r
+    → IfOk result (λ a. (a.0 ≡ Refused) × (a.1.items ≡ refusal_line file r.place (reason_words r.reason))) → IfOk result (λ a. AnswerTo file text a.0 a.1.items)
+AnswerTo-refusal file text r (Ok a) short is h = rw (h.0, h.1) (refused short r is)
+AnswerTo-refusal file text r (Err e) short is h = tt
 
 -- a text that isn't too long was read whole
 read_whole : (text all rest : List ℕ) → IsRead TEXT_BYTES text (Some all) (Some rest) → length text ≤ TEXT_BYTES → text ≡ all
@@ -28,7 +37,7 @@ same_text file text all status bytes e h = rw e at h
 -- the answer to what was read is the answer to all that was left
 told_at : (file text all rest : List ℕ) (status : Status) (bytes : List ℕ) → IsRead TEXT_BYTES text (Some all) (Some rest) → AnswerTo file text status bytes → AnswerTo file all status bytes
 told_at file text all rest _ _ read (too_long h) = too_long (omega (arith, length-append text rest, ap length read.consumed))
-told_at file text all rest _ _ read (not_built short h) = same_text file text all _ _ (read_whole text all rest read short) (not_built short h)
+told_at file text all rest _ _ read (refused short r h) = same_text file text all _ _ (read_whole text all rest read short) (refused short r h)
 told_at file text all rest _ _ read (reported short p h r report) = same_text file text all _ _ (read_whole text all rest read short) (reported short p h r report)
 
 same_all : (file x all : List ℕ) (status : Status) (bytes : List ℕ) → Some x ≡ Some all → AnswerTo file x status bytes → AnswerTo file all status bytes

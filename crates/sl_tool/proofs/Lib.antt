@@ -1,5 +1,4 @@
 pub mod AnswerLaws
-pub mod BuiltLaws
 pub mod Describes
 pub mod Lists
 pub mod Goes
@@ -12,3 +11,4 @@ pub mod TextLaws
 pub mod ItemLaws
 pub mod NameLaws
 pub mod BodyLaws
+pub mod RefusalLaws

@@ -5,11 +5,13 @@ use Rattle.sl_syntax.specs.declared.typed.Typed.{Typed as TypedCode}
 use Rattle.sl_syntax.specs.Typed.{Typed}
 use Rattle.sl_syntax.specs.View.{typed_of}
 use Rattle.sl_model.specs.Covers.{Warning, Reports, Safe, HasMeaning}
-use Rattle.sl_model.specs.Texts.{report_text}
+use Rattle.sl_model.specs.Texts.{report_text, refusal_line}
 use Rattle.sl_tool.specs.declared.status.Status.{Status}
 use Rattle.sl_tool.specs.declared.status.Status.TheVariants.{Passed, Warned, Refused}
+use Rattle.sl_tool.specs.declared.refusal.Refusal.{Refusal}
 use Rattle.sl_tool.specs.Form.{IsBuilt}
-use Rattle.sl_tool.specs.Texts.{too_long_line, not_built_line}
+use Rattle.sl_tool.specs.Refusals.{IsRefused, reason_words}
+use Rattle.sl_tool.specs.Texts.{too_long_line}
 
 -- A report on a text covers the trap of every run, and no run meets a call that has no meaning yet. Where it is empty, no run traps.
 pub record IsReport (p : Typed) (r : List Warning) : Type 0 where
@@ -22,9 +24,9 @@ abbrev pub status_of : List Warning → Status
 status_of [] = Passed
 status_of (w ∷ ws) = Warned
 
--- A text that is too long is refused by its length. One that isn't of the form is refused as not built. To one of the form the answer is the
--- text of a report on it.
+-- A text that is too long is refused by its length. One that isn't of the form is refused where and why `IsRefused` says. To one of the
+-- form the answer is the text of a report on it.
 pub data AnswerTo (file text : List ℕ) : Status → List ℕ → Type 0 where
   too_long : TEXT_BYTES < length text → AnswerTo file text Refused (too_long_line file)
-  not_built : length text ≤ TEXT_BYTES → ((p : TypedCode) → IsBuilt text p → ⊥) → AnswerTo file text Refused (not_built_line file)
+  refused : length text ≤ TEXT_BYTES → (r : Refusal) → IsRefused text r → AnswerTo file text Refused (refusal_line file r.place (reason_words r.reason))
   reported : length text ≤ TEXT_BYTES → (p : TypedCode) → IsBuilt text p → (r : List Warning) → IsReport (typed_of p) r → AnswerTo file text (status_of r) (report_text file p.sites r)

@@ -2,6 +2,7 @@ pub mod Numbers
 pub mod Command
 pub mod Texts
 pub mod Form
+pub mod Refusals
 pub mod Answers
 pub mod Outcome
 pub mod Analysis

@@ -13,6 +13,3 @@ fault_line file = codes "read fault: " ++ line file []
 
 abbrev pub too_long_line : List ℕ → List ℕ
 too_long_line file = line file (codes ": refused: longer than 1048576 bytes")
-
-abbrev pub not_built_line : List ℕ → List ℕ
-not_built_line file = line file (codes ":1:1: refused: not built")

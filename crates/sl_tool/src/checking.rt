@@ -1,41 +1,78 @@
 //! A text from its bytes to a report.
-ghost use Rattle.std.specs.Prelude.{◌≡◌, ◌≢◌, ◌≤◌, List, ℕ, length, IfOk, IfSome, IsNone, MatchOption};
+ghost use Rattle.std.specs.Prelude.{◌≡◌, ◌≤◌, List, ℕ, length, Some, IfOk, IfErr};
+ghost use Rattle.sl_base.specs.Pieces.{TokenRule};
+ghost use Rattle.sl_base.specs.Tokens.{TokenFault};
 ghost use Rattle.sl_base.specs.declared.limits.TheConstants.{TEXT_BYTES};
-ghost use Rattle.sl_syntax.specs.declared.typed.Typed.{Typed as TypedValue};
+ghost use Rattle.sl_lexer.specs.Faults.{fault_of};
 ghost use Rattle.sl_syntax.specs.View.{typed_of};
 ghost use Rattle.sl_model.specs.Covers.{Warning as WarningValue};
 ghost use Rattle.sl_model.specs.Texts.{report_text};
 ghost use Rattle.sl_tool.specs.Answers.{IsReport, status_of};
-ghost use Rattle.sl_tool.specs.Form.{IsBuilt, UsesDeclared};
+ghost use Rattle.sl_syntax.specs.declared.typed.Typed.{Typed as TypedValue};
+ghost use Rattle.sl_tool.specs.Form.{IsBuilt, ReadsAs, UsesDeclared};
+ghost use Rattle.sl_tool.specs.Refusals.{IsRefused, not_built_yet, reason_of};
 ghost use Rattle.sl_tool.specs.Told.{report_of};
 
 use crate::analysis::{Warning, warnings_in};
 use crate::reading::read_text;
+use crate::refusal::{Reason, Refusal};
 use crate::rendering::render;
 use crate::status::Status;
+use sl_base::{Place, Token, place_of};
 use sl_lexer::{LexErr, lex};
 use sl_syntax::Typed;
 use std::alloc::{AllocError, Global};
 
-/// The text in numbers; none exactly where it isn't of the form that is checked so far.
-pub fn typed_text(alloc: Global, text: &[u8]) -> Result<Option<Typed>, AllocError>
+/// The text in numbers, or where and why it is refused.
+pub fn typed_text(alloc: Global, text: &[u8]) -> Result<Result<Typed, Refusal>, AllocError>
     requires { length text.now ≤ TEXT_BYTES }
-    ensures form { IfOk result (λ read. MatchOption read ((p : TypedValue) → IsBuilt text.now p → ⊥) (IsBuilt text.now)) }
-    ensures declared { IfOk result (λ read. IfSome read (λ p. UsesDeclared 0 0 p.stmts)) }
+    ensures typed { IfOk result (λ read. IfOk read (λ p. IsBuilt text.now p × UsesDeclared 0 0 p.stmts)) }
+    ensures refused { IfOk result (λ read. IfErr read (IsRefused text.now)) }
 {
     match lex(alloc, text) {
-        Ok(tokens) => read_text(alloc, tokens.as_slice()),
-        Err(error) => without_tokens(error),
+        Ok(tokens) => typed_tokens(alloc, tokens.as_slice()),
+        Err(error) => Ok(Err(token_refusal(text, error)?)),
     }
 }
 
-// A text without tokens isn't of the form.
-fn without_tokens(error: LexErr) -> Result<Option<Typed>, AllocError>
-    ensures { IfOk result (λ read. IsNone read × (error ≢ LexErr.Memory)) }
+// The text with these tokens in numbers, or that it isn't built.
+fn typed_tokens(alloc: Global, tokens: &[Token]) -> Result<Result<Typed, Refusal>, AllocError>
+    ensures typed { IfOk result (λ read. IfOk read (λ p. ReadsAs tokens.now p × UsesDeclared 0 0 p.stmts)) }
+    ensures refused { IfOk result (λ read. IfErr read (λ r. (r ≡ not_built_yet) × ((p : TypedValue) → ReadsAs tokens.now p → ⊥))) }
+{
+    match read_text(alloc, tokens)? {
+        Some(p) => Ok(Ok(p)),
+        None => Ok(Err(Refusal {
+            place: Place::FIRST,
+            reason: Reason::NotBuilt,
+        })),
+    }
+}
+
+// The refusal of a text with this error.
+fn token_refusal(text: &[u8], error: LexErr) -> Result<Refusal, AllocError>
+    requires short { length text.now ≤ TEXT_BYTES }
+    requires is_fault { (rule : TokenRule) (at : ℕ) → fault_of error ≡ Some (rule, at) → TokenFault text.now rule at }
+    ensures { IfOk result (IsRefused text.now) }
+{
+    let (reason, offset) = fault_in(error)?;
+    Ok(Refusal {
+        place: place_of(text, offset as usize),
+        reason,
+    })
+}
+
+// The reason that an error of the lexer is, and its offset.
+fn fault_in(error: LexErr) -> Result<(Reason, u32), AllocError>
+    ensures { IfOk result (λ told. (rule : TokenRule) × (fault_of error ≡ Some (rule, told.1)) × (told.0 ≡ reason_of rule)) }
 {
     match error {
         LexErr::Memory => Err(AllocError),
-        LexErr::BadByte { .. } | LexErr::BadNumber { .. } => Ok(None),
+        LexErr::BadByte { offset } => Ok((Reason::BadByte, offset)),
+        LexErr::BadNumber { offset } => Ok((Reason::BadNumber, offset)),
+        LexErr::OpenComment { offset } => Ok((Reason::OpenComment, offset)),
+        LexErr::OpenText { offset } => Ok((Reason::OpenText, offset)),
+        LexErr::BadDirective { offset } => Ok((Reason::BadDirective, offset)),
     }
 }
 

@@ -4,6 +4,7 @@
 mod analysis;
 mod checking;
 mod reading;
+mod refusal;
 mod rendering;
 mod status;
 mod tool;

@@ -62,6 +62,10 @@ const PASSED: &str = "a.cpp: passed\n";
 
 const NOT_BUILT: &str = "a.cpp:1:1: refused: not built\n";
 
+fn refused_at(alloc: Global, place: &str, why: &str) -> Result<String, AllocError> {
+    format!(in alloc; "a.cpp:{place}: refused: {why}\n")
+}
+
 #[test]
 fn texts(rt: HostRuntime) -> Result<(), Fail> {
     let cases = [
@@ -69,6 +73,10 @@ fn texts(rt: HostRuntime) -> Result<(), Fail> {
         ("int main() {}\n", true),
         ("int main() {\r\n}\r\n", true),
         ("\t int\n\nmain ( )\r{ } ", true),
+        (
+            "#include <vector>\n# include <map> // maps\nint main() { /* nothing */ }",
+            true,
+        ),
         ("intmain() {}", false),
         ("int main() {", false),
         ("int main() {\n", false),
@@ -79,21 +87,17 @@ fn texts(rt: HostRuntime) -> Result<(), Fail> {
         ("std::int main() {}", false),
         ("int std::main() {}", false),
         ("int Main() {}", false),
-        ("int main() {} #", false),
+        ("int main() {} ++", false),
+        ("int main() {} \"int\"", false),
         ("", false),
         (" ", false),
+        ("#include <vector>", false),
         (
             "int x64_aaaaaaaaaaaaaaaaaaaaaaaaaaaaaaaaaaaaaaaaaaaaaaaaaaaaaaaaaaaa",
             false,
         ),
-        (
-            "int x65_aaaaaaaaaaaaaaaaaaaaaaaaaaaaaaaaaaaaaaaaaaaaaaaaaaaaaaaaaaaaa",
-            false,
-        ),
         ("int main() {} 2147483647", false),
-        ("int main() {} 2147483648", false),
         ("0", false),
-        ("01", false),
     ];
     for (text, passes) in cases {
         let ran = check(rt.alloc(), text.as_bytes())?;
@@ -103,6 +107,38 @@ fn texts(rt: HostRuntime) -> Result<(), Fail> {
             (Status::Refused, NOT_BUILT)
         };
         assert_eq!(rt; ran.status, status, "{text:?}");
+        assert_eq!(rt; ran.out.bytes(), line.as_bytes(), "{text:?}");
+    }
+    Ok(())
+}
+
+#[test]
+fn texts_without_tokens(rt: HostRuntime) -> Result<(), Fail> {
+    let cases = [
+        ("int main() { /* x", "1:14", "open comment"),
+        ("int main() {\n  @\n}\n", "2:3", "bad byte"),
+        (
+            "int x65_aaaaaaaaaaaaaaaaaaaaaaaaaaaaaaaaaaaaaaaaaaaaaaaaaaaaaaaaaaaaa",
+            "1:69",
+            "bad byte",
+        ),
+        ("int main() {} 2147483648", "1:15", "bad number"),
+        ("01", "1:1", "bad number"),
+        ("int main() {\r\n  \"x\r\n}", "2:3", "open text"),
+        ("int main() { '' }", "1:14", "open text"),
+        ("int main() {} #", "1:15", "bad directive"),
+        ("\n#include <string>\nint main() {}", "2:1", "bad directive"),
+        ("\n\n\\", "3:1", "bad byte"),
+        (
+            "int main() {\n  std::vector<int> v;\n  v.push_back(1.5);\n}\n",
+            "3:15",
+            "bad number",
+        ),
+    ];
+    for (text, place, why) in cases {
+        let ran = check(rt.alloc(), text.as_bytes())?;
+        let line = refused_at(rt.alloc(), place, why)?;
+        assert_eq!(rt; ran.status, Status::Refused, "{text:?}");
         assert_eq!(rt; ran.out.bytes(), line.as_bytes(), "{text:?}");
     }
     Ok(())

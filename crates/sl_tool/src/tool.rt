@@ -4,8 +4,11 @@ ghost use Rattle.sl_base.specs.Outside.{Rose};
 ghost use Rattle.sl_tool.specs.Command.{file_of, words_of, text_in};
 ghost use Rattle.sl_tool.specs.Answers.{AnswerTo};
 ghost use Rattle.sl_tool.specs.Outcome.{Written, Outcome};
+ghost use Rattle.sl_tool.specs.Refusals.{reason_words};
+ghost use Rattle.sl_model.specs.Texts.{refusal_line};
 
 use crate::checking::{check, typed_text};
+use crate::refusal::Refusal;
 use crate::status::Status;
 use sl_base::limits::TEXT_BYTES;
 use sl_base::{Files, ReadErr, Sink, read_all, write_all};
@@ -69,12 +72,20 @@ fn answer(alloc: Global, file: &str, text: &[u8]) -> Result<(Status, Vec<u8>), A
         return Ok((Status::Refused, line.into_bytes()));
     }
     match typed_text(alloc, text)? {
-        Some(p) => check(alloc, file, &p),
-        None => {
-            let line = format!(in alloc; "{file}:1:1: refused: not built\n")?;
-            Ok((Status::Refused, line.into_bytes()))
-        }
+        Ok(p) => check(alloc, file, &p),
+        Err(refusal) => refuse(alloc, file, refusal),
     }
+}
+
+// The answer to a text that is refused.
+fn refuse(alloc: Global, file: &str, refusal: Refusal) -> Result<(Status, Vec<u8>), AllocError>
+    ensures { IfOk result (λ a. (a.0 ≡ Status.Refused) × (a.1.items ≡ refusal_line file.now refusal.place (reason_words refusal.reason))) }
+{
+    let line = refusal.place.line;
+    let col = refusal.place.col;
+    let words = refusal.reason.words();
+    let text = format!(in alloc; "{file}:{line}:{col}: refused: {words}\n")?;
+    Ok((Status::Refused, text.into_bytes()))
 }
 
 // Writes an answer, and tells its status or that a write failed.

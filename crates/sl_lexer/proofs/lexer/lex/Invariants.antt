@@ -4,7 +4,7 @@ use Rattle.sl_lexer.proofs.LexLaws.{SoFar}
 use Rattle.sl_lexer.proofs.lexer.lex.Given as goal
 
 abbrev pub invariant-loop-done : goal.invariant-loop-done
-invariant-loop-done l = SoFar l.text l.tokens l.done l.place
+invariant-loop-done l = SoFar l.text l.tokens l.done l.place l.blank_line
 
 abbrev pub decreases-loop-done : goal.decreases-loop-done
 decreases-loop-done l = length l.text - l.done

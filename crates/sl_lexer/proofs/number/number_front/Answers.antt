@@ -1,5 +1,5 @@
 -- The bytes of a number are digits.
-use Rattle.sl_lexer.proofs.ShapeLaws.{number-digits}
+use Rattle.sl_lexer.proofs.WordLaws.{number-digits}
 use Rattle.sl_lexer.proofs.number.number_front.Goals as goal
 
 pub decimal-requires : goal.decimal-requires

@@ -1,0 +1,47 @@
+#!/usr/bin/env bash
+# Times `stllint check` on texts of 1 MB that stress the lexer, and prints a line for each: the seconds of wall clock, the status, and what
+# the text is made of. An empty text comes first: what the other figures have on top of its own is the lexer's. It judges nothing.
+# usage: bench/lexer.sh [RUNS]   RUNS times each, the least of which counts; 3 if left out
+set -u
+
+fail() {
+  printf 'bench/lexer.sh: %s\n' "$1" >&2
+  exit 1
+}
+
+runs=${1:-3}
+size=1048576
+top=$(cd "$(dirname "$(readlink -f "${BASH_SOURCE[0]}")")/.." && pwd) || fail 'cannot find the top'
+texts=$(mktemp -d) || fail 'cannot make a folder'
+trap 'rm -rf "$texts"' EXIT
+
+# as many bytes of a repeated word as a text may have
+repeated() {
+  yes "$1" | tr -d '\n' | head -c "$size"
+}
+
+repeated ' ' >"$texts/blanks"
+repeated '(' >"$texts/parentheses"
+repeated '7' >"$texts/digits"
+repeated 'number7 ' >"$texts/names"
+repeated '<<= ' >"$texts/marks"
+repeated '"a\\n" ' >"$texts/texts"
+{ printf '/*'; head -c "$((size - 4))" /dev/zero | tr '\0' '*'; printf '*/'; } >"$texts/comment"
+: >"$texts/empty"
+
+# builds the program before anything is timed
+"$top/stllint" check "$texts/empty" >/dev/null 2>&1
+[ $? -ne 125 ] || fail 'the program could not be built'
+
+for text in empty blanks parentheses digits comment names marks texts; do
+  least=
+  for ((i = 0; i < runs; i++)); do
+    start=$EPOCHREALTIME
+    "$top/stllint" check "$texts/$text" >/dev/null 2>&1
+    status=$?
+    end=$EPOCHREALTIME
+    micros=$((${end/[.,]/} - ${start/[.,]/}))
+    if [ -z "$least" ] || [ "$micros" -lt "$least" ]; then least=$micros; fi
+  done
+  printf '%3d.%03d s  status %d  %s\n' "$((least / 1000000))" "$((least / 1000 % 1000))" "$status" "$text"
+done
