@@ -11,3 +11,4 @@ pub mod Numbers
 pub mod Faults
 pub mod Told
 pub mod Rows
+pub mod Scoped

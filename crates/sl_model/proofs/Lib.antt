@@ -22,3 +22,15 @@ pub mod Reviewed
 pub mod Longer
 pub mod LongerExec
 pub mod LongerCalls
+pub mod Locations
+pub mod Levels
+pub mod Gifts
+pub mod GoodEval
+pub mod GoodFlow
+pub mod GoodEffects
+pub mod GoodRange
+pub mod GoodExec
+pub mod LibraryGood
+pub mod GoodBinding
+pub mod GoodCalls
+pub mod RunGood

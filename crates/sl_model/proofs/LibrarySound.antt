@@ -68,21 +68,29 @@ object_there m form (Some i) j h = by_cont (slice_get m.conts i) refl h
     by_cont None e g = absurd (cc)
     by_cont (Some c) e g = by_form c (same_form c.form form) e g
 
--- a row on what it is called with leaves the memory sound
-row-sound : (r : Row) (a : Args) (m : Memory) (picks : List ℕ) → IsFineRow r → IsSound m → InAnswer IsSound (called_row (Some r) a m picks)
-row-sound r a m picks fine sound = by_object (object_in m r.object a.object) refl
+-- a call in a memory with an object
+abbrev pub situation : Args → Memory → List ℕ → ℕ → Situation
+situation a m picks j = record { memory = m; object = j; values = a.values; picks = picks; site = a.site }
+
+-- what holds of an unbuilt call, and of each call of a row on an object that is there, holds of a row on what it is called with
+pub row_by : (P : LibOut → Type 0) (r : Row) (a : Args) (m : Memory) (picks : List ℕ) → P unbuilt → ((j : ℕ) → HasObject r.object (situation a m picks j) → P (row_out r (situation a m picks j))) → P (called_row (Some r) a m picks)
+row_by P r a m picks none each = by_object (object_in m r.object a.object) refl
   where
-    has_object : (o : Option Form) (j : ℕ) → object_in m o a.object ≡ Some j → HasObject o (record { memory = m; object = j; values = a.values; picks = picks; site = a.site })
+    has_object : (o : Option Form) (j : ℕ) → object_in m o a.object ≡ Some j → HasObject o (situation a m picks j)
     has_object None j e = tt
     has_object (Some form) j e = object_there m form a.object j e
 
-    by_operands : (j : ℕ) (b : Bool) → object_in m r.object a.object ≡ Some j → InAnswer IsSound (if b then row_out r (record { memory = m; object = j; values = a.values; picks = picks; site = a.site }) else unbuilt)
-    by_operands j true e = out-sound r (record { memory = m; object = j; values = a.values; picks = picks; site = a.site }) sound (fine (record { memory = m; object = j; values = a.values; picks = picks; site = a.site }) (has_object r.object j e))
-    by_operands j false e = tt
+    by_operands : (j : ℕ) (b : Bool) → object_in m r.object a.object ≡ Some j → P (if b then row_out r (situation a m picks j) else unbuilt)
+    by_operands j true e = each j (has_object r.object j e)
+    by_operands j false e = none
 
-    by_object : (o : Option ℕ) → object_in m r.object a.object ≡ o → InAnswer IsSound (on_object r a m picks o)
-    by_object None e = tt
+    by_object : (o : Option ℕ) → object_in m r.object a.object ≡ o → P (on_object r a m picks o)
+    by_object None e = none
     by_object (Some j) e = by_operands j (are_of r.operands a.values) e
+
+-- a row on what it is called with leaves the memory sound
+row-sound : (r : Row) (a : Args) (m : Memory) (picks : List ℕ) → IsFineRow r → IsSound m → InAnswer IsSound (called_row (Some r) a m picks)
+row-sound r a m picks fine sound = row_by (InAnswer IsSound) r a m picks tt (λ j there. out-sound r (situation a m picks j) sound (fine (situation a m picks j) there))
 
 -- an effect is fine, or it is an exception where there would be too many elements
 unless-fine : (s : Situation) (n : ℕ) (e : Effect) → (n ≤ ELEMENTS → IsFine s e) → IsFine s (unless_too_many n e)

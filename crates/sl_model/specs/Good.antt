@@ -22,7 +22,7 @@ pub record IsSound (m : Memory) : Type 0 where
   pub dead : (j k s site : ℕ) → IsAt m j k s → Dropped m s site → ⊥
   pub small : (j : ℕ) (c : Cont) → slice_get m.conts j ≡ Some c → size c ≤ ELEMENTS
 
--- each of these locations is below n
+-- each of these is below n
 abbrev pub AreBelow : List ℕ → ℕ → Type 0
 AreBelow locations n = (x at : ℕ) → slice_get locations x ≡ Some at → at < n
 
@@ -30,10 +30,12 @@ AreBelow locations n = (x at : ℕ) → slice_get locations x ≡ Some at → at
 abbrev pub AreApart : List ℕ → Type 0
 AreApart locations = (x y at : ℕ) → slice_get locations x ≡ Some at → slice_get locations y ≡ Some at → x ≡ y
 
--- the memory is sound, each variable in scope is where it is said to be, and no two containers in scope are one
+-- the memory is sound, each variable in scope is where it is said to be, no two containers in scope are one, and each iterator
+-- variable holds a stamp that was used
 pub record IsGood (s : State) : Type 0 where
   pub sound : IsSound s.memory
   pub scalars : AreBelow s.frame.scalars (length s.scalars)
   pub iters : AreBelow s.frame.iters (length s.iters)
   pub conts : AreBelow s.frame.conts (length s.memory.conts)
   pub apart : AreApart s.frame.conts
+  pub held : AreBelow s.iters s.memory.fresh

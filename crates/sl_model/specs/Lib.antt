@@ -16,3 +16,5 @@ pub mod Run
 pub mod Good
 pub mod Covers
 pub mod Texts
+pub mod Shapes
+pub mod Scoped
