@@ -8,6 +8,10 @@ pub mod Killers
 pub mod Kept
 pub mod Steps
 pub mod Soundness
+pub mod NoKillers
+pub mod Exactly
+pub mod ExactSteps
+pub mod Exactness
 pub mod TextLaws
 pub mod ItemLaws
 pub mod NameLaws

@@ -8,3 +8,4 @@ pub mod Analysis
 pub mod KnownView
 pub mod Told
 pub mod Reading
+pub mod Exactness
