@@ -12,6 +12,8 @@ pub mod NoKillers
 pub mod Exactly
 pub mod ExactSteps
 pub mod Exactness
+pub mod Causes
+pub mod InOrder
 pub mod TextLaws
 pub mod ItemLaws
 pub mod NameLaws
