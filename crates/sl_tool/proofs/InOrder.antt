@@ -85,7 +85,7 @@ same_place stmts m n v w e a b =
     let q : Some (Dereference v.place a.iterator v.name) ≡ Some (Dereference w.place b.iterator w.name) = sym a.there ∙ ap (slice_get stmts) e ∙ b.there in cc
 
 -- a warning of a report is one of the analysis
-told_one : (names : List (List ℕ)) (ws : List Warning) (i : ℕ) (w : WarningValue) → slice_get (report_of names ws) i ≡ Some w → (v : Warning) × (slice_get ws i ≡ Some v) × (w ≡ warning_of names v)
+pub told_one : (names : List (List ℕ)) (ws : List Warning) (i : ℕ) (w : WarningValue) → slice_get (report_of names ws) i ≡ Some w → (v : Warning) × (slice_get ws i ≡ Some v) × (w ≡ warning_of names v)
 told_one names [] i w h = absurd cc
 told_one names (v ∷ ws) zero w h = let q : warning_of names v ≡ w = cc in (v, refl, sym q)
 told_one names (v ∷ ws) (suc i) w h = told_one names ws i w h

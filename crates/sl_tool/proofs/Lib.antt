@@ -14,6 +14,9 @@ pub mod ExactSteps
 pub mod Exactness
 pub mod Causes
 pub mod InOrder
+pub mod Ascending
+pub mod Built
+pub mod Founded
 pub mod TextLaws
 pub mod ItemLaws
 pub mod NameLaws

@@ -9,6 +9,7 @@ use Rattle.sl_model.specs.Run.{run}
 use Rattle.sl_model.specs.Covers.{Warning, Tells, Safe}
 use Rattle.sl_syntax.specs.declared.typed.Stmt.{Stmt}
 use Rattle.sl_syntax.specs.declared.typed.Stmt.TheVariants.{PushBack, Dereference}
+use Rattle.sl_syntax.specs.declared.typed.Typed.{Typed as TypedCode}
 use Rattle.sl_tool.specs.declared.analysis.Warning.{Warning as WarningCode}
 use Rattle.sl_tool.specs.declared.analysis.Fault.{Fault}
 use Rattle.sl_tool.specs.declared.analysis.Fault.TheVariants.{InvalidIterator, EndIterator}
@@ -75,3 +76,20 @@ AreInOrder r = (i j : ℕ) (v w : Warning) → i < j → slice_get r i ≡ Some 
 -- the places of each `*` come in their order
 abbrev pub PlacesAscend : List Stmt → Type 0
 PlacesAscend stmts = (i j it jt name other : ℕ) (p q : Place) → i < j → slice_get stmts i ≡ Some (Dereference p it name) → slice_get stmts j ≡ Some (Dereference q jt other) → IsPlaceBefore p q
+
+-- a site that is numbered in the text: the place with this number is that of a `push_back` before an index
+pub record IsSiteBefore (p : TypedCode) (index site : ℕ) : Type 0 where
+  pub push : IsPushBefore p.stmts index site
+  pub listed : slice_get p.sites site ≡ Some push.place
+
+-- A warning of a report on a text is of one of its nodes, a `*` at the warning's place whose operand has its name. Its kind is that of an
+-- invalid iterator or of one at the end. The first has killers, and each of them is a site of the text before the node.
+pub record IsFounded (p : TypedCode) (w : Warning) : Type 0 where
+  pub index : ℕ
+  pub iterator : ℕ
+  pub name : ℕ
+  pub there : slice_get p.stmts index ≡ Some (Dereference w.place iterator name)
+  pub named : w.name ≡ slice_get p.names name
+  pub kind : (w.kind ≡ 1) ⊎ (w.kind ≡ 4)
+  pub killed : w.kind ≡ 1 → 0 < length w.killers
+  pub killers : (site : ℕ) → Contains w.killers site → IsSiteBefore p index site
