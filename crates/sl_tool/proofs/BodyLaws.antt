@@ -70,7 +70,7 @@ followed s tokens room i is begins allowed some h = record {
 }
 
 -- the words behind the first statement
-pub words_behind : (tokens : List Token) (i : Item) (ws : List Word) → words_in tokens ≡ item_words i ++ ws → words_in (drop (length (item_words i)) tokens) ≡ ws
+words_behind : (tokens : List Token) (i : Item) (ws : List Word) → words_in tokens ≡ item_words i ++ ws → words_in (drop (length (item_words i)) tokens) ≡ ws
 words_behind tokens i ws e =
     sym (drop-map (λ (t : Token). t.word) (length (item_words i)) tokens)
     ∙ ap (λ l. drop (length (item_words i)) l) e

@@ -45,7 +45,7 @@ after_trap names w (Returned v s) rest h = absurd h
 after_trap names w (Over e s) rest h = h
 
 -- one statement and then others, by what is warned of at the statement
-pub goes-or-traps : (names : List (List ℕ)) (k : Known) (n : ℕ) (now later : List Warning) (w : Warning) (ws : List Warning) (flow : Flow) (rest : Meaning) → now ++ later ≡ w ∷ ws → GoesOrTraps names k n now flow
+goes-or-traps : (names : List (List ℕ)) (k : Known) (n : ℕ) (now later : List Warning) (w : Warning) (ws : List Warning) (flow : Flow) (rest : Meaning) → now ++ later ≡ w ∷ ws → GoesOrTraps names k n now flow
     → ((s : State) → IsPlain k n s → later ≡ w ∷ ws → EndsTrapped names w (rest s)) → EndsTrapped names w (and_then flow rest)
 goes-or-traps names k n [] later w ws flow rest e h go = after_on names k n w flow rest h (λ s p. go s p e)
 goes-or-traps names k n (v ∷ vs) later w ws flow rest e h go = let same : v ≡ w = cc in after_trap names w flow rest (rw (← same) h)

@@ -19,11 +19,12 @@ use Rattle.sl_tool.specs.Analysis.{nothing_known, warnings_of}
 use Rattle.sl_tool.specs.Told.{kind_of, killers_in, warning_of, report_of}
 use Rattle.sl_tool.specs.Form.{head_words, no_scope, typed_items, push_places, ReadsAs, IsBuilt, UsesDeclared}
 use Rattle.sl_tool.specs.Reading.{AreItems}
-use Rattle.sl_tool.specs.Exactness.{IsExact, IsPushBefore, HasCause, IsOfNode, AreInOrder, PlacesAscend, IsFounded}
+use Rattle.sl_tool.specs.Exactness.{IsExact, IsPushBefore, HasCause, IsOfNode, AreInOrder, AreOnce, PlacesAscend, IsFounded, Ascend}
 use Rattle.sl_tool.proofs.Goes.{get-left}
 use Rattle.sl_tool.proofs.Exactness.{is_exact}
 use Rattle.sl_tool.proofs.Causes.{has-node}
-use Rattle.sl_tool.proofs.InOrder.{told_one, in-order}
+use Rattle.sl_tool.proofs.KillersAscend.{killers-ascend}
+use Rattle.sl_tool.proofs.InOrder.{told_one, in-order, once}
 use Rattle.sl_tool.proofs.Ascending.{TokensAscend, tokens-ascend}
 use Rattle.sl_tool.proofs.Built.{places-ascend, count_items, uses_items, site_in}
 use Rattle.sl_model.proofs.Getting.{get_drop}
@@ -70,9 +71,13 @@ site_listed tokens p r m place v name site z h =
 pub exact-built : (text : List ℕ) (p : Typed) → IsBuilt text p → IsExact (typed_of p) (report_of p.names (warnings_of nothing_known p.stmts))
 exact-built text p (tokens, cut, r) = is_exact p (uses-declared tokens p r) (few-statements tokens p r)
 
--- It is in order, and so has no place and kind twice.
+-- It is in order.
 pub order-built : (text : List ℕ) (p : Typed) → IsBuilt text p → AreInOrder (report_of p.names (warnings_of nothing_known p.stmts))
 order-built text p (tokens, cut, r) = in-order p.stmts p.names (stars-ascend text tokens p cut r)
+
+-- It has no place and kind twice.
+pub once-built : (text : List ℕ) (p : Typed) → IsBuilt text p → AreOnce (report_of p.names (warnings_of nothing_known p.stmts))
+once-built text p built = once (report_of p.names (warnings_of nothing_known p.stmts)) (order-built text p built)
 
 -- a fault is of one of two kinds
 two_kinds : (fault : Fault) → (kind_of fault ≡ 1) ⊎ (kind_of fault ≡ 4)
@@ -89,16 +94,23 @@ killer_site : (stmts : List Stmt) (index site : ℕ) (fault : Fault) → HasCaus
 killer_site stmts index site (InvalidIterator killers) h c = h.1 site c
 killer_site stmts index site EndIterator h c = absurd (let lt = c.1 in omega arith)
 
+-- killers ascend
+ascending : (tokens : List Token) (p : Typed) → ReadsAs tokens p → (i : ℕ) (w : Warning) → slice_get (warnings_of nothing_known p.stmts) i ≡ Some w → Ascend (killers_in w.fault)
+ascending tokens p r i w h = killers-ascend (body_of tokens) r.items i w (subst (λ (l : List Stmt). slice_get (warnings_of nothing_known l) i ≡ Some w) (stmts_are tokens p r) h)
+
 -- a warning of a node is founded
-founded : (tokens : List Token) (p : Typed) → ReadsAs tokens p → (m : ℕ) (w : Warning) → IsOfNode p.stmts m w → IsFounded p (warning_of p.names w)
-founded tokens p r m w h = record {
+founded : (tokens : List Token) (p : Typed) → ReadsAs tokens p → (m : ℕ) (w : Warning) → IsOfNode p.stmts m w → Ascend (killers_in w.fault) → IsFounded p (warning_of p.names w)
+founded tokens p r m w h ascend = record {
   index = m;
   iterator = h.iterator;
   name = w.name;
   there = h.there;
   named = refl;
+  call = refl;
+  argument = refl;
   kind = two_kinds w.fault;
   killed = some_killers p.stmts m w.fault h.cause;
+  ascend = ascend;
   killers = λ site c. let push : IsPushBefore p.stmts m site = killer_site p.stmts m site w.fault h.cause c in
       record { push = push; listed = site_listed tokens p r push.at push.place push.vector push.name site push.number push.there };
 }
@@ -108,4 +120,4 @@ pub founded-built : (text : List ℕ) (p : Typed) → IsBuilt text p → (i : �
 founded-built text p (tokens, cut, r) i w h =
     let v = told_one p.names (warnings_of nothing_known p.stmts) i w h in
     let node = has-node p.stmts i v.0 v.1 in
-    rw v.2 (founded tokens p r node.0 v.0 node.1)
+    rw v.2 (founded tokens p r node.0 v.0 node.1 (ascending tokens p r i v.0 v.1))

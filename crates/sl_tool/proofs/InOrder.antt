@@ -2,6 +2,7 @@
 use Rattle.std.proofs.Common.{arith, ◌≡◌, ℕ, zero, suc, ◌<◌, Bool, true, false, List, [], ◌∷◌, ◌++◌, drop, Some, inl, inr, refl, ap, sym, ◌∙◌}
 use Rattle.std.specs.Prelude.{slice_get}
 use Rattle.std.proofs.lemmas.Option.{slice_get_within}
+use Rattle.std.proofs.lemmas.Bool.{cases_order}
 use Rattle.sl_base.specs.declared.place.Place.{Place}
 use Rattle.sl_syntax.specs.declared.typed.Stmt.{Stmt}
 use Rattle.sl_syntax.specs.declared.typed.Stmt.TheVariants.{Vector, PushBack, Begin, Dereference}
@@ -9,7 +10,7 @@ use Rattle.sl_model.specs.Covers.{Warning as WarningValue}
 use Rattle.sl_tool.specs.declared.analysis.Warning.{Warning}
 use Rattle.sl_tool.specs.Analysis.{Known, nothing_known, killers_of, standing_at, is_filled, invalid_at, end_at, warned, known_after, warnings_of}
 use Rattle.sl_tool.specs.Told.{kind_of, warning_of, report_of}
-use Rattle.sl_tool.specs.Exactness.{IsOfNode, AreInTurn, IsBefore, AreInOrder, PlacesAscend}
+use Rattle.sl_tool.specs.Exactness.{IsOfNode, AreInTurn, IsBefore, AreInOrder, AreOnce, PlacesAscend}
 use Rattle.sl_tool.proofs.Causes.{ArePushes, joined, first_behind, rest_behind, of_node, pushes_after, of_one}
 
 -- one warning has the kind of another that it is
@@ -103,3 +104,17 @@ in-order stmts names ascend i j v w lt a b =
     let p = told_one names (warnings_of nothing_known stmts) i v a in
     let q = told_one names (warnings_of nothing_known stmts) j w b in
     rw (p.2, q.2) (before stmts names p.0 q.0 ascend (are-in-turn stmts i j p.0 q.0 lt p.1 q.1))
+
+-- no warning comes before one of its place and kind
+not_before : (v w : WarningValue) → v.place ≡ w.place → v.kind ≡ w.kind → IsBefore v w → ⊥
+not_before v w e q (inl (inl lt)) = let line : v.place.line ≡ w.place.line = ap (λ (p : Place). p.line) e in omega arith
+not_before v w e q (inl (inr lt)) = let col : v.place.col ≡ w.place.col = ap (λ (p : Place). p.col) e in let less = lt.1 in omega arith
+not_before v w e q (inr lt) = let less = lt.1 in omega arith
+
+-- what comes in order has no place and kind twice
+pub once : (r : List WarningValue) → AreInOrder r → AreOnce r
+once r h i j v w a b e q = elim (cases_order i j) [
+  | inl same ↦ same
+  | inr (inl lt) ↦ absurd (not_before v w e q (h i j v w lt a b))
+  | inr (inr lt) ↦ absurd (not_before w v (sym e) (sym q) (h j i w v lt b a))
+]

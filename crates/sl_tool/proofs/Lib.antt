@@ -16,6 +16,7 @@ pub mod Causes
 pub mod InOrder
 pub mod Ascending
 pub mod Built
+pub mod KillersAscend
 pub mod Founded
 pub mod TextLaws
 pub mod ItemLaws

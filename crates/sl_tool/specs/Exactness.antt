@@ -1,15 +1,16 @@
--- No report warns without cause: the plainest run of a text ends in the failure that the first warning tells of. So a report is empty
--- exactly where the text is safe.
-use Rattle.std.specs.Prelude.{◌≡◌, ◌↔◌, ◌⊎◌, ℕ, ◌<◌, List, [], ◌∷◌, length, Some, Contains, slice_get}
-use Rattle.sl_base.specs.declared.place.Place.{Place}
+-- A report that warns has a cause: the plainest run of the text ends in the failure that the first warning tells of. So a report is empty
+-- exactly where the text is safe. Behind its first warning a report may warn of a `*` that no run reaches: it tells of the runs that would
+-- go on. Each warning is of a node of the text, and warnings come in the text's order.
+use Rattle.std.specs.Prelude.{◌≡◌, ◌↔◌, ◌⊎◌, ℕ, ◌<◌, List, [], ◌∷◌, length, Some, Contains, slice_get, codes}
 use Rattle.sl_base.specs.declared.limits.TheConstants.{STATEMENTS}
+use Rattle.sl_base.specs.declared.place.Place.{Place}
+use Rattle.sl_syntax.specs.declared.typed.Stmt.{Stmt}
+use Rattle.sl_syntax.specs.declared.typed.Stmt.TheVariants.{PushBack, Dereference}
+use Rattle.sl_syntax.specs.declared.typed.Typed.{Typed as TypedCode}
 use Rattle.sl_syntax.specs.Typed.{Typed}
 use Rattle.sl_model.specs.Ends.{Trapped, Trap, Finish}
 use Rattle.sl_model.specs.Run.{run}
 use Rattle.sl_model.specs.Covers.{Warning, Tells, Safe}
-use Rattle.sl_syntax.specs.declared.typed.Stmt.{Stmt}
-use Rattle.sl_syntax.specs.declared.typed.Stmt.TheVariants.{PushBack, Dereference}
-use Rattle.sl_syntax.specs.declared.typed.Typed.{Typed as TypedCode}
 use Rattle.sl_tool.specs.declared.analysis.Warning.{Warning as WarningCode}
 use Rattle.sl_tool.specs.declared.analysis.Fault.{Fault}
 use Rattle.sl_tool.specs.declared.analysis.Fault.TheVariants.{InvalidIterator, EndIterator}
@@ -69,27 +70,38 @@ IsPlaceBefore p q = (p.line < q.line) ⊎ ((p.line ≡ q.line) × (p.col < q.col
 abbrev pub IsBefore : Warning → Warning → Type 0
 IsBefore v w = IsPlaceBefore v.place w.place ⊎ ((v.place ≡ w.place) × (v.kind < w.kind))
 
--- each warning comes before those behind it, so that no two have one place and one kind
+-- each warning comes before those behind it
 abbrev pub AreInOrder : List Warning → Type 0
 AreInOrder r = (i j : ℕ) (v w : Warning) → i < j → slice_get r i ≡ Some v → slice_get r j ≡ Some w → IsBefore v w
+
+-- no two warnings have one place and one kind
+abbrev pub AreOnce : List Warning → Type 0
+AreOnce r = (i j : ℕ) (v w : Warning) → slice_get r i ≡ Some v → slice_get r j ≡ Some w → v.place ≡ w.place → v.kind ≡ w.kind → i ≡ j
 
 -- the places of each `*` come in their order
 abbrev pub PlacesAscend : List Stmt → Type 0
 PlacesAscend stmts = (i j it jt name other : ℕ) (p q : Place) → i < j → slice_get stmts i ≡ Some (Dereference p it name) → slice_get stmts j ≡ Some (Dereference q jt other) → IsPlaceBefore p q
+
+-- the numbers ascend
+abbrev pub Ascend : List ℕ → Type 0
+Ascend ns = (i j a b : ℕ) → i < j → slice_get ns i ≡ Some a → slice_get ns j ≡ Some b → a < b
 
 -- a site that is numbered in the text: the place with this number is that of a `push_back` before an index
 pub record IsSiteBefore (p : TypedCode) (index site : ℕ) : Type 0 where
   pub push : IsPushBefore p.stmts index site
   pub listed : slice_get p.sites site ≡ Some push.place
 
--- A warning of a report on a text is of one of its nodes, a `*` at the warning's place whose operand has its name. Its kind is that of an
--- invalid iterator or of one at the end. The first has killers, and each of them is a site of the text before the node.
+-- A warning of a report on a text is of one of its nodes, a `*` at the warning's place whose operand, argument 1, has its name. Its kind
+-- is that of an invalid iterator, or of one at the end. The first has killers; they ascend, and each is a site of the text before the node.
 pub record IsFounded (p : TypedCode) (w : Warning) : Type 0 where
   pub index : ℕ
   pub iterator : ℕ
   pub name : ℕ
   pub there : slice_get p.stmts index ≡ Some (Dereference w.place iterator name)
   pub named : w.name ≡ slice_get p.names name
+  pub call : w.call ≡ codes "*"
+  pub argument : w.argument ≡ 1
   pub kind : (w.kind ≡ 1) ⊎ (w.kind ≡ 4)
   pub killed : w.kind ≡ 1 → 0 < length w.killers
+  pub ascend : Ascend w.killers
   pub killers : (site : ℕ) → Contains w.killers site → IsSiteBefore p index site
