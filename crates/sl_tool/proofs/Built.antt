@@ -1,7 +1,9 @@
 -- The statements of a text that is built of tokens: their count, what they use, and their places and sites.
 use Rattle.std.proofs.Common.{arith, ◌≡◌, ℕ, zero, suc, ◌+◌, ◌-◌, ◌<◌, List, [], ◌∷◌, length, drop, map, Some, refl, ap, sym, subst, ◌∙◌}
 use Rattle.std.specs.Prelude.{slice_get}
+use Rattle.std.specs.Option.{option_map}
 use Rattle.std.proofs.Math.ListN.{length-map}
+use Rattle.std.proofs.lemmas.Option.{slice_get-map}
 use Rattle.sl_base.specs.declared.place.Place.{Place}
 use Rattle.sl_base.specs.declared.token.Token.{Token}
 use Rattle.sl_syntax.specs.declared.typed.Stmt.TheVariants.{PushBack, Dereference}
@@ -13,12 +15,6 @@ use Rattle.sl_tool.proofs.BodyLaws.{behind, uses_declared}
 use Rattle.sl_tool.proofs.Lists.{there, get_or-there}
 use Rattle.sl_model.proofs.Getting.{get_drop}
 
--- an element of a list that a function gave
-get_map : {A B : Type 0} (f : A → B) (xs : List A) (i : ℕ) (x : A) → slice_get xs i ≡ Some x → slice_get (map f xs) i ≡ Some (f x)
-get_map f [] i x h = absurd cc
-get_map f (y ∷ xs) zero x h = let e : y ≡ x = cc in ap (λ z. Some (f z)) e
-get_map f (y ∷ xs) (suc i) x h = get_map f xs i x h
-
 -- the token at a place of these has this place in the text
 abbrev IsPlaceOf : List Token → ℕ → Place → Type 0
 IsPlaceOf tokens k p = (t : Token) × (slice_get tokens k ≡ Some t) × (t.place ≡ p)
@@ -27,7 +23,7 @@ IsPlaceOf tokens k p = (t : Token) × (slice_get tokens k ≡ Some t) × (t.plac
 place_there : (tokens : List Token) (k : ℕ) → k < length tokens → IsPlaceOf tokens k (place_in tokens k)
 place_there tokens k h =
     let t = there tokens k h in
-    (t.0, t.1, sym (get_or-there (map (λ (t : Token). t.place) tokens) k t.0.place (record { line = 1; col = 1 }) (get_map (λ (t : Token). t.place) tokens k t.0 t.1)))
+    (t.0, t.1, sym (get_or-there (map (λ (t : Token). t.place) tokens) k t.0.place (record { line = 1; col = 1 }) (slice_get-map (λ (t : Token). t.place) tokens k ∙ ap (option_map (λ (t : Token). t.place)) t.1)))
 
 -- what is so many tokens further on
 place_behind : (tokens : List Token) (n k : ℕ) (p : Place) → IsPlaceOf (drop n tokens) k p → IsPlaceOf tokens (n + k) p
