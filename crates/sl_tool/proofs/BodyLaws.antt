@@ -76,7 +76,7 @@ words_behind tokens i ws e =
     ∙ ap (λ l. drop (length (item_words i)) l) e
     ∙ drop-append_seam (item_words i) ws
 
-behind : (s : Scope) (tokens : List Token) (room : ℕ) (i : Item) (is : List Item) → AreItems s tokens room (i ∷ is) → AreItems (after_item s i) (drop (length (item_words i)) tokens) (room - 1) is
+pub behind : (s : Scope) (tokens : List Token) (room : ℕ) (i : Item) (is : List Item) → AreItems s tokens room (i ∷ is) → AreItems (after_item s i) (drop (length (item_words i)) tokens) (room - 1) is
 behind s tokens room i is h = record {
   words = words_behind tokens i _ (h.words ∙ append_assoc (item_words i) (flat_map item_words is) (Mark RightBrace ∷ []));
   allowed = h.allowed.1;
@@ -100,7 +100,7 @@ push_places-cons tokens (begin_item name vector) is = refl
 push_places-cons tokens (dereference_item name iterator) is = refl
 
 -- a statement uses what is declared
-uses_declared : (s : Scope) (tokens : List Token) (i : Item) (ss : List Stmt) → IsAllowed s i → UsesDeclared (length (after_item s i).vectors) (length (after_item s i).iterators) ss → UsesDeclared (length s.vectors) (length s.iterators) (typed_item s tokens i ∷ ss)
+pub uses_declared : (s : Scope) (tokens : List Token) (i : Item) (ss : List Stmt) → IsAllowed s i → UsesDeclared (length (after_item s i).vectors) (length (after_item s i).iterators) ss → UsesDeclared (length s.vectors) (length s.iterators) (typed_item s tokens i ∷ ss)
 uses_declared s tokens (vector_item name) ss allowed h = rw length-append at h
 uses_declared s tokens (push_back_item vector number) ss allowed h = (number_below s.vectors vector allowed.0, h)
 uses_declared s tokens (begin_item name vector) ss allowed h = (number_below s.vectors vector allowed.1, rw length-append at h)

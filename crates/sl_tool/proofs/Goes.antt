@@ -34,7 +34,7 @@ EndsTold names ws flow = Unit {0}
 pub ticked : (names : List (List ℕ)) (k : Known) (ws : List Warning) (go : Meaning) (s : State) → ((n : ℕ) → Goes names k ws (go (record s { steps = n }))) → Goes names k ws (tick go s)
 ticked names k ws go s next = elim s.steps as (λ n. Goes names k ws (elim n as (λ _. Flow) [ zero ↦ Over OutOfSteps s | suc m ↦ go (record s { steps = m }) ])) [ zero ↦ tt | suc n ↦ next n ]
 
-get-left : {A : Type 0} (xs ys : List A) (x : A) (i : ℕ) → slice_get xs i ≡ Some x → slice_get (xs ++ ys) i ≡ Some x
+pub get-left : {A : Type 0} (xs ys : List A) (x : A) (i : ℕ) → slice_get xs i ≡ Some x → slice_get (xs ++ ys) i ≡ Some x
 get-left [] ys x i h = absurd cc
 get-left (z ∷ xs) ys x zero h = h
 get-left (z ∷ xs) ys x (suc i) h = get-left xs ys x i h

@@ -24,7 +24,7 @@ use Rattle.sl_tool.proofs.Calls.{cont_at-there}
 use Rattle.sl_model.proofs.Making.{made-sound, made-at}
 use Rattle.sl_model.proofs.AfterEdit.{after-sound, after-at-other, after-at-own, after-killed, after-dead, size-after}
 
-length-more : {A : Type 0} (xs : List A) (x : A) → length (xs ++ x ∷ []) ≡ length xs + 1
+pub length-more : {A : Type 0} (xs : List A) (x : A) → length (xs ++ x ∷ []) ≡ length xs + 1
 length-more xs x = length-append xs (x ∷ [])
 
 -- the frame of one variable more

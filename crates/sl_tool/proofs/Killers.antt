@@ -32,7 +32,7 @@ sites_on-last : (v site : ℕ) (ps : List Push) → Contains (sites_on v (ps ++ 
 sites_on-last v site [] = rw (eq-eqb v v refl) (Contains-head site [])
 sites_on-last v site (p ∷ ps) = last_case (p.vector == v) p.site site (sites_on v (ps ++ record { vector = v; site = site } ∷ [])) (sites_on-last v site ps)
 
-drop-more : (n : ℕ) (ps : List Push) (q : Push) → n ≤ length ps → drop n (ps ++ q ∷ []) ≡ drop n ps ++ q ∷ []
+pub drop-more : (n : ℕ) (ps : List Push) (q : Push) → n ≤ length ps → drop n (ps ++ q ∷ []) ≡ drop n ps ++ q ∷ []
 drop-more zero ps q h = refl
 drop-more (suc n) [] q h = absurd (omega arith)
 drop-more (suc n) (p ∷ ps) q h = drop-more n ps q (omega arith)

@@ -7,6 +7,16 @@ pub mod Killers
 pub mod Kept
 pub mod Steps
 pub mod Soundness
+pub mod NoKillers
+pub mod Exactly
+pub mod ExactSteps
+pub mod Exactness
+pub mod Causes
+pub mod InOrder
+pub mod Ascending
+pub mod Built
+pub mod KillersAscend
+pub mod Founded
 pub mod TextLaws
 pub mod ItemLaws
 pub mod NameLaws

@@ -27,7 +27,7 @@ use Rattle.sl_tool.proofs.Describes.{Describes}
 use Rattle.sl_tool.proofs.Goes.{EndsTold, IsTold, goes-on}
 use Rattle.sl_tool.proofs.Steps.{world_of, goes-vector, goes-push_back, goes-begin, goes-star}
 
-same_uses : (a b c d : ℕ) (ss : List Stmt) → a ≡ c → b ≡ d → UsesDeclared a b ss → UsesDeclared c d ss
+pub same_uses : (a b c d : ℕ) (ss : List Stmt) → a ≡ c → b ≡ d → UsesDeclared a b ss → UsesDeclared c d ss
 same_uses a b c d ss e q h = rw (← e, ← q) h
 
 -- the statements from a state that is described
@@ -51,7 +51,7 @@ none_at : (j k s : ℕ) → IsAt empty_memory j k s → ⊥
 none_at j k s h = let e = h.there in cc
 
 -- a run begins where nothing is known
-begins : (input : List ℤ) (picks : List ℕ) (steps : ℕ) → let s : State = empty_state input picks steps in Describes nothing_known s.memory s.frame s.iters
+pub begins : (input : List ℤ) (picks : List ℕ) (steps : ℕ) → let s : State = empty_state input picks steps in Describes nothing_known s.memory s.frame s.iters
 begins input picks steps = record {
   sound = record {
     once = λ j k i h s a b. absurd (none_at j k s a);

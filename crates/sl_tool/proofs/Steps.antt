@@ -41,14 +41,14 @@ pub goes-vector : (names : List (List ℕ)) (k : Known) (own : Oracle) (place : 
 goes-vector names k own place s d = ticked names (with_vector k) [] (declared (world_of own) (makes f.Vector (free_call (row vector_row) place []) none)) s (λ n. kept-vector k s.memory s.frame s.iters (pick s.picks) d)
 
 -- a vector that is in scope is there, at the location of its number
-vector_in : (k : Known) (m : Memory) (frame : Frame) (iters : List ℕ) (v : ℕ) → Describes k m frame iters → v < length k.filled → (c : Cont) × (slice_get m.conts v ≡ Some c)
+pub vector_in : (k : Known) (m : Memory) (frame : Frame) (iters : List ℕ) (v : ℕ) → Describes k m frame iters → v < length k.filled → (c : Cont) × (slice_get m.conts v ≡ Some c)
 vector_in k m frame iters v d h = there m.conts v (let e = d.vectors in omega arith)
 
-located : (at : List ℕ) (n v : ℕ) → at ≡ numbers 0 n → v < n → get_or at v 0 ≡ v
+pub located : (at : List ℕ) (n v : ℕ) → at ≡ numbers 0 n → v < n → get_or at v 0 ≡ v
 located at n v e h = ap (λ l. get_or l v 0) e ∙ number-at n v h
 
 -- what follows a `push_back`
-abbrev push_flow : Head → List Value → State → LibOut → Flow
+abbrev pub push_flow : Head → List Value → State → LibOut → Flow
 push_flow h vs s out = flow_of (settle_call h vs out s) (λ v. Next)
 
 push_case : (names : List (List ℕ)) (k : Known) (h : Head) (vs : List Value) (s : State) (v : ℕ) (c : Cont) (z : ℤ) (site : ℕ) → Describes k s.memory s.frame s.iters → slice_get s.memory.conts v ≡ Some c

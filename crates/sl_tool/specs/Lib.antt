@@ -9,3 +9,4 @@ pub mod Analysis
 pub mod KnownView
 pub mod Told
 pub mod Reading
+pub mod Exactness

@@ -1,0 +1,190 @@
+-- What each statement of a text of the form does in the plainest run: where it isn't warned of, the run goes on; where it is, the run
+-- ends in a trap that the first warning tells of.
+use Rattle.std.proofs.Common.{arith, ◌≡◌, ℕ, zero, suc, ◌+◌, ◌<◌, ◌≤◌, Bool, true, false, List, [], ◌∷◌, ◌++◌, length, get_or, drop, Option, Some, None, refl, ap, sym, subst, ◌∙◌, if◌then◌else◌}
+use Rattle.std.specs.Prelude.{slice_get, nat_lt, Contains, ℤ, pos}
+use Rattle.std.proofs.lemmas.Bool.{ltb-true, ltb-false, eq-eqb, ne_eqb}
+use Rattle.sl_base.specs.declared.form.Form.TheVariants as f
+use Rattle.sl_base.specs.declared.scalar.Scalar.TheVariants as t
+use Rattle.sl_base.specs.declared.place.Place.{Place}
+use Rattle.sl_base.specs.declared.limits.TheConstants.{ELEMENTS}
+use Rattle.sl_syntax.specs.declared.typed.Stmt.TheVariants.{Vector, PushBack, Begin, Dereference}
+use Rattle.sl_syntax.specs.Typed.{Head, row, operator, star, makes, none, with, literal, iterator as iterator_operand, held, element, call, evaluates, set_iterator, set_scalar}
+use Rattle.sl_syntax.specs.View.{stmt_of, free_call, member_call, vector_row, begin_row, push_back_row}
+use Rattle.sl_model.specs.Containers.{Cont, size, cont_at, killer}
+use Rattle.sl_model.specs.Schedule.{pick}
+use Rattle.sl_model.specs.Values.{Value, number, iterator, nothing, LibOut, thrown, trapped, gives}
+use Rattle.sl_model.specs.Good.{IsAt}
+use Rattle.sl_model.specs.Ends.{Trapped, OutOfSteps, End}
+use Rattle.sl_model.specs.State.{State, cont_of, iter_of, stamp_of, new_iterator}
+use Rattle.sl_model.specs.Eval.{Oracle, settle_call}
+use Rattle.sl_model.specs.Exec.{Flow, Next, Over, Meaning, tick, exec, flow_of, on_stamp, declared, affect}
+use Rattle.sl_model.specs.Rows.{grown_picks}
+use Rattle.sl_model.specs.Library.{lib}
+use Rattle.sl_model.specs.Covers.{Tells}
+use Rattle.sl_tool.specs.declared.analysis.Warning.{Warning}
+use Rattle.sl_tool.specs.declared.analysis.Fault.TheVariants.{InvalidIterator}
+use Rattle.sl_tool.specs.declared.analysis.Standing.{Standing}
+use Rattle.sl_tool.specs.Analysis.{Known, killers_of, standing_at, is_filled, with_vector, with_push, with_iterator, found_valid, dereferenced, invalid_at, end_at}
+use Rattle.sl_tool.specs.Told.{warning_of}
+use Rattle.sl_tool.proofs.Describes.{Describes}
+use Rattle.sl_tool.proofs.Lists.{there, get_or-there}
+use Rattle.sl_tool.proofs.Calls.{lib-begin, lib-push_back, pushed_back, lib-star_valid, lib-star_invalid, at_element, cont_at-there}
+use Rattle.sl_tool.proofs.Kept.{kept-vector, kept-begin, kept-valid, kept-push, after_push}
+use Rattle.sl_tool.proofs.Steps.{world_of, vector_in, located, push_flow, star_flow}
+use Rattle.sl_tool.proofs.Exactly.{IsPlain, IsGone, stands_still, full-vector, full-begin, full-valid, full-push}
+use Rattle.sl_model.proofs.Located.{locate-at, locate-dropped}
+use Rattle.sl_model.proofs.Buried.{dropped-killer}
+
+-- a statement goes on to a state of the plainest run with at least so many steps
+abbrev pub GoesOn : Known → ℕ → Flow → Type 0
+GoesOn k n (Next s) = IsPlain k n s
+GoesOn k n flow = ⊥
+
+-- a run ends in a trap that a warning tells of
+abbrev pub IsTrap : List (List ℕ) → Warning → End → Type 0
+IsTrap names w (Trapped t) = Tells names (warning_of names w) t
+IsTrap names w end = ⊥
+
+abbrev pub EndsTrapped : List (List ℕ) → Warning → Flow → Type 0
+EndsTrapped names w (Over e s) = IsTrap names w e
+EndsTrapped names w flow = ⊥
+
+-- where nothing is warned of, a statement goes on; else the run ends in a trap that the first warning tells of
+abbrev pub GoesOrTraps : List (List ℕ) → Known → ℕ → List Warning → Flow → Type 0
+GoesOrTraps names k n [] flow = GoesOn k n flow
+GoesOrTraps names k n (w ∷ ws) flow = EndsTrapped names w flow
+
+-- where a step is left, it is taken
+pub steps-on : (P : Flow → Type 0) (go : Meaning) (n : ℕ) (s : State) → n + 1 ≤ s.steps → ((m : ℕ) → n ≤ m → P (go (record s { steps = m }))) → P (tick go s)
+steps-on P go n s some next = by_steps s.steps some
+  where
+    by_steps : (m : ℕ) → n + 1 ≤ m → P (elim m as (λ _. Flow) [ zero ↦ Over OutOfSteps s | suc r ↦ go (record s { steps = r }) ])
+    by_steps zero h = absurd (omega arith)
+    by_steps (suc r) h = next r (omega arith)
+
+-- none are left of none
+none_left : (n : ℕ) (xs : List ℕ) → xs ≡ [] → drop n xs ≡ []
+none_left zero xs e = e
+none_left (suc n) [] e = refl
+none_left (suc n) (x ∷ xs) e = absurd cc
+
+pub plain-vector : (k : Known) (own : Oracle) (place : Place) (n : ℕ) (s : State) → IsPlain k (n + 1) s → GoesOn (with_vector k) n (exec (world_of own) (stmt_of (Vector place)) s)
+plain-vector k own place n s p =
+    steps-on (GoesOn (with_vector k) n) (declared (world_of own) (makes f.Vector (free_call (row vector_row) place []) none)) n s p.steps (λ m left.
+    record {
+      described = kept-vector k s.memory s.frame s.iters (pick s.picks) p.described;
+      full = full-vector k s.memory s.iters (pick s.picks) (ap pick p.picks) p.full;
+      picks = none_left 1 s.picks p.picks;
+      steps = left;
+    })
+
+pub plain-begin : (k : Known) (own : Oracle) (place : Place) (v name n : ℕ) (s : State) → IsPlain k (n + 1) s → v < length k.filled → GoesOn (with_iterator k v) n (exec (world_of own) (stmt_of (Begin place v name)) s)
+plain-begin k own place v name n s p lt =
+    let h : Head = member_call begin_row place 0 v name in
+    let d : Describes k s.memory s.frame s.iters = p.described in
+    let c = vector_in k s.memory s.frame s.iters v d lt in
+    let at : cont_of s v ≡ v = located s.frame.conts (length k.filled) v d.conts_frame lt in
+    steps-on (GoesOn (with_iterator k v) n) (declared (world_of own) (set_iterator (call h none))) n s p.steps (λ m left.
+    let now : State = record s { steps = m } in
+    subst (λ (out : LibOut). GoesOn (with_iterator k v) n (flow_of (settle_call h [] out now) (on_stamp (λ stamp t. Next (new_iterator stamp t)))))
+    (sym (ap (λ (j : ℕ). lib (row begin_row) (record { site = 0; object = Some j; values = [] }) s.memory s.picks) at
+    ∙ lib-begin s.memory v c.0 s.picks c.1 (d.forms v c.0 c.1)))
+    (record {
+      described = kept-begin k s.memory s.frame s.iters v c.0 d c.1;
+      full = full-begin k s.memory s.iters v _ d.iterators p.full;
+      picks = p.picks;
+      steps = left;
+    }))
+
+-- what follows a `push_back` where there is room for one element more
+push_plain : (k : Known) (h : Head) (vs : List Value) (n : ℕ) (s : State) (v : ℕ) (c : Cont) (z : ℤ) (site : ℕ) → IsPlain k n s → slice_get s.memory.conts v ≡ Some c → length k.pushes < ELEMENTS
+    → GoesOn (with_push k v site) n (push_flow h vs s (pushed_back s.memory v c z s.picks site))
+push_plain k h vs n s v c z site p at few = by_size (nat_lt ELEMENTS (size c + 1)) refl
+  where
+    by_size : (b : Bool) → nat_lt ELEMENTS (size c + 1) ≡ b → GoesOn (with_push k v site) n (push_flow h vs s (if b then thrown else gives nothing (after_push s.memory v c z s.picks site) (drop (grown_picks c 1) s.picks)))
+    by_size true e = absurd (let old = p.full.few v c at in let more = ltb-true ELEMENTS (size c + 1) e in omega arith)
+    by_size false e = record {
+      described = kept-push k s.memory s.frame s.iters v c z s.picks site p.described at (ltb-false ELEMENTS (size c + 1) e);
+      full = full-push k s.memory s.frame s.iters v c z s.picks site p.described at p.picks p.full;
+      picks = none_left (grown_picks c 1) s.picks p.picks;
+      steps = p.steps;
+    }
+
+pub plain-push : (k : Known) (own : Oracle) (place : Place) (v name site z n : ℕ) (s : State) → IsPlain k (n + 1) s → v < length k.filled → length k.pushes < ELEMENTS
+    → GoesOn (with_push k v site) n (exec (world_of own) (stmt_of (PushBack place v name site z)) s)
+plain-push k own place v name site z n s p lt few =
+    let h : Head = member_call push_back_row place site v name in
+    let d : Describes k s.memory s.frame s.iters = p.described in
+    let c = vector_in k s.memory s.frame s.iters v d lt in
+    let at : cont_of s v ≡ v = located s.frame.conts (length k.filled) v d.conts_frame lt in
+    steps-on (GoesOn (with_push k v site) n) (affect (world_of own) (evaluates (call h (with (literal t.Int (pos z)) none)))) n s p.steps (λ m left.
+    let now : State = record s { steps = m } in
+    subst (λ (out : LibOut). GoesOn (with_push k v site) n (push_flow h (number (pos z) ∷ []) now out))
+    (sym (ap (λ (j : ℕ). lib (row push_back_row) (record { site = site; object = Some j; values = number (pos z) ∷ [] }) s.memory s.picks) at
+    ∙ lib-push_back s.memory v c.0 (pos z) s.picks site c.1 (d.forms v c.0 c.1)))
+    (push_plain k h (number (pos z) ∷ []) n now v c.0 (pos z) site (record { described = d; full = p.full; picks = p.picks; steps = left }) c.1 few))
+
+-- `*` of an iterator that was dropped
+star_gone : (names : List (List ℕ)) (place : Place) (name stamp site x : ℕ) (xs killers : List ℕ) (s : State) → killers ≡ x ∷ xs → killer s.memory stamp ≡ Some site → Contains killers site
+    → EndsTrapped names (record { place = place; name = name; fault = InvalidIterator (x ∷ xs) }) (star_flow place name stamp s (trapped 1 1))
+star_gone names place name stamp site x xs killers s some e h = record {
+  place = refl;
+  kind = refl;
+  call = refl;
+  argument = refl;
+  name = refl;
+  killer = λ other q. let same : ◌≡◌ {A = Option ℕ} (Some site) (Some other) = sym e ∙ q in let is : site ≡ other = cc in subst (λ (l : List ℕ). Contains l other) some (subst (λ (y : ℕ). Contains killers y) is h);
+}
+
+-- `*` of an iterator that stands at the begin of its vector, which has elements or hasn't
+star_here : (names : List (List ℕ)) (k : Known) (place : Place) (name it stamp n : ℕ) (standing : Standing) (s : State) (filled : Bool) → IsPlain k n s → slice_get s.iters it ≡ Some stamp → IsAt s.memory standing.vector 0 stamp → is_filled k standing.vector ≡ filled
+    → GoesOrTraps names (found_valid k it standing) n (end_at place name filled) (star_flow place name stamp s (at_element standing.vector 0 (size (cont_at s.memory standing.vector)) s.memory s.picks))
+star_here names k place name it stamp n standing s filled p at here e =
+    let c : Cont = here.cont in
+    subst (λ (d : Cont). GoesOrTraps names (found_valid k it standing) n (end_at place name filled) (star_flow place name stamp s (at_element standing.vector 0 (size d) s.memory s.picks)))
+    (sym (cont_at-there s.memory standing.vector c here.there))
+    (by_filled filled (sym e ∙ p.described.filled standing.vector c here.there))
+  where
+    by_filled : (b : Bool) → b ≡ nat_lt 0 (size here.cont) → GoesOrTraps names (found_valid k it standing) n (end_at place name b) (star_flow place name stamp s (at_element standing.vector 0 (size here.cont) s.memory s.picks))
+    by_filled true q = rw (ne_eqb 0 (size here.cont) (λ none. let some = ltb-true 0 (size here.cont) (sym q) in omega arith)) (record {
+      described = kept-valid k s.memory s.frame s.iters (s.frame.scalars ++ length s.scalars ∷ []) it stamp standing p.described at here;
+      full = full-valid k s.memory s.iters it standing p.full;
+      picks = p.picks;
+      steps = p.steps;
+    })
+    by_filled false q = rw (eq-eqb 0 (size here.cont) (let none = ltb-false 0 (size here.cont) (sym q) in omega arith))
+        (record { place = refl; kind = refl; call = refl; argument = refl; name = refl; killer = λ other r. absurd cc })
+
+-- what the library gives at `*` of an iterator
+abbrev star_out : ℕ → State → LibOut
+star_out stamp s = lib (operator star) (record { site = 0; object = None; values = iterator stamp ∷ [] }) s.memory s.picks
+
+-- `*` of an iterator, by the calls that are behind its standing
+star_plain : (names : List (List ℕ)) (k : Known) (place : Place) (name it stamp n : ℕ) (standing : Standing) (s : State) (killers : List ℕ) → IsPlain k n s → slice_get s.iters it ≡ Some stamp → slice_get k.iterators it ≡ Some standing → killers_of k standing ≡ killers
+    → GoesOrTraps names (found_valid k it standing) n (invalid_at place name killers ++ end_at place name (is_filled k standing.vector)) (star_flow place name stamp s (star_out stamp s))
+star_plain names k place name it stamp n standing s [] p at known no_killers =
+    let here : IsAt s.memory standing.vector 0 stamp = stands_still k s.memory s.frame s.iters it stamp standing p.described at known no_killers in
+    subst (λ (out : LibOut). GoesOrTraps names (found_valid k it standing) n (end_at place name (is_filled k standing.vector)) (star_flow place name stamp s out))
+    (sym (lib-star_valid s.memory stamp standing.vector 0 s.picks (locate-at s.memory standing.vector 0 stamp p.described.sound here)))
+    (star_here names k place name it stamp n standing s (is_filled k standing.vector) p at here refl)
+star_plain names k place name it stamp n standing s (x ∷ xs) p at known some =
+    let gone : IsGone s.memory stamp k standing = p.full.gone it stamp standing at known x xs some in
+    subst (λ (out : LibOut). EndsTrapped names (record { place = place; name = name; fault = InvalidIterator (x ∷ xs) }) (star_flow place name stamp s out))
+    (sym (lib-star_invalid s.memory stamp s.picks (locate-dropped s.memory stamp gone.0 p.described.sound (dropped-killer s.memory stamp gone.0 gone.1))))
+    (star_gone names place name stamp gone.0 x xs (killers_of k standing) s some gone.1 gone.2)
+
+pub plain-star : (names : List (List ℕ)) (k : Known) (own : Oracle) (place : Place) (it name n : ℕ) (s : State) → IsPlain k (n + 1) s → it < length k.iterators
+    → GoesOrTraps names (found_valid k it (standing_at k it)) n (dereferenced k place name (standing_at k it)) (exec (world_of own) (stmt_of (Dereference place it name)) s)
+plain-star names k own place it name n s p lt =
+    let d : Describes k s.memory s.frame s.iters = p.described in
+    let standing : Standing = standing_at k it in
+    let known = there k.iterators it lt in
+    let stamp = there s.iters it (let e = d.iterators in omega arith) in
+    let at : iter_of s it ≡ it = located s.frame.iters (length k.iterators) it d.iters_frame lt in
+    let same : stamp_of s it ≡ stamp.0 = ap (λ l. get_or s.iters l 0) at ∙ get_or-there s.iters it stamp.0 0 stamp.1 in
+    let is : standing ≡ known.0 = get_or-there k.iterators it known.0 (record { vector = 0; since = 0 }) known.1 in
+    steps-on (GoesOrTraps names (found_valid k it standing) n (dereferenced k place name standing)) (declared (world_of own) (set_scalar t.Int (held (element (free_call (operator star) place (None ∷ Some name ∷ [])) (with (iterator_operand it) none))))) n s p.steps (λ m left.
+    let now : State = record s { steps = m } in
+    subst (λ (x : ℕ). GoesOrTraps names (found_valid k it standing) n (dereferenced k place name standing) (star_flow place name x now (star_out x now)))
+    (sym same)
+    (star_plain names k place name it stamp.0 n standing now (killers_of k standing) (record { described = d; full = p.full; picks = p.picks; steps = left }) stamp.1 (rw is known.1) refl))
