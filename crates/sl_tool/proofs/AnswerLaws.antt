@@ -3,7 +3,6 @@ use Rattle.std.proofs.Common.{◌≡◌, ◌≤◌, ◌++◌, ℕ, List, length,
 use Rattle.std.specs.declared.alloc.AllocError.{AllocError}
 use Rattle.std.specs.declared.alloc.Global.{Global}
 use Rattle.sl_syntax.specs.declared.typed.Typed.{Typed as TypedCode}
-use Rattle.sl_syntax.specs.View.{typed_of}
 use Rattle.sl_model.specs.Covers.{Warning}
 use Rattle.sl_model.specs.Texts.{report_text, refusal_line}
 use Rattle.sl_tool.specs.declared.refusal.Refusal.{Refusal}
@@ -17,7 +16,7 @@ use Rattle.sl_tool.specs.Answers.{AnswerTo, too_long, refused, reported, IsRepor
 
 -- the report on a text of the form is its answer
 pub AnswerTo-report : (file text : List ℕ) (p : TypedCode) (result : Result (Status × Vec ℕ Global) AllocError) → length text ≤ TEXT_BYTES → IsBuilt text p
-    → IfOk result (λ a. (r : List Warning) × IsReport (typed_of p) r × (a.0 ≡ status_of r) × (a.1.items ≡ report_text file p.sites r)) → IfOk result (λ a. AnswerTo file text a.0 a.1.items)
+    → IfOk result (λ a. (r : List Warning) × IsReport p r × (a.0 ≡ status_of r) × (a.1.items ≡ report_text file p.sites r)) → IfOk result (λ a. AnswerTo file text a.0 a.1.items)
 AnswerTo-report file text p (Ok a) short built h = rw (h.2, h.3) (reported short p built h.0 h.1)
 AnswerTo-report file text p (Err e) short built h = tt
 

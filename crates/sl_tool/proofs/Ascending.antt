@@ -1,6 +1,6 @@
 -- The places of tokens ascend.
 use Rattle.std.proofs.Common.{arith, ◌≡◌, ℕ, zero, suc, ◌+◌, ◌-◌, ◌<◌, ◌≤◌, Bool, true, false, not, List, [], ◌∷◌, length, take, drop, reverse, get_or, Option, Some, None, inl, inr, refl, ap, sym, subst, ◌∙◌, if◌then◌else◌}
-use Rattle.std.specs.Prelude.{slice_get}
+use Rattle.std.specs.Prelude.{slice_get, ◌||◌, is_some}
 use Rattle.std.specs.Option.{option_map}
 use Rattle.std.specs.List.{filter_map, cons_option, prefix_len}
 use Rattle.std.proofs.lemmas.List.{take_more, reverse-append}
@@ -69,19 +69,19 @@ tokens_case text from (Some w) rest zero t within others h = let e : token_at te
 tokens_case text from (Some w) rest (suc i) t within others h = others i h
 
 -- a piece has a byte and is within the text
-piece_at : (text : List ℕ) (p : Piece) (from : ℕ) → p.from ≡ from → Stands text p → (0 < p.len) × (from < length text)
-piece_at text p from e stands =
-    let some = piece-some text p.from p.kind p.len stands.longest.piece in
-    let within = piece-within text p.from p.kind p.len stands.longest.piece in
+piece_at : (text : List ℕ) (seen : Bool) (p : Piece) (from : ℕ) → p.from ≡ from → Stands text seen p → (0 < p.len) × (from < length text)
+piece_at text seen p from e stands =
+    let some = piece-some text seen p.from p.kind p.len stands.longest.piece in
+    let within = piece-within text seen p.from p.kind p.len stands.longest.piece in
     (some, omega arith)
 
 -- each token of some pieces begins where they begin or later
-token_in : (text : List ℕ) (from : ℕ) (ps : List Piece) (to : ℕ) → Follow text from ps to → (i : ℕ) (t : Token) → slice_get (filter_map (token_of text) ps) i ≡ Some t → IsTokenFrom text from t
-token_in text from [] to f i t h = absurd cc
-token_in text from (p ∷ ps) to f i t h =
-    let at = piece_at text p from f.0 f.1 in
+token_in : (text : List ℕ) (seen : Bool) (from : ℕ) (ps : List Piece) (to : ℕ) → Follow text seen from ps to → (i : ℕ) (t : Token) → slice_get (filter_map (token_of text) ps) i ≡ Some t → IsTokenFrom text from t
+token_in text seen from [] to f i t h = absurd cc
+token_in text seen from (p ∷ ps) to f i t h =
+    let at = piece_at text seen p from f.0 f.1 in
     tokens_case text from (word_of p.kind (take p.len (drop from text))) (filter_map (token_of text) ps) i t at.1
-    (λ j g. let r = token_in text (from + p.len) ps to f.2 j t g in ((let le = r.0 in omega arith), r.1, r.2))
+    (λ j g. let r = token_in text (seen || is_some (token_of text p)) (from + p.len) ps to f.2 j t g in ((let le = r.0 in omega arith), r.1, r.2))
     (subst (λ n. slice_get (cons_option (option_map (token_at text n) (word_of p.kind (take p.len (drop n text)))) (filter_map (token_of text) ps)) i ≡ Some t) f.0 h)
 
 -- the first of some tokens begins before the others, which begin in their order
@@ -94,14 +94,14 @@ offsets_case text from next (Some w) rest zero (suc j) s t lt step behind others
 offsets_case text from next (Some w) rest (suc i) (suc j) s t lt step behind others a b = others i j (omega arith) a b
 
 -- the offsets of tokens ascend
-offsets_ascend : (text : List ℕ) (from : ℕ) (ps : List Piece) (to : ℕ) → Follow text from ps to → (i j : ℕ) (s t : Token) → i < j → slice_get (filter_map (token_of text) ps) i ≡ Some s → slice_get (filter_map (token_of text) ps) j ≡ Some t → s.offset < t.offset
-offsets_ascend text from [] to f i j s t lt a b = absurd cc
-offsets_ascend text from (p ∷ ps) to f i j s t lt a b =
-    let at = piece_at text p p.from refl f.1 in
+offsets_ascend : (text : List ℕ) (seen : Bool) (from : ℕ) (ps : List Piece) (to : ℕ) → Follow text seen from ps to → (i j : ℕ) (s t : Token) → i < j → slice_get (filter_map (token_of text) ps) i ≡ Some s → slice_get (filter_map (token_of text) ps) j ≡ Some t → s.offset < t.offset
+offsets_ascend text seen from [] to f i j s t lt a b = absurd cc
+offsets_ascend text seen from (p ∷ ps) to f i j s t lt a b =
+    let at = piece_at text seen p p.from refl f.1 in
     let some = at.0 in
     offsets_case text p.from (p.from + p.len) (word_of p.kind (take p.len (drop p.from text))) (filter_map (token_of text) ps) i j s t lt (omega arith)
-    (λ k g. let r = token_in text (from + p.len) ps to f.2 k t g in let le = r.0 in let e = f.0 in omega arith)
-    (λ k l less x y. offsets_ascend text (from + p.len) ps to f.2 k l s t less x y) a b
+    (λ k g. let r = token_in text (seen || is_some (token_of text p)) (from + p.len) ps to f.2 k t g in let le = r.0 in let e = f.0 in omega arith)
+    (λ k l less x y. offsets_ascend text (seen || is_some (token_of text p)) (from + p.len) ps to f.2 k l s t less x y) a b
 
 -- the places of tokens come in their order
 abbrev pub TokensAscend : List Token → Type 0
@@ -113,7 +113,7 @@ tokens-ascend text tokens cut i j s t lt a b =
     let pieces : List Piece = cut.0 in
     let p = rw cut.2 at a in
     let q = rw cut.2 at b in
-    let first = token_in text 0 pieces (length text) cut.1 i s p in
-    let second = token_in text 0 pieces (length text) cut.1 j t q in
+    let first = token_in text false 0 pieces (length text) cut.1 i s p in
+    let second = token_in text false 0 pieces (length text) cut.1 j t q in
     let within = second.1 in
-    rw (first.2, second.2) (place-ascends text s.offset t.offset (offsets_ascend text 0 pieces (length text) cut.1 i j s t lt p q) (omega arith))
+    rw (first.2, second.2) (place-ascends text s.offset t.offset (offsets_ascend text false 0 pieces (length text) cut.1 i j s t lt p q) (omega arith))

@@ -23,7 +23,7 @@ use Rattle.sl_tool.specs.Analysis.{Known, nothing_known, standing_at, warned, wa
 use Rattle.sl_tool.specs.Form.{UsesDeclared}
 use Rattle.sl_tool.specs.Told.{report_of, warning_of}
 use Rattle.sl_tool.specs.Exactness.{IsMet, IsExact}
-use Rattle.sl_tool.proofs.Soundness.{same_uses, begins, is_report}
+use Rattle.sl_tool.proofs.Soundness.{same_uses, begins, safe as safe_if_empty}
 use Rattle.sl_tool.proofs.Steps.{world_of}
 use Rattle.sl_tool.proofs.Exactly.{IsPlain}
 use Rattle.sl_tool.proofs.ExactSteps.{GoesOn, GoesOrTraps, IsTrap, EndsTrapped, plain-vector, plain-push, plain-begin, plain-star}
@@ -130,5 +130,5 @@ none_if_safe p names (w ∷ ws) met safe = absurd (not_safe p (warning_of names 
 pub is_exact : (p : Typed) → UsesDeclared 0 0 p.stmts → length p.stmts ≤ STATEMENTS → IsExact (typed_of p) (report_of p.names (warnings_of nothing_known p.stmts))
 is_exact p u few = record {
   first = first_met (typed_of p) p.names (warnings_of nothing_known p.stmts) (meets-first p u few);
-  safe = ((is_report p u).safe, none_if_safe (typed_of p) p.names (warnings_of nothing_known p.stmts) (meets-first p u few));
+  safe = (safe_if_empty p u, none_if_safe (typed_of p) p.names (warnings_of nothing_known p.stmts) (meets-first p u few));
 }

@@ -49,7 +49,7 @@ stmts_are tokens p r = ap (λ (q : Typed). q.stmts) r.typed
 ascend_behind : (tokens : List Token) (n : ℕ) → TokensAscend tokens → TokensAscend (drop n tokens)
 ascend_behind tokens n ascend i j s t lt a b = ascend (n + i) (n + j) s t (omega arith) (sym (get_drop n tokens i) ∙ a) (sym (get_drop n tokens j) ∙ b)
 
-uses-declared : (tokens : List Token) (p : Typed) → ReadsAs tokens p → UsesDeclared 0 0 p.stmts
+pub uses-declared : (tokens : List Token) (p : Typed) → ReadsAs tokens p → UsesDeclared 0 0 p.stmts
 uses-declared tokens p r = subst (λ l. UsesDeclared 0 0 l) (sym (stmts_are tokens p r)) (uses_items no_scope (body_of tokens) r.items r.allowed)
 
 few-statements : (tokens : List Token) (p : Typed) → ReadsAs tokens p → length p.stmts ≤ STATEMENTS

@@ -22,3 +22,4 @@ pub mod ItemLaws
 pub mod NameLaws
 pub mod BodyLaws
 pub mod RefusalLaws
+pub mod Reported

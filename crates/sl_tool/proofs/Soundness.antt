@@ -17,8 +17,7 @@ use Rattle.sl_model.specs.Calls.{called, call_of}
 use Rattle.sl_model.specs.Values.{Value, nothing, number, iterator, pair, scalar_at, container_at, element_at}
 use Rattle.sl_model.specs.Run.{done_with, empty_state, finished, run}
 use Rattle.sl_model.specs.Library.{lib}
-use Rattle.sl_model.specs.Covers.{Covers, Reports, HasMeaning, Warning as WarningValue}
-use Rattle.sl_tool.specs.Answers.{IsReport}
+use Rattle.sl_model.specs.Covers.{Covers, Reports, Safe, HasMeaning, Warning as WarningValue}
 use Rattle.sl_tool.specs.declared.analysis.Warning.{Warning}
 use Rattle.sl_tool.specs.Analysis.{Known, nothing_known, standing_at, warned, warnings_of, with_vector, with_push, with_iterator, found_valid}
 use Rattle.sl_tool.specs.Form.{UsesDeclared}
@@ -106,10 +105,6 @@ meaning p u input picks steps place e = let told = run_told p input picks steps 
 covers_none : (names : List (List ℕ)) (r : List WarningValue) (t : Trap) → r ≡ [] → Covers names r t → ⊥
 covers_none names r t e c = let there = rw e at c.there in cc
 
--- what the analysis warns of is a report on the text
-pub is_report : (p : Typed) → UsesDeclared 0 0 p.stmts → IsReport (typed_of p) (report_of p.names (warnings_of nothing_known p.stmts))
-is_report p u = record {
-  reports = reports p u;
-  meaning = meaning p u;
-  safe = λ e t can. covers_none p.names (report_of p.names (warnings_of nothing_known p.stmts)) t e (reports p u t can);
-}
+-- where the analysis warns of nothing, the text is safe
+pub safe : (p : Typed) → UsesDeclared 0 0 p.stmts → report_of p.names (warnings_of nothing_known p.stmts) ≡ [] → Safe (typed_of p)
+safe p u e t can = covers_none p.names (report_of p.names (warnings_of nothing_known p.stmts)) t e (reports p u t can)

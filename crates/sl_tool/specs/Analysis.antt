@@ -19,7 +19,7 @@ pub record Known : Type 0 where
 abbrev pub nothing_known : Known
 nothing_known = record { filled = []; iterators = []; pushes = [] }
 
--- the sites of the calls on this vector behind the first `since`
+-- the sites of the calls on this vector
 abbrev pub sites_on : ℕ → List Push → List ℕ
 sites_on vector [] = []
 sites_on vector (p ∷ ps) = if p.vector == vector then p.site ∷ sites_on vector ps else sites_on vector ps

@@ -4,12 +4,11 @@ ghost use Rattle.sl_base.specs.Pieces.{TokenRule};
 ghost use Rattle.sl_base.specs.Tokens.{TokenFault};
 ghost use Rattle.sl_base.specs.declared.limits.TheConstants.{TEXT_BYTES};
 ghost use Rattle.sl_lexer.specs.Faults.{fault_of};
-ghost use Rattle.sl_syntax.specs.View.{typed_of};
 ghost use Rattle.sl_model.specs.Covers.{Warning as WarningValue};
 ghost use Rattle.sl_model.specs.Texts.{report_text};
 ghost use Rattle.sl_tool.specs.Answers.{IsReport, status_of};
 ghost use Rattle.sl_syntax.specs.declared.typed.Typed.{Typed as TypedValue};
-ghost use Rattle.sl_tool.specs.Form.{IsBuilt, ReadsAs, UsesDeclared};
+ghost use Rattle.sl_tool.specs.Form.{IsBuilt, ReadsAs};
 ghost use Rattle.sl_tool.specs.Refusals.{IsRefused, not_built_yet, reason_of};
 ghost use Rattle.sl_tool.specs.Told.{report_of};
 
@@ -26,7 +25,7 @@ use std::alloc::{AllocError, Global};
 /// The text in numbers, or where and why it is refused.
 pub fn typed_text(alloc: Global, text: &[u8]) -> Result<Result<Typed, Refusal>, AllocError>
     requires { length text.now ≤ TEXT_BYTES }
-    ensures typed { IfOk result (λ read. IfOk read (λ p. IsBuilt text.now p × UsesDeclared 0 0 p.stmts)) }
+    ensures typed { IfOk result (λ read. IfOk read (IsBuilt text.now)) }
     ensures refused { IfOk result (λ read. IfErr read (IsRefused text.now)) }
 {
     match lex(alloc, text) {
@@ -37,7 +36,7 @@ pub fn typed_text(alloc: Global, text: &[u8]) -> Result<Result<Typed, Refusal>, 
 
 // The text with these tokens in numbers, or that it isn't built.
 fn typed_tokens(alloc: Global, tokens: &[Token]) -> Result<Result<Typed, Refusal>, AllocError>
-    ensures typed { IfOk result (λ read. IfOk read (λ p. ReadsAs tokens.now p × UsesDeclared 0 0 p.stmts)) }
+    ensures typed { IfOk result (λ read. IfOk read (ReadsAs tokens.now)) }
     ensures refused { IfOk result (λ read. IfErr read (λ r. (r ≡ not_built_yet) × ((p : TypedValue) → ReadsAs tokens.now p → ⊥))) }
 {
     match read_text(alloc, tokens)? {
@@ -76,10 +75,10 @@ fn fault_in(error: LexErr) -> Result<(Reason, u32), AllocError>
     }
 }
 
-/// The report on a text of a file of this name, as a status and as bytes.
+/// The report on the text that this is in numbers, of a file of this name, as a status and as bytes.
 pub fn check(alloc: Global, file: &str, p: &Typed) -> Result<(Status, Vec<u8>), AllocError>
-    requires { UsesDeclared 0 0 p.now.stmts }
-    ensures { IfOk result (λ a. (r : List WarningValue) × IsReport (typed_of p.now) r × (a.0 ≡ status_of r) × (a.1.items ≡ report_text file.now p.now.sites r)) }
+    ensures { (text : List ℕ) → IsBuilt text p.now →
+        IfOk result (λ a. (r : List WarningValue) × IsReport p.now r × (a.0 ≡ status_of r) × (a.1.items ≡ report_text file.now p.now.sites r)) }
 {
     let report = warnings_in(alloc, p.stmts.as_slice())?;
     let text = render(alloc, file, p, report.as_slice())?;

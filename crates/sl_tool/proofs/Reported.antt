@@ -1,0 +1,18 @@
+-- What the analysis warns of is a report on a text.
+use Rattle.std.proofs.Common.{ℕ, List}
+use Rattle.sl_syntax.specs.declared.typed.Typed.{Typed}
+use Rattle.sl_tool.specs.Answers.{IsReport}
+use Rattle.sl_tool.specs.Analysis.{nothing_known, warnings_of}
+use Rattle.sl_tool.specs.Form.{IsBuilt}
+use Rattle.sl_tool.specs.Told.{report_of}
+use Rattle.sl_tool.proofs.Soundness.{reports, meaning}
+use Rattle.sl_tool.proofs.Founded.{uses-declared, exact-built, order-built, founded-built}
+
+pub is_report : (text : List ℕ) (p : Typed) → IsBuilt text p → IsReport p (report_of p.names (warnings_of nothing_known p.stmts))
+is_report text p built = record {
+  reports = reports p (uses-declared built.0 p built.2);
+  meaning = meaning p (uses-declared built.0 p built.2);
+  exact = exact-built text p built;
+  in_order = order-built text p built;
+  founded = founded-built text p built;
+}
