@@ -12,3 +12,5 @@ pub mod TextLaws
 pub mod ItemLaws
 pub mod NameLaws
 pub mod BodyLaws
+pub mod StopLaws
+pub mod SlotLaws

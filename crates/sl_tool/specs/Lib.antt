@@ -2,6 +2,8 @@ pub mod Numbers
 pub mod Command
 pub mod Texts
 pub mod Form
+pub mod Begins
+pub mod Slots
 pub mod Answers
 pub mod Outcome
 pub mod Analysis

@@ -6,7 +6,9 @@ ghost use Rattle.sl_tool.specs.Form.{ReadsAs, UsesDeclared};
 pub mod body;
 pub mod items;
 pub mod names;
+pub mod read;
 pub mod reader;
+pub mod slots;
 pub mod tokens;
 
 use body::{body_of, read_body};
