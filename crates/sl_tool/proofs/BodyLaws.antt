@@ -56,7 +56,7 @@ small_after s (dereference_item name iterator) allowed small =
     record { vectors = small.vectors; iterators = small.iterators; numbers = omega arith; names = omega arith; pushes = small.pushes }
 
 -- words that are a statement's and others begin with it
-begins_with : (words ws : List Word) (i : Item) → words ≡ item_words i ++ ws → BeginsWith words i
+pub begins_with : (words ws : List Word) (i : Item) → words ≡ item_words i ++ ws → BeginsWith words i
 begins_with words ws i e = e ∙ ap (λ l. item_words i ++ l) (sym (ap (λ l. drop (length (item_words i)) l) e ∙ drop-append_seam (item_words i) ws))
 
 -- the statement that begins the tokens, and those behind it

@@ -14,3 +14,6 @@ pub mod NameLaws
 pub mod BodyLaws
 pub mod StopLaws
 pub mod SlotLaws
+pub mod FreshLaws
+pub mod KindLaws
+pub mod StopHereLaws

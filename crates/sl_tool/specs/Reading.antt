@@ -64,6 +64,13 @@ pub record AreItems (s : Scope) (tokens : List Token) (room : ℕ) (items : List
   pub allowed : AllAllowed s items
   pub few : length items ≤ room
 
+-- the words are some statements and a closing brace, where this is declared and there may be so many
+pub record IsBody (s : Scope) (room : ℕ) (words : List Word) : Type 0 where
+  pub items : List Item
+  pub are_items : words ≡ flat_map item_words items ++ Mark RightBrace ∷ []
+  pub allowed : AllAllowed s items
+  pub few : length items ≤ room
+
 -- the tokens of the body are read whole
 pub record IsRead (body : List Token) (r : Reader) : Type 0 where
   pub items : List Item
