@@ -17,3 +17,4 @@ pub mod SlotLaws
 pub mod FreshLaws
 pub mod KindLaws
 pub mod StopHereLaws
+pub mod HeadLaws

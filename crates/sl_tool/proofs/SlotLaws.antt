@@ -1,10 +1,17 @@
 -- Words that fit slots.
-use Rattle.std.proofs.Common.{◌≡◌, ℕ, zero, suc, ◌+◌, ◌<◌, ◌≤◌, List, [], ◌∷◌, ◌++◌, length, take, drop, get_or, refl, sym, ap, ◌∙◌, subst, add-one, append_assoc, arith, length-append}
+use Rattle.std.proofs.Math.ListN.{drop_of_length-le}
+use Rattle.std.proofs.Common.{◌≡◌, ◌⊎◌, inl, inr, ℕ, zero, suc, ◌+◌, ◌<◌, ◌≤◌, List, [], ◌∷◌, ◌++◌, length, take, drop, get_or, refl, sym, ap, ◌∙◌, subst, add-one, append_assoc, arith, length-append}
+use Rattle.std.proofs.Common.{min}
+use Rattle.std.proofs.lemmas.Bool.{cases_lt}
+use Rattle.std.proofs.Math.ListN.{length-map}
+use Rattle.std.proofs.Math.Seq.{drop-cons}
+use Rattle.sl_base.specs.declared.token.Token.{Token}
 use Rattle.sl_base.specs.declared.word.Word.{Word}
 use Rattle.sl_tool.specs.declared.reading.slots.Slot.{Slot}
 use Rattle.sl_tool.specs.Begins.{Begins, Stops}
-use Rattle.sl_tool.specs.Form.{Scope}
+use Rattle.sl_tool.specs.Form.{Scope, words_in}
 use Rattle.sl_tool.specs.Slots.{Fits, Fit}
+use Rattle.sl_tool.proofs.ItemLaws.{front}
 
 -- the words begin with words that fit all the slots
 abbrev pub FitAll : Scope → List Slot → List Word → Type 0
@@ -92,3 +99,37 @@ fits_no_more s xs ws x w i slots words so_far not =
     let both : Fit s (x ∷ drop (i + 1) xs) (w ∷ drop (i + 1) ws) 0 = not in
     let there : Fit s (drop i xs) (drop i ws) 0 = rw (slots, words) both in
     rw e at (so_far 0 there)
+
+-- at the end of the slots or of the words
+pub fits_end : (s : Scope) (xs : List Slot) (ws : List Word) (i : ℕ) → (length xs ≤ i) ⊎ (length ws ≤ i) → ((n : ℕ) → Fit s (drop i xs) (drop i ws) n → Fit s xs ws (i + n)) → Fit s xs ws i
+fits_end s xs ws i (inl h) so_far =
+    let e : i + 0 ≡ i = omega arith in
+    let none : drop i xs ≡ [] = drop_of_length-le xs {i = i} h in
+    rw e at (so_far 0 (subst (λ l. Fit s l (drop i ws) 0) (sym none) tt))
+fits_end s xs ws i (inr h) so_far =
+    let e : i + 0 ≡ i = omega arith in
+    let none : drop i ws ≡ [] = drop_of_length-le ws {i = i} h in
+    rw e at (so_far 0 (subst (λ l. Fit s (drop i xs) l 0) (sym none) (nothing (drop i xs))))
+  where
+  nothing : (l : List Slot) → Fit s l [] 0
+  nothing [] = tt
+  nothing (x ∷ l) = tt
+
+slot_at : (xs : List Slot) (i : ℕ) (d : Slot) → i < length xs → drop i xs ≡ get_or xs i d ∷ drop (i + 1) xs
+slot_at xs i d h = rw add-one (drop-cons xs i d h)
+
+-- What fits so far of tokens, and the token and the slot behind it.
+module _ (s : Scope) (xs : List Slot) (ts : List Token) (d : Slot) (t : Token) (i : ℕ) (slot_there : i < length xs) (token_there : i < length ts) (is : t ≡ get_or ts i t)
+    (so_far : (n : ℕ) → Fit s (drop i xs) (drop i (words_in ts)) n → Fit s xs (words_in ts) (i + n)) where
+  pub token_fits : Fits s (get_or xs i d) t.word → (n : ℕ) → Fit s (drop (i + 1) xs) (drop (i + 1) (words_in ts)) n → Fit s xs (words_in ts) (i + 1 + n)
+  token_fits here n rest = fits_more s xs (words_in ts) (get_or xs i d) t.word i n (slot_at xs i d slot_there) (front ts i t token_there is) so_far here rest
+
+  pub token_differs : (Fits s (get_or xs i d) t.word → ⊥) → Fit s xs (words_in ts) i
+  token_differs not = fits_no_more s xs (words_in ts) (get_or xs i d) t.word i (slot_at xs i d slot_there) (front ts i t token_there is) so_far not
+
+-- the lesser of two lengths ends the slots or the words
+pub which_ends : (xs : List Slot) (ts : List Token) (n : ℕ) → n ≡ min (length xs) (length ts) → (length xs ≤ n) ⊎ (length (words_in ts) ≤ n)
+which_ends xs ts n e = by_test (cases_lt n (length xs)) where
+  by_test : (n < length xs) ⊎ (length xs ≤ n) → (length xs ≤ n) ⊎ (length (words_in ts) ≤ n)
+  by_test (inl h) = inr (rw length-map (omega arith))
+  by_test (inr h) = inl h

@@ -5,12 +5,13 @@ use Rattle.std.proofs.Math.ListN.{drop_of_length-le}
 use Rattle.std.proofs.Math.Seq.{drop-append_seam}
 use Rattle.std.specs.List.{flat_map}
 use Rattle.sl_base.specs.declared.mark.Mark.TheVariants.{RightBrace}
+use Rattle.sl_base.specs.declared.token.Token.{Token}
 use Rattle.sl_base.specs.declared.word.Word.{Word}
 use Rattle.sl_base.specs.declared.word.Word.TheVariants.{Mark}
 use Rattle.sl_tool.specs.declared.reading.slots.Kind.{Kind}
 use Rattle.sl_tool.specs.Begins.{Begins, Stops}
-use Rattle.sl_tool.specs.Form.{Item, vector_item, push_back_item, begin_item, dereference_item, item_words, Scope, IsAllowed, AllAllowed, after_item}
-use Rattle.sl_tool.specs.Reading.{BeginsWith, IsBody}
+use Rattle.sl_tool.specs.Form.{Item, vector_item, push_back_item, begin_item, dereference_item, item_words, Scope, IsAllowed, AllAllowed, after_item, words_in}
+use Rattle.sl_tool.specs.Reading.{BeginsWith, IsBody, StopsIn}
 use Rattle.sl_tool.specs.Slots.{Fit, slots_of, BeginsKind, IsPossible}
 use Rattle.sl_tool.proofs.BodyLaws.{begins_with}
 use Rattle.sl_tool.proofs.ItemLaws.{same_item, no_item_at_end}
@@ -122,3 +123,34 @@ stops_in_item s room kind w ws k some begins possible none fit =
   reads rest (item i starts allowed more) =
       let same : kind_of i ≡ kind = one_kind w (kind_of i) kind (first_word w rest i starts) begins in
       subst (λ k. FitAll s (slots_of k) (w ∷ rest)) same (subst (FitAll s (slots_of (kind_of i))) (sym starts) (fits_kind s i _ allowed))
+
+-- Where no statement may follow.
+abbrev StopsWithoutRoom : List Word → ℕ → Type 0
+StopsWithoutRoom words k = (s : Scope) → (words ≡ Mark RightBrace ∷ [] → ⊥) → Stops (IsBody s 0) words k
+
+no_words_in : (ts : List Token) → length ts < 1 → words_in ts ≡ []
+no_words_in [] h = refl
+no_words_in (t ∷ ts) h = absurd (omega arith)
+
+pub no_room_for_none : (ts : List Token) → length ts < 1 → StopsWithoutRoom (words_in ts) 0
+no_room_for_none ts h = λ s more. subst (λ l. Stops (IsBody s 0) l 0) (sym (no_words_in ts h)) (stops_empty s 0)
+
+pub no_room_at_brace : (words : List Word) (w : Word) (ws : List Word) → words ≡ w ∷ ws → w ≡ Mark RightBrace → StopsWithoutRoom words 1
+no_room_at_brace words w ws e is = subst (λ l. StopsWithoutRoom l 1) (sym e) (λ s more. stops_at_brace s 0 w ws is more)
+
+pub no_room_at_other : (words : List Word) (w : Word) (ws : List Word) → words ≡ w ∷ ws → (w ≡ Mark RightBrace → ⊥) → StopsWithoutRoom words 0
+no_room_at_other words w ws e other = subst (λ l. StopsWithoutRoom l 0) (sym e) (λ s more. stops_without_room s 0 w ws refl other)
+
+-- Where one may follow.
+pub in_none : (s : Scope) (ts : List Token) → length ts ≡ 0 → StopsIn s (words_in ts) 0
+in_none s ts h = λ room some more none. subst (λ l. Stops (IsBody s room) l 0) (sym (no_words_in ts (omega arith))) (stops_empty s room)
+
+pub in_brace : (s : Scope) (words : List Word) (w : Word) (ws : List Word) → words ≡ w ∷ ws → w ≡ Mark RightBrace → StopsIn s words 1
+in_brace s words w ws e is = subst (λ l. StopsIn s l 1) (sym e) (λ room some more none. stops_at_brace s room w ws is more)
+
+pub in_other : (s : Scope) (words : List Word) (w : Word) (ws : List Word) → words ≡ w ∷ ws → (w ≡ Mark RightBrace → ⊥) → ((kind : Kind) → BeginsKind kind w → IsPossible s kind → ⊥) → StopsIn s words 0
+in_other s words w ws e other none = subst (λ l. StopsIn s l 0) (sym e) (λ room some more no_item. stops_at_other s room w ws other none)
+
+pub in_item : (s : Scope) (words : List Word) (w : Word) (ws : List Word) (kind : Kind) (k : ℕ) → words ≡ w ∷ ws → BeginsKind kind w → IsPossible s kind → Fit s (slots_of kind) words k → StopsIn s words k
+in_item s words w ws kind k e begins possible fit =
+    subst (λ l. StopsIn s l k) (sym e) (λ room some more none. stops_in_item s room kind w ws k some begins possible none (subst (λ l. Fit s (slots_of kind) l k) e fit))

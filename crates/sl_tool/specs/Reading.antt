@@ -10,7 +10,10 @@ use Rattle.sl_base.specs.declared.word.Word.TheVariants.{Mark}
 use Rattle.sl_syntax.specs.declared.typed.Typed.{Typed}
 use Rattle.sl_syntax.specs.View.{is_vector}
 use Rattle.sl_tool.specs.declared.reading.reader.Reader.{Reader}
-use Rattle.sl_tool.specs.Form.{Item, push_back_item, item_words, Scope, no_scope, IsAllowed, after_item, after_items, AllAllowed, typed_item, typed_items, push_places, place_in, words_in, UsesDeclared}
+use Rattle.sl_tool.specs.declared.reading.read.Read.{Read}
+use Rattle.sl_tool.specs.declared.reading.read.Read.TheVariants.{Whole, Stops as ReadStops}
+use Rattle.sl_tool.specs.Begins.{IsText, Stops}
+use Rattle.sl_tool.specs.Form.{head_words, Item, push_back_item, item_words, Scope, no_scope, IsAllowed, after_item, after_items, AllAllowed, typed_item, typed_items, push_places, place_in, words_in, UsesDeclared}
 
 -- the words begin with those of the statement
 abbrev pub BeginsWith : List Word → Item → Type 0
@@ -70,6 +73,20 @@ pub record IsBody (s : Scope) (room : ℕ) (words : List Word) : Type 0 where
   pub are_items : words ≡ flat_map item_words items ++ Mark RightBrace ∷ []
   pub allowed : AllAllowed s items
   pub few : length items ≤ room
+
+-- Where words stop of which no statement is read: one may follow, they aren't the closing brace alone, and no statement begins them that may stand here.
+abbrev pub StopsIn : Scope → List Word → ℕ → Type 0
+StopsIn s words k =
+    (room : ℕ) → 0 < room → (words ≡ Mark RightBrace ∷ [] → ⊥) → ((i : Item) → BeginsWith words i → IsAllowed s i → ⊥) → Stops (IsBody s room) words k
+
+-- Where words stop that don't begin with `int main() {`.
+abbrev pub StopsInHead : List Word → ℕ → Type 0
+StopsInHead words k = ((rest : List Word) → words ≡ head_words ++ rest → ⊥) → Stops IsText words k
+
+-- what is read, by whether it is all
+abbrev pub MatchRead : {T : Type 0} → Read T → (T → Type 0) → (ℕ → Type 0) → Type 0
+MatchRead (Whole x) whole stops = whole x
+MatchRead (ReadStops k) whole stops = stops k
 
 -- the tokens of the body are read whole
 pub record IsRead (body : List Token) (r : Reader) : Type 0 where

@@ -9,6 +9,7 @@ pub mod names;
 pub mod read;
 pub mod reader;
 pub mod slots;
+pub mod stopping;
 pub mod tokens;
 
 use body::{body_of, read_body};
