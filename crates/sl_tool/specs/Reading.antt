@@ -47,14 +47,14 @@ pub record Adds (old new : Reader) (tokens : List Token) (i : Item) : Type 0 whe
   pub stmts : new.stmts ≡ old.stmts ++ typed_item (scope_of old) tokens i ∷ []
   pub sites : new.sites ≡ old.sites ++ item_places tokens i
 
--- so many tokens are read as the statement, or it may not stand here
+-- so many tokens are read as the statement; or it may not stand here, and nothing is read
 abbrev pub IsTaken : Reader → Reader → List Token → Item → Option ℕ → Type 0
-IsTaken old new tokens i taken = MatchOption taken (IsAllowed (scope_of old) i → ⊥) (λ n. (n ≡ length (item_words i)) × Adds old new tokens i)
+IsTaken old new tokens i taken = MatchOption taken ((IsAllowed (scope_of old) i → ⊥) × (new ≡ old)) (λ n. (n ≡ length (item_words i)) × Adds old new tokens i)
 
--- The statement whose tokens begin these is taken. None where no statement begins them, or it may not stand here.
+-- The statement whose tokens begin these is taken. None where no statement begins them, or it may not stand here; then nothing is read.
 abbrev pub TakesItem : Reader → Reader → List Token → Option ℕ → Type 0
 TakesItem old new tokens taken =
-    MatchOption taken ((i : Item) → BeginsWith (words_in tokens) i → IsAllowed (scope_of old) i → ⊥)
+    MatchOption taken (((i : Item) → BeginsWith (words_in tokens) i → IsAllowed (scope_of old) i → ⊥) × (new ≡ old))
     (λ n. (i : Item) × BeginsWith (words_in tokens) i × (n ≡ length (item_words i)) × Adds old new tokens i)
 
 -- the text that is read, up to this brace

@@ -10,6 +10,7 @@ ghost use Rattle.sl_tool.specs.Form.{IsBuilt, UsesDeclared};
 ghost use Rattle.sl_tool.specs.Told.{report_of};
 
 use crate::analysis::{Warning, warnings_in};
+use crate::reading::read::Read;
 use crate::reading::read_text;
 use crate::rendering::render;
 use crate::status::Status;
@@ -24,7 +25,10 @@ pub fn typed_text(alloc: Global, text: &[u8]) -> Result<Option<Typed>, AllocErro
     ensures declared { IfOk result (λ read. IfSome read (λ p. UsesDeclared 0 0 p.stmts)) }
 {
     match lex(alloc, text) {
-        Ok(tokens) => read_text(alloc, tokens.as_slice()),
+        Ok(tokens) => match read_text(alloc, tokens.as_slice())? {
+            Read::Whole(p) => Ok(Some(p)),
+            Read::Stops(_) => Ok(None),
+        },
         Err(error) => without_tokens(error),
     }
 }
