@@ -1,4 +1,4 @@
--- Answers to a text that was read are those to all that was left of the file, and no text has two tokenings.
+-- Answers to a text, and that those to a text that was read are those to all that was left of the file.
 use Rattle.std.proofs.Common.{◌≡◌, ◌≤◌, ◌++◌, ℕ, List, length, Option, Some, None, sym, ap, ◌∙◌, arith, length-append, append-nil, Result, Ok, Err, IfOk, Vec}
 use Rattle.std.specs.declared.alloc.AllocError.{AllocError}
 use Rattle.std.specs.declared.alloc.Global.{Global}
@@ -9,14 +9,35 @@ use Rattle.sl_model.specs.Texts.{report_text}
 use Rattle.sl_tool.specs.Form.{IsBuilt}
 use Rattle.sl_base.specs.declared.limits.TheConstants.{TEXT_BYTES}
 use Rattle.sl_base.specs.Outside.{IsRead}
+use Rattle.sl_base.specs.declared.place.Place.{Place}
 use Rattle.sl_tool.specs.declared.status.Status.{Status}
-use Rattle.sl_tool.specs.Answers.{AnswerTo, too_long, not_built, reported, IsReport, status_of}
+use Rattle.sl_tool.specs.declared.status.Status.TheVariants.{Refused}
+use Rattle.sl_tool.specs.declared.text.Text.TheVariants.{NotBuilt, NoTokens}
+use Rattle.sl_tool.specs.Reading.{IsTextOf}
+use Rattle.sl_tool.specs.Texts.{not_built_line}
+use Rattle.sl_tool.specs.Answers.{AnswerTo, too_long, not_built, no_tokens, reported, IsReport, status_of}
 
 -- the report on a text of the form is its answer
 pub AnswerTo-report : (file text : List ℕ) (p : TypedCode) (result : Result (Status × Vec ℕ Global) AllocError) → length text ≤ TEXT_BYTES → IsBuilt text p
     → IfOk result (λ a. (r : List Warning) × IsReport (typed_of p) r × (a.0 ≡ status_of r) × (a.1.items ≡ report_text file p.sites r)) → IfOk result (λ a. AnswerTo file text a.0 a.1.items)
 AnswerTo-report file text p (Ok a) short built h = rw (h.2, h.3) (reported short p built h.0 h.1)
 AnswerTo-report file text p (Err e) short built h = tt
+
+-- what a refusal as not built is
+abbrev pub IsNotBuilt : List ℕ → Place → Result (Status × Vec ℕ Global) AllocError → Type 0
+IsNotBuilt file place result = IfOk result (λ a. (a.0 ≡ Refused) × (a.1.items ≡ not_built_line file place))
+
+-- the refusal of a text that stops
+pub AnswerTo-not_built : (file text : List ℕ) (place : Place) (result : Result (Status × Vec ℕ Global) AllocError) → length text ≤ TEXT_BYTES → IsTextOf text (NotBuilt place)
+    → IsNotBuilt file place result → IfOk result (λ a. AnswerTo file text a.0 a.1.items)
+AnswerTo-not_built file text place (Ok a) short (tokens, k, cut, stops, is) h = rw (h.0, h.1, is) (not_built short tokens cut k stops)
+AnswerTo-not_built file text place (Err e) short read h = tt
+
+-- the refusal of a text without tokens
+pub AnswerTo-no_tokens : (file text : List ℕ) (place : Place) (result : Result (Status × Vec ℕ Global) AllocError) → length text ≤ TEXT_BYTES → IsTextOf text (NoTokens place)
+    → IsNotBuilt file place result → IfOk result (λ a. AnswerTo file text a.0 a.1.items)
+AnswerTo-no_tokens file text place (Ok a) short (rule, at, fault, is) h = rw (h.0, h.1, is) (no_tokens short rule at fault)
+AnswerTo-no_tokens file text place (Err e) short read h = tt
 
 -- a text that isn't too long was read whole
 read_whole : (text all rest : List ℕ) → IsRead TEXT_BYTES text (Some all) (Some rest) → length text ≤ TEXT_BYTES → text ≡ all
@@ -28,7 +49,8 @@ same_text file text all status bytes e h = rw e at h
 -- the answer to what was read is the answer to all that was left
 told_at : (file text all rest : List ℕ) (status : Status) (bytes : List ℕ) → IsRead TEXT_BYTES text (Some all) (Some rest) → AnswerTo file text status bytes → AnswerTo file all status bytes
 told_at file text all rest _ _ read (too_long h) = too_long (omega (arith, length-append text rest, ap length read.consumed))
-told_at file text all rest _ _ read (not_built short h) = same_text file text all _ _ (read_whole text all rest read short) (not_built short h)
+told_at file text all rest _ _ read (not_built short tokens cut k stops) = same_text file text all _ _ (read_whole text all rest read short) (not_built short tokens cut k stops)
+told_at file text all rest _ _ read (no_tokens short rule at fault) = same_text file text all _ _ (read_whole text all rest read short) (no_tokens short rule at fault)
 told_at file text all rest _ _ read (reported short p h r report) = same_text file text all _ _ (read_whole text all rest read short) (reported short p h r report)
 
 same_all : (file x all : List ℕ) (status : Status) (bytes : List ℕ) → Some x ≡ Some all → AnswerTo file x status bytes → AnswerTo file all status bytes

@@ -1,5 +1,5 @@
 pub mod AnswerLaws
-pub mod BuiltLaws
+pub mod FaultLaws
 pub mod Describes
 pub mod Lists
 pub mod Goes

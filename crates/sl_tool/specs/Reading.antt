@@ -12,8 +12,13 @@ use Rattle.sl_syntax.specs.View.{is_vector}
 use Rattle.sl_tool.specs.declared.reading.reader.Reader.{Reader}
 use Rattle.sl_tool.specs.declared.reading.read.Read.{Read}
 use Rattle.sl_tool.specs.declared.reading.read.Read.TheVariants.{Whole, Stops as ReadStops}
-use Rattle.sl_tool.specs.Begins.{IsText, Stops}
-use Rattle.sl_tool.specs.Form.{head_words, Item, push_back_item, item_words, Scope, no_scope, IsAllowed, after_item, after_items, AllAllowed, typed_item, typed_items, push_places, place_in, words_in, UsesDeclared}
+use Rattle.sl_tool.specs.declared.text.Text.{Text}
+use Rattle.sl_tool.specs.declared.text.Text.TheVariants.{Built, NotBuilt, NoTokens}
+use Rattle.sl_base.specs.Pieces.{TokenRule}
+use Rattle.sl_base.specs.Places.{place_at}
+use Rattle.sl_base.specs.Tokens.{Tokens, TokenFault}
+use Rattle.sl_tool.specs.Begins.{IsText, Stops, StopsAt, stop_place}
+use Rattle.sl_tool.specs.Form.{head_words, Item, push_back_item, item_words, Scope, no_scope, IsAllowed, after_item, after_items, AllAllowed, typed_item, typed_items, push_places, place_in, words_in, IsBuilt, UsesDeclared}
 
 -- the words begin with those of the statement
 abbrev pub BeginsWith : List Word → Item → Type 0
@@ -96,3 +101,9 @@ pub record IsRead (body : List Token) (r : Reader) : Type 0 where
   pub sites : r.sites ≡ push_places body items
   pub names : r.names ≡ (after_items no_scope items).names
   pub declared : UsesDeclared 0 0 r.stmts
+
+-- what is read of a text is so
+abbrev pub IsTextOf : List ℕ → Text → Type 0
+IsTextOf text (Built p) = IsBuilt text p × UsesDeclared 0 0 p.stmts
+IsTextOf text (NotBuilt place) = (tokens : List Token) × (k : ℕ) × Tokens text tokens × StopsAt tokens k × (place ≡ stop_place text tokens k)
+IsTextOf text (NoTokens place) = (rule : TokenRule) × (at : ℕ) × TokenFault text rule at × (place ≡ place_at text at)

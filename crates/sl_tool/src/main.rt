@@ -6,6 +6,7 @@ mod checking;
 mod reading;
 mod rendering;
 mod status;
+mod text;
 mod tool;
 
 use sl_base::{RealFiles, StdSink};

@@ -4,11 +4,13 @@ ghost use Rattle.sl_base.specs.Outside.{Rose};
 ghost use Rattle.sl_tool.specs.Command.{file_of, words_of, text_in};
 ghost use Rattle.sl_tool.specs.Answers.{AnswerTo};
 ghost use Rattle.sl_tool.specs.Outcome.{Written, Outcome};
+ghost use Rattle.sl_tool.specs.Texts.{not_built_line};
 
-use crate::checking::{check, typed_text};
+use crate::checking::{check, text_of};
 use crate::status::Status;
+use crate::text::Text;
 use sl_base::limits::TEXT_BYTES;
-use sl_base::{Files, ReadErr, Sink, read_all, write_all};
+use sl_base::{Files, Place, ReadErr, Sink, read_all, write_all};
 use std::alloc::{AllocError, Global};
 
 const USAGE: &str = "usage: stllint check FILE | run FILE INPUT SCHEDULE STEPS | specs | self N\n";
@@ -68,13 +70,21 @@ fn answer(alloc: Global, file: &str, text: &[u8]) -> Result<(Status, Vec<u8>), A
         let line = format!(in alloc; "{file}: refused: longer than 1048576 bytes\n")?;
         return Ok((Status::Refused, line.into_bytes()));
     }
-    match typed_text(alloc, text)? {
-        Some(p) => check(alloc, file, &p),
-        None => {
-            let line = format!(in alloc; "{file}:1:1: refused: not built\n")?;
-            Ok((Status::Refused, line.into_bytes()))
-        }
+    match text_of(alloc, text)? {
+        Text::Built(p) => check(alloc, file, &p),
+        Text::NotBuilt(place) => not_built(alloc, file, place),
+        Text::NoTokens(place) => not_built(alloc, file, place),
     }
+}
+
+// The refusal of a text that isn't of the form, at a place.
+fn not_built(alloc: Global, file: &str, place: Place) -> Result<(Status, Vec<u8>), AllocError>
+    ensures { IfOk result (λ a. (a.0 ≡ Status.Refused) × (a.1.items ≡ not_built_line file.now place)) }
+{
+    let line = place.line;
+    let col = place.col;
+    let text = format!(in alloc; "{file}:{line}:{col}: refused: not built\n")?;
+    Ok((Status::Refused, text.into_bytes()))
 }
 
 // Writes an answer, and tells its status or that a write failed.
