@@ -59,8 +59,8 @@ stops_in_head [] k fit none =
     subst (λ n. Stops IsText [] n) e (stops_at_end IsText text_begins (λ text. let e = text.are_items in absurd cc))
 stops_in_head (w ∷ ws) k fit none =
     stops_in_slots IsText no_scope head_slots w ws k (have_head no_scope) closes_head
-        (λ rest text. subst (FitAll no_scope head_slots) (sym text.are_items) (head_fits no_scope (flat_map item_words text.items ++ Mark RightBrace ∷ []))) fit (by_test (cases_lt k (length head_slots)))
+    (λ rest text. subst (FitAll no_scope head_slots) (sym text.are_items) (head_fits no_scope (flat_map item_words text.items ++ Mark RightBrace ∷ []))) fit (by_test (cases_lt k (length head_slots)))
   where
-  by_test : (k < length head_slots) ⊎ (length head_slots ≤ k) → k < length head_slots
-  by_test (inl h) = h
-  by_test (inr h) = absurd (none (drop (length head_words) (w ∷ ws)) (head_of_fit no_scope (w ∷ ws) (fit_whole no_scope head_slots (w ∷ ws) k fit h)))
+    by_test : (k < length head_slots) ⊎ (length head_slots ≤ k) → k < length head_slots
+    by_test (inl h) = h
+    by_test (inr h) = absurd (none (drop (length head_words) (w ∷ ws)) (head_of_fit no_scope (w ∷ ws) (fit_whole no_scope head_slots (w ∷ ws) k fit h)))

@@ -18,3 +18,4 @@ pub mod FreshLaws
 pub mod KindLaws
 pub mod StopHereLaws
 pub mod HeadLaws
+pub mod OneTextLaws

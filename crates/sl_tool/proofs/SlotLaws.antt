@@ -111,9 +111,9 @@ fits_end s xs ws i (inr h) so_far =
     let none : drop i ws ≡ [] = drop_of_length-le ws {i = i} h in
     rw e at (so_far 0 (subst (λ l. Fit s (drop i xs) l 0) (sym none) (nothing (drop i xs))))
   where
-  nothing : (l : List Slot) → Fit s l [] 0
-  nothing [] = tt
-  nothing (x ∷ l) = tt
+    nothing : (l : List Slot) → Fit s l [] 0
+    nothing [] = tt
+    nothing (x ∷ l) = tt
 
 slot_at : (xs : List Slot) (i : ℕ) (d : Slot) → i < length xs → drop i xs ≡ get_or xs i d ∷ drop (i + 1) xs
 slot_at xs i d h = rw add-one (drop-cons xs i d h)

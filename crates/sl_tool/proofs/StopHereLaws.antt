@@ -50,6 +50,7 @@ parted : (s : Scope) (room : ℕ) (i : Item) (rest : List Word) → IsBody s roo
 parted s room i rest body = by_items body.items body.are_items body.allowed body.few where
   begins : BeginsWith (item_words i ++ rest) i
   begins = begins_with (item_words i ++ rest) rest i refl
+
   behind : (is : List Item) → item_words i ++ rest ≡ item_words i ++ (flat_map item_words is ++ Mark RightBrace ∷ []) → AllAllowed (after_item s i) is → length is + 1 ≤ room → IsBody (after_item s i) (room - 1) rest
   behind is e allowed few = record {
     items = is;
@@ -57,6 +58,7 @@ parted s room i rest body = by_items body.items body.are_items body.allowed body
     allowed = allowed;
     few = omega arith;
   }
+
   by_items : (items : List Item) → item_words i ++ rest ≡ flat_map item_words items ++ Mark RightBrace ∷ [] → AllAllowed s items → length items ≤ room → IsBody (after_item s i) (room - 1) rest
   by_items [] e allowed few = absurd (no_item_at_end _ i e begins)
   by_items (j ∷ js) e allowed few =
@@ -107,21 +109,23 @@ pub stops_in_item : (s : Scope) (room : ℕ) (kind : Kind) (w : Word) (ws : List
 stops_in_item s room kind w ws k some begins possible none fit =
     stops_in_slots (IsBody s room) s (slots_of kind) w ws k (have_words s kind possible) closes (λ rest body. reads rest (first_of_body s room (w ∷ rest) body)) fit (by_test (cases_lt k (length (slots_of kind))))
   where
-  by_test : (k < length (slots_of kind)) ⊎ (length (slots_of kind) ≤ k) → k < length (slots_of kind)
-  by_test (inl h) = h
-  by_test (inr h) = let found = item_of_fit s kind (w ∷ ws) possible (fit_whole s (slots_of kind) (w ∷ ws) k fit h) in absurd (none found.0 found.1 found.2)
-  closes : (front : List Word) → FitAll s (slots_of kind) front → length front ≡ length (slots_of kind) → Begins (IsBody s room) front
-  closes front all long =
-      let found = item_of_fit s kind front possible all in
-      let i = found.0 in
-      let nothing : drop (length (item_words i)) front ≡ [] = drop_of_length-le front (omega (arith, found.3)) in
-      let is : item_words i ≡ front = sym (append-nil (item_words i)) ∙ ap (λ l. item_words i ++ l) (sym nothing) ∙ sym found.1 in
-      (Mark RightBrace ∷ [], subst (λ l. IsBody s room (l ++ Mark RightBrace ∷ [])) is (joined s room i found.2 some (Mark RightBrace ∷ []) (empty_body (after_item s i) (room - 1))))
-  reads : (rest : List Word) → FirstOfBody s room (w ∷ rest) → FitAll s (slots_of kind) (w ∷ rest)
-  reads rest (brace e) = absurd (not_brace w kind begins cc)
-  reads rest (item i starts allowed more) =
-      let same : kind_of i ≡ kind = one_kind w (kind_of i) kind (first_word w rest i starts) begins in
-      subst (λ k. FitAll s (slots_of k) (w ∷ rest)) same (subst (FitAll s (slots_of (kind_of i))) (sym starts) (fits_kind s i _ allowed))
+    by_test : (k < length (slots_of kind)) ⊎ (length (slots_of kind) ≤ k) → k < length (slots_of kind)
+    by_test (inl h) = h
+    by_test (inr h) = let found = item_of_fit s kind (w ∷ ws) possible (fit_whole s (slots_of kind) (w ∷ ws) k fit h) in absurd (none found.0 found.1 found.2)
+
+    closes : (front : List Word) → FitAll s (slots_of kind) front → length front ≡ length (slots_of kind) → Begins (IsBody s room) front
+    closes front all long =
+        let found = item_of_fit s kind front possible all in
+        let i = found.0 in
+        let nothing : drop (length (item_words i)) front ≡ [] = drop_of_length-le front (omega (arith, found.3)) in
+        let is : item_words i ≡ front = sym (append-nil (item_words i)) ∙ ap (λ l. item_words i ++ l) (sym nothing) ∙ sym found.1 in
+        (Mark RightBrace ∷ [], subst (λ l. IsBody s room (l ++ Mark RightBrace ∷ [])) is (joined s room i found.2 some (Mark RightBrace ∷ []) (empty_body (after_item s i) (room - 1))))
+
+    reads : (rest : List Word) → FirstOfBody s room (w ∷ rest) → FitAll s (slots_of kind) (w ∷ rest)
+    reads rest (brace e) = absurd (not_brace w kind begins cc)
+    reads rest (item i starts allowed more) =
+        let same : kind_of i ≡ kind = one_kind w (kind_of i) kind (first_word w rest i starts) begins in
+        subst (λ k. FitAll s (slots_of k) (w ∷ rest)) same (subst (FitAll s (slots_of (kind_of i))) (sym starts) (fits_kind s i _ allowed))
 
 -- Where no statement may follow.
 abbrev StopsWithoutRoom : List Word → ℕ → Type 0

@@ -5,6 +5,7 @@ ghost use Rattle.sl_base.specs.Tokens.{Tokens, TokenFault};
 ghost use Rattle.sl_lexer.specs.Faults.{fault_of};
 ghost use Rattle.sl_tool.specs.Begins.{stop_place as stop_value};
 ghost use Rattle.sl_tool.specs.Reading.{IsTextOf};
+ghost use Rattle.sl_tool.specs.declared.text.Text.{Text as TextValue};
 ghost use Rattle.sl_base.specs.declared.limits.TheConstants.{TEXT_BYTES};
 ghost use Rattle.sl_syntax.specs.View.{typed_of};
 ghost use Rattle.sl_model.specs.Covers.{Warning as WarningValue};
@@ -27,7 +28,8 @@ use std::alloc::{AllocError, Global};
 /// What is read of a text.
 pub fn text_of(alloc: Global, text: &[u8]) -> Result<Text, AllocError>
     requires { length text.now ≤ TEXT_BYTES }
-    ensures { IfOk result (IsTextOf text.now) }
+    ensures so { IfOk result (IsTextOf text.now) }
+    ensures only { (other : TextValue) → IsTextOf text.now other → IfOk result (λ t. t ≡ other) }
 {
     match lex(alloc, text) {
         Ok(tokens) => text_of_tokens(alloc, text, tokens.as_slice()),
@@ -66,7 +68,10 @@ fn without_tokens(text: &[u8], error: LexErr) -> Result<Text, AllocError>
 {
     match error {
         LexErr::Memory => Err(AllocError),
-        LexErr::BadByte { offset } | LexErr::BadNumber { offset } => Ok(Text::NoTokens(place_of(text, offset as usize))),
+        LexErr::BadByte { offset } | LexErr::BadNumber { offset } => Ok(Text::NoTokens(place_of(
+            text,
+            offset as usize,
+        ))),
     }
 }
 

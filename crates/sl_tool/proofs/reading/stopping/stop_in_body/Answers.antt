@@ -16,10 +16,10 @@ returns-in-len1-up c = in_brace _ _ _ _ (front c.args.tokens.now 0 c.brace-item.
 pub returns-in-Some : goal.returns-in-Some
 returns-in-Some c =
     in_item (scope_of c.args.reader.now) (words_in c.args.tokens.now) c.first-item.result.word _ c.in-Some.kind c.fitting.result
-        (front c.args.tokens.now 0 c.first-item.result (omega arith) c.first-item.is)
-        c.in-Some.ensures
-        (c.is_possible.ensures.0 c.if-is_possible.true)
-        (rw c.slots_of.ensures at c.fitting.ensures)
+    (front c.args.tokens.now 0 c.first-item.result (omega arith) c.first-item.is)
+    c.in-Some.ensures
+    (c.is_possible.ensures.0 c.if-is_possible.true)
+    (rw c.slots_of.ensures at c.fitting.ensures)
 
 pub returns-in_default : goal.returns-in_default
 returns-in_default c =
@@ -27,12 +27,12 @@ returns-in_default c =
     let at_first = front c.args.tokens.now 0 c.first-item.result (omega arith) c.first-item.is in
     let same_first : c.brace-item.result.word ≡ c.first-item.result.word = cc in
     in_other (scope_of c.args.reader.now) (words_in c.args.tokens.now) c.first-item.result.word _
-        at_first
-        (λ e. let is = c.is_mark.ensures.1 (same_first ∙ e) in absurd cc)
-        (λ kind begins possible.
-            let same = one_kind c.first-item.result.word kind c.in-Some.kind begins c.in-Some.ensures in
-            let is = c.is_possible.ensures.1 (subst (IsPossible (scope_of c.args.reader.now)) same possible) in
-            absurd cc)
+    at_first
+    (λ e. let is = c.is_mark.ensures.1 (same_first ∙ e) in absurd cc)
+    (λ kind begins possible.
+    let same = one_kind c.first-item.result.word kind c.in-Some.kind begins c.in-Some.ensures in
+    let is = c.is_possible.ensures.1 (subst (IsPossible (scope_of c.args.reader.now)) same possible) in
+    absurd cc)
 
 pub returns-in_default-2 : goal.returns-in_default-2
 returns-in_default-2 c =
@@ -40,6 +40,6 @@ returns-in_default-2 c =
     let at_first = front c.args.tokens.now 0 c.first-item.result (omega arith) c.first-item.is in
     let same_first : c.brace-item.result.word ≡ c.first-item.result.word = cc in
     in_other (scope_of c.args.reader.now) (words_in c.args.tokens.now) c.first-item.result.word _
-        at_first
-        (λ e. let is = c.is_mark.ensures.1 (same_first ∙ e) in absurd cc)
-        (λ kind begins possible. c.in_default.ensures kind begins)
+    at_first
+    (λ e. let is = c.is_mark.ensures.1 (same_first ∙ e) in absurd cc)
+    (λ kind begins possible. c.in_default.ensures kind begins)
