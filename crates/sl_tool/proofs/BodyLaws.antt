@@ -1,6 +1,7 @@
 -- Where the reader stands in a body.
-use Rattle.std.proofs.Common.{◌≡◌, ℕ, ◌-◌, ◌<◌, List, [], ◌∷◌, ◌++◌, length, drop, refl, sym, ap, ◌∙◌, subst, append_assoc, append-nil, length-append, length-drop, take, Some, arith}
+use Rattle.std.proofs.Common.{◌≡◌, ℕ, ◌+◌, ◌-◌, ◌≤◌, ◌<◌, List, [], ◌∷◌, ◌++◌, length, drop, refl, sym, ap, ◌∙◌, subst, append_assoc, append-nil, length-append, length-drop, take, Some, arith}
 use Rattle.std.proofs.lemmas.List.{drop-map, take_all}
+use Rattle.std.proofs.Math.ListN.{length-map}
 use Rattle.std.proofs.Math.Seq.{drop-append_seam}
 use Rattle.std.specs.List.{flat_map}
 use Rattle.sl_base.specs.declared.limits.TheConstants.{STATEMENTS}
@@ -11,8 +12,10 @@ use Rattle.sl_base.specs.declared.word.Word.TheVariants.{Mark}
 use Rattle.sl_syntax.specs.declared.typed.Stmt.{Stmt}
 use Rattle.sl_tool.specs.declared.reading.reader.Reader.{Reader}
 use Rattle.sl_tool.specs.Form.{Item, vector_item, push_back_item, begin_item, dereference_item, item_words, Scope, no_scope, IsAllowed, after_item, after_items, typed_item, typed_items, push_places, words_in, UsesDeclared}
-use Rattle.sl_tool.specs.Reading.{BeginsWith, IsSmall, no_reader, scope_of, item_places, Adds, TakesItem, AreItems, IsRead}
-use Rattle.sl_tool.proofs.ItemLaws.{same_item, no_item_at_end}
+use Rattle.sl_tool.specs.Reading.{BeginsWith, IsSmall, no_reader, scope_of, item_places, Adds, TakesItem, AreItems, IsBody, IsRead}
+use Rattle.sl_tool.specs.Begins.{Stops}
+use Rattle.sl_tool.proofs.ItemLaws.{begins_with}
+use Rattle.sl_tool.proofs.StopHereLaws.{stops_behind}
 use Rattle.sl_tool.proofs.NameLaws.{number_below}
 
 -- The whole body is read where statements follow that end it.
@@ -27,14 +30,19 @@ pub record Reads (body rest : List Token) (r : Reader) (is : List Item) : Type 0
 pub record StandsAt (body rest : List Token) (room : ℕ) (r : Reader) : Type 0 where
   pub small : IsSmall (scope_of r)
   pub ends : (is : List Item) → AreItems (scope_of r) rest room is → Reads body rest r is
-  pub only : (items : List Item) → AreItems no_scope body STATEMENTS items → (is : List Item) × AreItems (scope_of r) rest room is
+  pub stops : (k : ℕ) → Stops (IsBody (scope_of r) room) (words_in rest) k → Stops (IsBody no_scope STATEMENTS) (words_in body) (length body - length rest + k)
+  pub inside : length rest ≤ length body
   pub declared : (ss : List Stmt) → UsesDeclared (length r.vectors) (length r.iterators) ss → UsesDeclared 0 0 (r.stmts ++ ss)
+
+begins_at : (body : List Token) (k : ℕ) → length body - length body + k ≡ k
+begins_at body k = omega arith
 
 pub starts : (body : List Token) → StandsAt body body STATEMENTS no_reader
 starts body = record {
   small = record { vectors = omega arith; iterators = omega arith; numbers = omega arith; names = omega arith; pushes = omega arith };
   ends = λ is h. record { items = is; are_items = h; stmts = refl; sites = refl; scope = refl };
-  only = λ items h. (items, h);
+  stops = λ k h. rw (begins_at body k) h;
+  inside = omega arith;
   declared = λ ss h. h;
 }
 
@@ -54,10 +62,6 @@ small_after s (dereference_item name iterator) allowed small =
     let numbers = length-append s.numbers (name ∷ []) in
     let names = length-append s.names (name ∷ []) in
     record { vectors = small.vectors; iterators = small.iterators; numbers = omega arith; names = omega arith; pushes = small.pushes }
-
--- words that are a statement's and others begin with it
-begins_with : (words ws : List Word) (i : Item) → words ≡ item_words i ++ ws → BeginsWith words i
-begins_with words ws i e = e ∙ ap (λ l. item_words i ++ l) (sym (ap (λ l. drop (length (item_words i)) l) e ∙ drop-append_seam (item_words i) ws))
 
 -- the statement that begins the tokens, and those behind it
 followed : (s : Scope) (tokens : List Token) (room : ℕ) (i : Item) (is : List Item) → BeginsWith (words_in tokens) i → IsAllowed s i → 0 < room → AreItems (after_item s i) (drop (length (item_words i)) tokens) (room - 1) is → AreItems s tokens room (i ∷ is)
@@ -86,13 +90,6 @@ behind s tokens room i is h = record {
 first_begins : (s : Scope) (tokens : List Token) (room : ℕ) (i : Item) (is : List Item) → AreItems s tokens room (i ∷ is) → BeginsWith (words_in tokens) i
 first_begins s tokens room i is h = begins_with (words_in tokens) _ i (h.words ∙ append_assoc (item_words i) (flat_map item_words is) (Mark RightBrace ∷ []))
 
--- where a statement begins the tokens, they are no others than it and those behind it
-only_followed : (s : Scope) (tokens : List Token) (room : ℕ) (i : Item) (is : List Item) → BeginsWith (words_in tokens) i → AreItems s tokens room is → (js : List Item) × AreItems (after_item s i) (drop (length (item_words i)) tokens) (room - 1) js
-only_followed s tokens room i [] begins h = absurd (no_item_at_end _ i h.words begins)
-only_followed s tokens room i (j ∷ js) begins h =
-    let same = same_item (words_in tokens) j i (first_begins s tokens room j js h) begins in
-    (js, behind s tokens room i js (subst (λ k. AreItems s tokens room (k ∷ js)) same h))
-
 push_places-cons : (tokens : List Token) (i : Item) (is : List Item) → push_places tokens (i ∷ is) ≡ item_places tokens i ++ push_places (drop (length (item_words i)) tokens) is
 push_places-cons tokens (vector_item name) is = refl
 push_places-cons tokens (push_back_item vector number) is = refl
@@ -105,6 +102,13 @@ uses_declared s tokens (vector_item name) ss allowed h = rw length-append at h
 uses_declared s tokens (push_back_item vector number) ss allowed h = (number_below s.vectors vector allowed.0, h)
 uses_declared s tokens (begin_item name vector) ss allowed h = (number_below s.vectors vector allowed.1, rw length-append at h)
 uses_declared s tokens (dereference_item name iterator) ss allowed h = (number_below s.iterators iterator allowed.1, h)
+
+item_inside : (tokens : List Token) (i : Item) → BeginsWith (words_in tokens) i → length (item_words i) ≤ length tokens
+item_inside tokens i begins =
+    let same : length (words_in tokens) ≡ length tokens = length-map tokens (λ (t : Token). t.word) in
+    let parts = length-append (item_words i) (drop (length (item_words i)) (words_in tokens)) in
+    let whole : length (words_in tokens) ≡ length (item_words i ++ drop (length (item_words i)) (words_in tokens)) = ap length begins in
+    omega arith
 
 -- One statement further. What it adds is known of the whole body too.
 module _ (body rest : List Token) (room : ℕ) (old new : Reader) (i : Item) (at : StandsAt body rest room old) (begins : BeginsWith (words_in rest) i) (adds : Adds old new rest i) (some : 0 < room) where
@@ -126,11 +130,14 @@ module _ (body rest : List Token) (room : ℕ) (old new : Reader) (i : Item) (at
         scope = ap (λ s. after_items s is) adds.scope ∙ all.scope;
       }
 
-  only_more : (items : List Item) → AreItems no_scope body STATEMENTS items → (is : List Item) × AreItems (scope_of new) (drop (length (item_words i)) rest) (room - 1) is
-  only_more items h =
-      let now = at.only items h in
-      let next = only_followed (scope_of old) rest room i now.0 begins now.1 in
-      (next.0, subst (λ s. AreItems s (drop (length (item_words i)) rest) (room - 1) next.0) (sym adds.scope) next.1)
+  stops_more : (k : ℕ) → Stops (IsBody (scope_of new) (room - 1)) (words_in (drop (length (item_words i)) rest)) k → Stops (IsBody no_scope STATEMENTS) (words_in body) (length body - length (drop (length (item_words i)) rest) + k)
+  stops_more k h =
+      let n = length (item_words i) in
+      let here = stops_behind (scope_of old) room i (words_in (drop n rest)) k adds.allowed some (subst (λ s. Stops (IsBody s (room - 1)) (words_in (drop n rest)) k) adds.scope h) in
+      let words : item_words i ++ words_in (drop n rest) ≡ words_in rest = ap (λ l. item_words i ++ l) (sym (drop-map (λ (t : Token). t.word) n rest)) ∙ sym begins in
+      let long = item_inside rest i begins in
+      let count : length body - length rest + (n + k) ≡ length body - length (drop n rest) + k = omega (arith, length-drop n rest, at.inside) in
+      rw count at (at.stops (n + k) (subst (λ l. Stops (IsBody (scope_of old) room) l (n + k)) words here))
 
   declared_more : (ss : List Stmt) → UsesDeclared (length new.vectors) (length new.iterators) ss → UsesDeclared 0 0 (new.stmts ++ ss)
   declared_more ss h =
@@ -142,7 +149,8 @@ module _ (body rest : List Token) (room : ℕ) (old new : Reader) (i : Item) (at
   moves = record {
     small = subst IsSmall (sym adds.scope) (small_after (scope_of old) i adds.allowed at.small);
     ends = reads_more;
-    only = only_more;
+    stops = stops_more;
+    inside = omega (arith, length-drop (length (item_words i)) rest, at.inside);
     declared = declared_more;
   }
 
@@ -158,15 +166,6 @@ read_at_end body rest room r at e =
       names = ap (λ (s : Scope). s.names) all.scope;
       declared = subst (λ l. UsesDeclared 0 0 l) (append-nil r.stmts) (at.declared [] tt);
     }
-
--- where no statement begins the tokens, they are none
-none_begins : (s : Scope) (tokens : List Token) (room : ℕ) (is : List Item) → (words_in tokens ≡ Mark RightBrace ∷ [] → ⊥) → ((i : Item) → BeginsWith (words_in tokens) i → IsAllowed s i → ⊥) → AreItems s tokens room is → ⊥
-none_begins s tokens room [] more none h = more h.words
-none_begins s tokens room (i ∷ is) more none h = none i (first_begins s tokens room i is h) h.allowed.0
-
--- then the body has no such statements
-pub none_follows : (body rest : List Token) (room : ℕ) (r : Reader) → StandsAt body rest room r → (words_in rest ≡ Mark RightBrace ∷ [] → ⊥) → ((i : Item) → BeginsWith (words_in rest) i → IsAllowed (scope_of r) i → ⊥) → (items : List Item) → AreItems no_scope body STATEMENTS items → ⊥
-none_follows body rest room r at more none items h = let now = at.only items h in none_begins (scope_of r) rest room now.0 more none now.1
 
 -- one statement further, where the reader has taken one
 pub takes_on : (body rest : List Token) (room n : ℕ) (old new : Reader) → StandsAt body rest room old → TakesItem old new rest (Some n) → 0 < room → StandsAt body (take (length rest - n) (drop n rest)) (room - 1) new

@@ -1,14 +1,14 @@
 -- The words of tokens, one by one, and statements that begin them.
-use Rattle.std.proofs.Common.{◌≡◌, ℕ, suc, ◌+◌, ◌<◌, List, [], ◌∷◌, length, get_or, drop, Option, Some, None, MatchOption, Result, Ok, Err, IfOk, subst, add-one, sym, ap, ◌∙◌}
+use Rattle.std.proofs.Common.{◌≡◌, ℕ, suc, ◌+◌, ◌<◌, List, [], ◌∷◌, ◌++◌, length, get_or, drop, Option, Some, None, MatchOption, Result, Ok, Err, IfOk, subst, add-one, sym, ap, ◌∙◌}
 use Rattle.std.proofs.Math.ListN.{get_or-map, length-map}
-use Rattle.std.proofs.Math.Seq.{drop-cons}
+use Rattle.std.proofs.Math.Seq.{drop-cons, drop-append_seam}
 use Rattle.std.specs.declared.alloc.AllocError.{AllocError}
 use Rattle.sl_base.specs.declared.mark.Mark.TheVariants.{RightBrace}
 use Rattle.sl_base.specs.declared.token.Token.{Token}
 use Rattle.sl_base.specs.declared.word.Word.{Word}
 use Rattle.sl_base.specs.declared.word.Word.TheVariants.{Mark}
 use Rattle.sl_tool.specs.declared.reading.reader.Reader.{Reader}
-use Rattle.sl_tool.specs.Form.{Item, vector_item, push_back_item, begin_item, dereference_item, words_in, IsAllowed}
+use Rattle.sl_tool.specs.Form.{Item, vector_item, push_back_item, begin_item, dereference_item, item_words, words_in, IsAllowed}
 use Rattle.sl_tool.specs.Reading.{BeginsWith, IsTaken, TakesItem, scope_of}
 
 -- the words from the token k on
@@ -22,6 +22,10 @@ front ts k t h e = rw add-one (
 pub carried : {T N M : Type 0} {P Q : T → Type 0} (r : Option T) → MatchOption r N P → (N → M) → ((x : T) → P x → Q x) → MatchOption r M Q
 carried None h none some = none h
 carried (Some x) h none some = some x h
+
+-- words that are a statement's and others begin with it
+pub begins_with : (words ws : List Word) (i : Item) → words ≡ item_words i ++ ws → BeginsWith words i
+begins_with words ws i e = e ∙ ap (λ l. item_words i ++ l) (sym (ap (λ l. drop (length (item_words i)) l) e ∙ drop-append_seam (item_words i) ws))
 
 -- no words begin with two statements
 pub same_item : (words : List Word) (i j : Item) → BeginsWith words i → BeginsWith words j → i ≡ j
@@ -63,6 +67,6 @@ no_item words v p b d (dereference_item name iterator) h = d name iterator h
 
 -- where a statement begins the tokens, what is said of it is said of the tokens
 pub taken : (old new : Reader) (tokens : List Token) (i : Item) (r : Result (Option ℕ) AllocError) → BeginsWith (words_in tokens) i → IfOk r (IsTaken old new tokens i) → IfOk r (TakesItem old new tokens)
-taken old new tokens i (Ok None) begins h = λ j other allowed. h (subst (λ k. IsAllowed (scope_of old) k) (sym (same_item (words_in tokens) i j begins other)) allowed)
+taken old new tokens i (Ok None) begins h = ((λ j other allowed. h.0 (subst (λ k. IsAllowed (scope_of old) k) (sym (same_item (words_in tokens) i j begins other)) allowed)), h.1)
 taken old new tokens i (Ok (Some n)) begins h = (i, begins, h.0, h.1)
 taken old new tokens i (Err e) begins h = tt

@@ -21,5 +21,11 @@ pub mod TextLaws
 pub mod ItemLaws
 pub mod NameLaws
 pub mod BodyLaws
-pub mod RefusalLaws
 pub mod Reported
+pub mod StopLaws
+pub mod SlotLaws
+pub mod FreshLaws
+pub mod KindLaws
+pub mod StopHereLaws
+pub mod HeadLaws
+pub mod OneTextLaws

@@ -3,6 +3,8 @@ pub mod Command
 pub mod Texts
 pub mod Form
 pub mod Refusals
+pub mod Begins
+pub mod Slots
 pub mod Answers
 pub mod Outcome
 pub mod Analysis

@@ -10,7 +10,10 @@ use Rattle.sl_base.specs.declared.word.Word.TheVariants.{Mark}
 use Rattle.sl_syntax.specs.declared.typed.Typed.{Typed}
 use Rattle.sl_syntax.specs.View.{is_vector}
 use Rattle.sl_tool.specs.declared.reading.reader.Reader.{Reader}
-use Rattle.sl_tool.specs.Form.{Item, push_back_item, item_words, Scope, no_scope, IsAllowed, after_item, after_items, AllAllowed, typed_item, typed_items, push_places, place_in, words_in, UsesDeclared}
+use Rattle.sl_tool.specs.declared.reading.read.Read.{Read}
+use Rattle.sl_tool.specs.declared.reading.read.Read.TheVariants.{Whole, Stops as ReadStops}
+use Rattle.sl_tool.specs.Begins.{IsText, Stops}
+use Rattle.sl_tool.specs.Form.{head_words, Item, push_back_item, item_words, Scope, no_scope, IsAllowed, after_item, after_items, AllAllowed, typed_item, typed_items, push_places, place_in, words_in, UsesDeclared}
 
 -- the words begin with those of the statement
 abbrev pub BeginsWith : List Word → Item → Type 0
@@ -44,14 +47,14 @@ pub record Adds (old new : Reader) (tokens : List Token) (i : Item) : Type 0 whe
   pub stmts : new.stmts ≡ old.stmts ++ typed_item (scope_of old) tokens i ∷ []
   pub sites : new.sites ≡ old.sites ++ item_places tokens i
 
--- so many tokens are read as the statement, or it may not stand here
+-- so many tokens are read as the statement; or it may not stand here, and nothing is read
 abbrev pub IsTaken : Reader → Reader → List Token → Item → Option ℕ → Type 0
-IsTaken old new tokens i taken = MatchOption taken (IsAllowed (scope_of old) i → ⊥) (λ n. (n ≡ length (item_words i)) × Adds old new tokens i)
+IsTaken old new tokens i taken = MatchOption taken ((IsAllowed (scope_of old) i → ⊥) × (new ≡ old)) (λ n. (n ≡ length (item_words i)) × Adds old new tokens i)
 
--- The statement whose tokens begin these is taken. None where no statement begins them, or it may not stand here.
+-- The statement whose tokens begin these is taken. None where no statement begins them, or it may not stand here; then nothing is read.
 abbrev pub TakesItem : Reader → Reader → List Token → Option ℕ → Type 0
 TakesItem old new tokens taken =
-    MatchOption taken ((i : Item) → BeginsWith (words_in tokens) i → IsAllowed (scope_of old) i → ⊥)
+    MatchOption taken (((i : Item) → BeginsWith (words_in tokens) i → IsAllowed (scope_of old) i → ⊥) × (new ≡ old))
     (λ n. (i : Item) × BeginsWith (words_in tokens) i × (n ≡ length (item_words i)) × Adds old new tokens i)
 
 -- the text that is read, up to this brace
@@ -63,6 +66,27 @@ pub record AreItems (s : Scope) (tokens : List Token) (room : ℕ) (items : List
   pub words : words_in tokens ≡ flat_map item_words items ++ Mark RightBrace ∷ []
   pub allowed : AllAllowed s items
   pub few : length items ≤ room
+
+-- the words are some statements and a closing brace, where this is declared and there may be so many
+pub record IsBody (s : Scope) (room : ℕ) (words : List Word) : Type 0 where
+  pub items : List Item
+  pub are_items : words ≡ flat_map item_words items ++ Mark RightBrace ∷ []
+  pub allowed : AllAllowed s items
+  pub few : length items ≤ room
+
+-- Where words stop of which no statement is read: one may follow, they aren't the closing brace alone, and no statement begins them that may stand here.
+abbrev pub StopsIn : Scope → List Word → ℕ → Type 0
+StopsIn s words k =
+    (room : ℕ) → 0 < room → (words ≡ Mark RightBrace ∷ [] → ⊥) → ((i : Item) → BeginsWith words i → IsAllowed s i → ⊥) → Stops (IsBody s room) words k
+
+-- Where words stop that don't begin with `int main() {`.
+abbrev pub StopsInHead : List Word → ℕ → Type 0
+StopsInHead words k = ((rest : List Word) → words ≡ head_words ++ rest → ⊥) → Stops IsText words k
+
+-- what is read, by whether it is all
+abbrev pub MatchRead : {T : Type 0} → Read T → (T → Type 0) → (ℕ → Type 0) → Type 0
+MatchRead (Whole x) whole stops = whole x
+MatchRead (ReadStops k) whole stops = stops k
 
 -- the tokens of the body are read whole
 pub record IsRead (body : List Token) (r : Reader) : Type 0 where

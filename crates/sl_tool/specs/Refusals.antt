@@ -1,5 +1,5 @@
 -- Why a text is refused, and where.
-use Rattle.std.specs.Prelude.{ℕ, List, codes}
+use Rattle.std.specs.Prelude.{ℕ, List, Result, Ok, Err, codes}
 use Rattle.sl_base.specs.declared.token.Token.{Token}
 use Rattle.sl_base.specs.Pieces.{TokenRule, bad_byte, bad_number, open_comment, open_text, bad_directive}
 use Rattle.sl_base.specs.Places.{place_at}
@@ -8,7 +8,8 @@ use Rattle.sl_syntax.specs.declared.typed.Typed.{Typed}
 use Rattle.sl_tool.specs.declared.refusal.Reason.{Reason}
 use Rattle.sl_tool.specs.declared.refusal.Reason.TheVariants.{BadByte, BadNumber, OpenComment, OpenText, BadDirective, NotBuilt}
 use Rattle.sl_tool.specs.declared.refusal.Refusal.{Refusal}
-use Rattle.sl_tool.specs.Form.{ReadsAs}
+use Rattle.sl_tool.specs.Begins.{StopsAt, stop_place}
+use Rattle.sl_tool.specs.Form.{IsBuilt}
 
 -- the words for a reason
 abbrev pub reason_words : Reason → List ℕ
@@ -27,12 +28,13 @@ reason_of open_comment = OpenComment
 reason_of open_text = OpenText
 reason_of bad_directive = BadDirective
 
--- what refuses a text that has tokens and isn't of the form
-abbrev pub not_built_yet : Refusal
-not_built_yet = record { place = record { line = 1; col = 1 }; reason = NotBuilt }
-
--- A text without tokens is refused by the first rule of tokens that it breaks, where it does. One that has tokens is refused as not
--- built where they aren't of the form.
+-- A text without tokens is refused by the first rule of tokens that it breaks, where it does. One that has tokens and isn't of the form is
+-- refused as not built, at the token with which they stop beginning one.
 pub data IsRefused (text : List ℕ) : Refusal → Type 0 where
   by_token : (rule : TokenRule) (at : ℕ) → TokenFault text rule at → IsRefused text (record { place = place_at text at; reason = reason_of rule })
-  by_form : (tokens : List Token) → Tokens text tokens → ((p : Typed) → ReadsAs tokens p → ⊥) → IsRefused text not_built_yet
+  by_form : (tokens : List Token) → Tokens text tokens → (k : ℕ) → StopsAt tokens k → IsRefused text (record { place = stop_place text tokens k; reason = NotBuilt })
+
+-- what is read of a text: the text in numbers, or why it is refused
+abbrev pub IsReadOf : List ℕ → Result Typed Refusal → Type 0
+IsReadOf text (Ok p) = IsBuilt text p
+IsReadOf text (Err r) = IsRefused text r

@@ -1,18 +1,21 @@
 //! A text from its bytes to a report.
-ghost use Rattle.std.specs.Prelude.{◌≡◌, ◌≤◌, List, ℕ, length, Some, IfOk, IfErr};
+ghost use Rattle.std.specs.Prelude.{◌≡◌, ◌≤◌, List, ℕ, length, Result, Some, IfOk};
 ghost use Rattle.sl_base.specs.Pieces.{TokenRule};
-ghost use Rattle.sl_base.specs.Tokens.{TokenFault};
+ghost use Rattle.sl_base.specs.Tokens.{Tokens, TokenFault};
 ghost use Rattle.sl_base.specs.declared.limits.TheConstants.{TEXT_BYTES};
 ghost use Rattle.sl_lexer.specs.Faults.{fault_of};
 ghost use Rattle.sl_model.specs.Covers.{Warning as WarningValue};
 ghost use Rattle.sl_model.specs.Texts.{report_text};
 ghost use Rattle.sl_tool.specs.Answers.{IsReport, status_of};
 ghost use Rattle.sl_syntax.specs.declared.typed.Typed.{Typed as TypedValue};
-ghost use Rattle.sl_tool.specs.Form.{IsBuilt, ReadsAs};
-ghost use Rattle.sl_tool.specs.Refusals.{IsRefused, not_built_yet, reason_of};
+ghost use Rattle.sl_tool.specs.Form.{IsBuilt};
+ghost use Rattle.sl_tool.specs.Begins.{stop_place};
+ghost use Rattle.sl_tool.specs.declared.refusal.Refusal.{Refusal as RefusalValue};
+ghost use Rattle.sl_tool.specs.Refusals.{IsReadOf, IsRefused, reason_of};
 ghost use Rattle.sl_tool.specs.Told.{report_of};
 
 use crate::analysis::{Warning, warnings_in};
+use crate::reading::read::Read;
 use crate::reading::read_text;
 use crate::refusal::{Reason, Refusal};
 use crate::rendering::render;
@@ -25,26 +28,42 @@ use std::alloc::{AllocError, Global};
 /// The text in numbers, or where and why it is refused.
 pub fn typed_text(alloc: Global, text: &[u8]) -> Result<Result<Typed, Refusal>, AllocError>
     requires { length text.now ≤ TEXT_BYTES }
-    ensures typed { IfOk result (λ read. IfOk read (IsBuilt text.now)) }
-    ensures refused { IfOk result (λ read. IfErr read (IsRefused text.now)) }
+    ensures so { IfOk result (IsReadOf text.now) }
+    ensures only { (other : Result TypedValue RefusalValue) → IsReadOf text.now other → IfOk result (λ read. read ≡ other) }
 {
     match lex(alloc, text) {
-        Ok(tokens) => typed_tokens(alloc, tokens.as_slice()),
+        Ok(tokens) => typed_tokens(alloc, text, tokens.as_slice()),
         Err(error) => Ok(Err(token_refusal(text, error)?)),
     }
 }
 
-// The text with these tokens in numbers, or that it isn't built.
-fn typed_tokens(alloc: Global, tokens: &[Token]) -> Result<Result<Typed, Refusal>, AllocError>
-    ensures typed { IfOk result (λ read. IfOk read (ReadsAs tokens.now)) }
-    ensures refused { IfOk result (λ read. IfErr read (λ r. (r ≡ not_built_yet) × ((p : TypedValue) → ReadsAs tokens.now p → ⊥))) }
+// The text with these tokens in numbers, or where they stop.
+fn typed_tokens(
+    alloc: Global,
+    text: &[u8],
+    tokens: &[Token],
+) -> Result<Result<Typed, Refusal>, AllocError>
+    requires short { length text.now ≤ TEXT_BYTES }
+    requires cut { Tokens text.now tokens.now }
+    ensures { IfOk result (IsReadOf text.now) }
 {
     match read_text(alloc, tokens)? {
-        Some(p) => Ok(Ok(p)),
-        None => Ok(Err(Refusal {
-            place: Place::FIRST,
+        Read::Whole(p) => Ok(Ok(p)),
+        Read::Stops(k) => Ok(Err(Refusal {
+            place: stop_place(text, tokens, k),
             reason: Reason::NotBuilt,
         })),
+    }
+}
+
+// The place of the token k, and where there is none the one behind the last byte.
+fn stop_place(text: &[u8], tokens: &[Token], k: usize) -> Place
+    requires { length text.now ≤ TEXT_BYTES }
+    ensures { result ≡ stop_place text.now tokens.now k }
+{
+    match tokens.get(k) {
+        Some(token) => token.place,
+        None => place_of(text, text.len()),
     }
 }
 

@@ -60,7 +60,13 @@ fn check(alloc: Global, text: &[u8]) -> Result<Ran, AllocError> {
 
 const PASSED: &str = "a.cpp: passed\n";
 
-const NOT_BUILT: &str = "a.cpp:1:1: refused: not built\n";
+// The line of a text that is refused at this place, and where there is none of one that passes.
+fn answer_at(alloc: Global, place: &str) -> Result<String, AllocError> {
+    if place.is_empty() {
+        return String::from_str(alloc, PASSED);
+    }
+    refused_at(alloc, place, "not built")
+}
 
 fn refused_at(alloc: Global, place: &str, why: &str) -> Result<String, AllocError> {
     format!(in alloc; "a.cpp:{place}: refused: {why}\n")
@@ -68,44 +74,47 @@ fn refused_at(alloc: Global, place: &str, why: &str) -> Result<String, AllocErro
 
 #[test]
 fn texts(rt: HostRuntime) -> Result<(), Fail> {
+    // No place: the text passes.
     let cases = [
-        ("int main() {}", true),
-        ("int main() {}\n", true),
-        ("int main() {\r\n}\r\n", true),
-        ("\t int\n\nmain ( )\r{ } ", true),
+        ("int main() {}", ""),
+        ("int main() {}\n", ""),
+        ("int main() {\r\n}\r\n", ""),
+        ("\t int\n\nmain ( )\r{ } ", ""),
+        ("intmain() {}", "1:1"),
+        ("int main() {", "1:13"),
+        ("int main() {\n", "2:1"),
+        ("int main() {}}", "1:14"),
+        ("int main() { int x = 1; }", "1:14"),
+        ("int main(int) {}", "1:10"),
+        ("int mein() {}", "1:5"),
+        ("std::int main() {}", "1:1"),
+        ("int std::main() {}", "1:5"),
+        ("int Main() {}", "1:5"),
+        ("int main() {} ++", "1:15"),
+        ("int main() {} \"int\"", "1:15"),
         (
             "#include <vector>\n# include <map> // maps\nint main() { /* nothing */ }",
-            true,
+            "",
         ),
-        ("intmain() {}", false),
-        ("int main() {", false),
-        ("int main() {\n", false),
-        ("int main() {}}", false),
-        ("int main() { int x = 1; }", false),
-        ("int main(int) {}", false),
-        ("int mein() {}", false),
-        ("std::int main() {}", false),
-        ("int std::main() {}", false),
-        ("int Main() {}", false),
-        ("int main() {} ++", false),
-        ("int main() {} \"int\"", false),
-        ("", false),
-        (" ", false),
-        ("#include <vector>", false),
+        ("#include <vector>", "1:18"),
+        ("", "1:1"),
+        (" ", "1:2"),
+        ("int", "1:4"),
         (
             "int x64_aaaaaaaaaaaaaaaaaaaaaaaaaaaaaaaaaaaaaaaaaaaaaaaaaaaaaaaaaaaa",
-            false,
+            "1:5",
         ),
-        ("int main() {} 2147483647", false),
-        ("0", false),
+        ("int main() {} 2147483647", "1:15"),
+        ("0", "1:1"),
     ];
-    for (text, passes) in cases {
+    for (text, place) in cases {
         let ran = check(rt.alloc(), text.as_bytes())?;
-        let (status, line) = if passes {
-            (Status::Passed, PASSED)
+        let status = if place.is_empty() {
+            Status::Passed
         } else {
-            (Status::Refused, NOT_BUILT)
+            Status::Refused
         };
+        let line = answer_at(rt.alloc(), place)?;
         assert_eq!(rt; ran.status, status, "{text:?}");
         assert_eq!(rt; ran.out.bytes(), line.as_bytes(), "{text:?}");
     }
@@ -127,6 +136,8 @@ fn texts_without_tokens(rt: HostRuntime) -> Result<(), Fail> {
         ("int main() {\r\n  \"x\r\n}", "2:3", "open text"),
         ("int main() { '' }", "1:14", "open text"),
         ("int main() {} #", "1:15", "bad directive"),
+        // The fault of a later token comes before a text of another form.
+        ("int mein() {}\n #", "2:2", "bad directive"),
         ("\n#include <string>\nint main() {}", "2:1", "bad directive"),
         ("\n\n\\", "3:1", "bad byte"),
         (
@@ -215,42 +226,75 @@ fn reports(rt: HostRuntime) -> Result<(), Fail> {
 #[test]
 fn other_statements(rt: HostRuntime) -> Result<(), Fail> {
     let cases = [
-        "v.clear();",
-        "std::vector<int> v; v.push_back(1); auto it = v.begin(); v.clear(); int x = *it;",
+        ("v.clear();", "2:3"),
+        ("std::vector<int> v; v.clear();", "3:5"),
+        (
+            "std::vector<int> v; v.push_back(1); auto it = v.begin(); v.clear(); int x = *it;",
+            "5:5",
+        ),
         // used before it is declared
-        "v.push_back(1); std::vector<int> v;",
-        "auto it = v.begin(); std::vector<int> v;",
-        "std::vector<int> v; int x = *it; auto it = v.begin();",
+        ("v.push_back(1); std::vector<int> v;", "2:3"),
+        ("auto it = v.begin(); std::vector<int> v;", "2:3"),
+        (
+            "std::vector<int> v; int x = *it; auto it = v.begin();",
+            "3:3",
+        ),
         // declared twice
-        "std::vector<int> v; std::vector<int> v;",
-        "std::vector<int> v; auto v = v.begin();",
-        "std::vector<int> v; auto it = v.begin(); auto it = v.begin();",
-        "std::vector<int> v; auto it = v.begin(); int v = *it;",
-        "std::vector<int> v; auto it = v.begin(); int it = *it;",
+        ("std::vector<int> v; std::vector<int> v;", "3:20"),
+        ("std::vector<int> v; auto v = v.begin();", "3:8"),
+        (
+            "std::vector<int> v; auto it = v.begin(); auto it = v.begin();",
+            "4:8",
+        ),
+        (
+            "std::vector<int> v; auto it = v.begin(); int v = *it;",
+            "4:7",
+        ),
+        (
+            "std::vector<int> v; auto it = v.begin(); int it = *it;",
+            "4:7",
+        ),
         // of the wrong kind
-        "std::vector<int> v; int x = *v;",
-        "std::vector<int> v; auto it = v.begin(); it.push_back(1);",
-        "std::vector<int> v; auto it = v.begin(); auto at = it.begin();",
-        "std::vector<int> v; v.push_back(1); auto it = v.begin(); int x = *it; int y = *x;",
+        ("std::vector<int> v; int x = *v;", "3:3"),
+        (
+            "std::vector<int> v; auto it = v.begin(); int x = *v;",
+            "4:12",
+        ),
+        (
+            "std::vector<int> v; auto it = v.begin(); it.push_back(1);",
+            "4:3",
+        ),
+        (
+            "std::vector<int> v; auto it = v.begin(); auto at = it.begin();",
+            "4:13",
+        ),
+        (
+            "std::vector<int> v; v.push_back(1); auto it = v.begin(); int x = *it; int y = *x;",
+            "6:12",
+        ),
         // of another form
-        "std::list<int> v;",
-        "std::vector<bool> v;",
-        "std::vector<int> v",
-        "std::vector<int> v; v.push_back();",
-        "std::vector<int> v; v.push_back(v);",
-        "std::vector<int> v; v.push_back(1; );",
-        "std::vector<int> v; int it = v.begin();",
-        "std::vector<int> v; auto it = v.end();",
-        "std::vector<int> v; auto it = v.begin(); auto x = *it;",
-        "std::vector<int> v; auto it = v.begin(); *it;",
-        "double d;",
-        ";",
+        ("std::list<int> v;", "2:3"),
+        ("std::vector<bool> v;", "2:15"),
+        ("std::vector<int> v", "3:1"),
+        ("std::vector<int> v; v.push_back();", "3:15"),
+        ("std::vector<int> v; v.push_back(v);", "3:15"),
+        ("std::vector<int> v; v.push_back(1; );", "3:16"),
+        ("std::vector<int> v; int it = v.begin();", "3:3"),
+        ("std::vector<int> v; auto it = v.end();", "3:15"),
+        (
+            "std::vector<int> v; auto it = v.begin(); auto x = *it;",
+            "4:12",
+        ),
+        ("std::vector<int> v; auto it = v.begin(); *it;", "4:3"),
+        ("double d;", "2:3"),
+        (";", "2:3"),
     ];
-    for statements in cases {
+    for (statements, place) in cases {
         let text = main_of(rt.alloc(), statements)?;
         let ran = check(rt.alloc(), text.as_bytes())?;
+        let line = answer_at(rt.alloc(), place)?;
         assert_eq!(rt; ran.status, Status::Refused, "{statements}");
-        assert_eq!(rt; ran.out.bytes(), NOT_BUILT.as_bytes(), "{statements}");
+        assert_eq!(rt; ran.out.bytes(), line.as_bytes(), "{statements}");
     }
     Ok(())
 }
@@ -285,13 +329,13 @@ fn counted(alloc: Global, counts: &Counts) -> Result<String, AllocError> {
 #[test]
 fn limits(rt: HostRuntime) -> Result<(), Fail> {
     let cases = [
-        (16, 4095, 32, 48, true),
-        (17, 4095, 32, 48, false),
-        (16, 4096, 32, 48, false),
-        (16, 4095, 33, 48, false),
-        (16, 4095, 32, 49, false),
+        (16, 4095, 32, 48, ""),
+        (17, 4095, 32, 48, "18:1"),
+        (16, 4096, 32, 48, "4113:1"),
+        (16, 4095, 33, 48, "4145:1"),
+        (16, 4095, 32, 49, "4193:1"),
     ];
-    for (vectors, pushes, iterators, numbers, passes) in cases {
+    for (vectors, pushes, iterators, numbers, place) in cases {
         let counts = Counts {
             vectors,
             pushes,
@@ -305,7 +349,7 @@ fn limits(rt: HostRuntime) -> Result<(), Fail> {
             ..HONEST
         };
         let ran = run(rt.alloc(), &["check", "a.cpp"], &outside)?;
-        let line = if passes { PASSED } else { NOT_BUILT };
+        let line = answer_at(rt.alloc(), place)?;
         assert_eq!(rt;
             ran.out.bytes(),
             line.as_bytes(),

@@ -3,14 +3,20 @@ ghost use Rattle.std.specs.Prelude.{◌≡◌, ◌↔◌, [], ◌∷◌, ◌++�
 ghost use Rattle.sl_base.specs.declared.mark.Mark.TheVariants.{RightBrace};
 ghost use Rattle.sl_base.specs.declared.word.Word.{Word};
 ghost use Rattle.sl_base.specs.declared.word.Word.TheVariants.{Mark as MarkWord};
-ghost use Rattle.sl_tool.specs.Form.{Item, head_words, no_scope, words_in};
-ghost use Rattle.sl_tool.specs.Reading.{AreItems, IsRead};
+ghost use Rattle.sl_tool.specs.Begins.{Stops};
+ghost use Rattle.sl_tool.specs.Form.{head_words, no_scope, words_in};
+ghost use Rattle.sl_tool.specs.Reading.{IsBody, IsRead, MatchRead};
 
+use crate::reading::read::Read;
 use crate::reading::reader::Reader;
+use crate::reading::stopping::{stop_in_body, stop_without_room};
 use crate::reading::tokens::{is_key, is_mark, is_name};
 use sl_base::limits::STATEMENTS;
 use sl_base::{Mark, Token};
 use std::alloc::{AllocError, Global};
+
+/// How many tokens `int main() {` has.
+pub const HEAD_TOKENS: usize = 5;
 
 /// The tokens behind `int main() {`.
 pub fn body_of(tokens: &[Token]) -> Option<&[Token]>
@@ -30,26 +36,24 @@ pub fn body_of(tokens: &[Token]) -> Option<&[Token]>
     }
 }
 
-/// Reads the tokens of the body, up to its closing brace. None where they are no statements that may stand there.
-pub fn read_body(alloc: Global, body: &[Token]) -> Result<Option<Reader>, AllocError>
-    ensures { IfOk result (λ read. MatchOption read
-        ((items : List Item) → AreItems no_scope body.now STATEMENTS items → ⊥)
-        (IsRead body.now)) }
+/// Reads the tokens of the body, up to its closing brace.
+pub fn read_body(alloc: Global, body: &[Token]) -> Result<Read<Reader>, AllocError>
+    ensures { IfOk result (λ read. MatchRead read (IsRead body.now) (Stops (IsBody no_scope STATEMENTS) (words_in body.now))) }
 {
     let mut reader = Reader::new(alloc);
     let mut rest = body;
     let mut room = STATEMENTS;
     while !is_end(rest) {
         if room == 0 {
-            return Ok(None);
+            return Ok(Read::Stops(body.len() - rest.len() + stop_without_room(rest)));
         }
         let Some(taken) = reader.take_item(rest)? else {
-            return Ok(None);
+            return Ok(Read::Stops(body.len() - rest.len() + stop_in_body(&reader, rest)));
         };
         rest = &rest[taken..];
         room -= 1;
     }
-    Ok(Some(reader))
+    Ok(Read::Whole(reader))
 }
 
 // Whether the tokens are the closing brace alone.

@@ -8,8 +8,8 @@ returns-then-text-gt-TEXT_BYTES c = rw (c.into_bytes.ensures.value, c.in_ok-line
 
 pub returns-in-Ok : goal.returns-in-Ok
 returns-in-Ok c =
-    let typed = rw c.in-Ok.is at c.in_ok-p.ensures.typed in
+    let typed = rw c.in-Ok.is at c.in_ok-p.ensures.so in
     AnswerTo-report _ _ c.in-Ok.p _ (omega arith) typed (c.check.ensures c.args.text.now typed)
 
 pub returns-in-Err : goal.returns-in-Err
-returns-in-Err c = AnswerTo-refusal _ _ c.in-Err.refusal _ (omega arith) (rw c.in-Err.is at c.in_ok-p.ensures.refused) c.refuse.ensures
+returns-in-Err c = AnswerTo-refusal _ _ c.in-Err.refusal _ (omega arith) (rw c.in-Err.is at c.in_ok-p.ensures.so) c.refuse.ensures
