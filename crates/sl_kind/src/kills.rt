@@ -5,7 +5,7 @@ use sl_base::Site;
 
 /// A set of sites, such as those at which an iterator may have been invalidated. A contract asks of a number whether
 /// the site with it is in the set. No call takes memory.
-#[derive(Clone, Copy, Debug, PartialEq, Eq)]
+#[derive(Clone, Copy)]
 pub struct Kills {
     words: [u64; 64],
 }

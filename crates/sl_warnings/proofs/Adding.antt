@@ -1,5 +1,6 @@
 -- A report after one warning more.
 use Rattle.std.proofs.Common.{arith, ◌≡◌, ℕ, zero, suc, ◌<◌, ◌≤◌, List, [], ◌∷◌, length, get_or, insert, refl, sym, ap, subst, ◌∙◌}
+use Rattle.std.specs.Prelude.{All}
 use Rattle.std.specs.List.{AllByRecursion}
 use Rattle.std.specs.List.Sorted.{IsStrictlySortedBy}
 use Rattle.std.specs.declared.cmp.Ordering.{Ordering}
@@ -68,3 +69,18 @@ added-ascending w (v ∷ vs) asc = by_order (IsAscending (added w (v ∷ vs))) (
     (λ h. subst IsAscending (sym (added-less w v vs h)) (after_added v w vs h asc.0, added-ascending w vs asc.1))
     (λ h. subst IsAscending (sym (added-equal w v vs h)) (after_joined v w.killers vs asc.0, asc.1))
     (λ h. subst IsAscending (sym (added-greater w v vs h)) ((greater_first v w h, after_through w v vs (greater_first v w h) asc.0), asc))
+
+all-cons : (P : Warning → Type 0) (w : Warning) (ws : List Warning) → P w → All P ws → All P (w ∷ ws)
+all-cons P w ws h rest zero d lt = h
+all-cons P w ws h rest (suc k) d lt = rest k d (omega arith)
+
+-- what holds of each warning of a report and of one more, and whatever the killers, holds of each warning after it
+pub each-added : (P : Warning → Type 0) → ((v : Warning) (more : List ℕ) → P v → P (with_killers v more)) → (w : Warning) (ws : List Warning) → P w → All P ws → All P (added w ws)
+each-added P joins w [] h all = all-cons P w [] h all
+each-added P joins w (v ∷ vs) h all =
+    let first : P v = all 0 v (omega arith) in
+    let rest : All P vs = λ k d lt. all (suc k) d (omega arith) in
+    by_order (All P (added w (v ∷ vs))) (warning_cmp v w)
+    (λ e. subst (All P) (sym (added-less w v vs e)) (all-cons P v (added w vs) first (each-added P joins w vs h rest)))
+    (λ e. subst (All P) (sym (added-equal w v vs e)) (all-cons P (with_killers v w.killers) vs (joins v w.killers first) rest))
+    (λ e. subst (All P) (sym (added-greater w v vs e)) (all-cons P w (v ∷ vs) h all))
