@@ -1,0 +1,43 @@
+-- The parts of a report's text.
+use Rattle.std.proofs.Common.{arith, append_assoc, ◌≡◌, ◌≢◌, ◌≤◌, ◌<◌, ◌+◌, ℕ, zero, suc, Some, None, ◌∙◌, List, [], ◌∷◌, ◌++◌, length, get_or, take, ◌-◌, drop, refl, ap, sym}
+use Rattle.std.specs.Prelude.{codes, flat_map, slice_get}
+use Rattle.std.proofs.Math.Seq.{take_all}
+use Rattle.sl_base.specs.declared.place.Place.{Place}
+use Rattle.sl_model.specs.Covers.{Warning}
+use Rattle.sl_model.specs.Texts.{site_text, further_sites, sites_text, warning_line, count_line, report_text}
+
+-- the text of sites, of which there is a first one
+pub sites_text-first : (sites : List Place) (killers : List ℕ) (first : ℕ) → 1 ≤ length killers → first ≡ get_or killers 0 first
+    → sites_text sites killers ≡ codes ", invalidated at " ++ (site_text sites first ++ further_sites sites (take (length killers - 1) (drop 1 killers)))
+sites_text-first sites [] first h e = absurd (omega arith)
+sites_text-first sites (k ∷ ks) first h e =
+    let all : take (suc (length ks) - 1) ks ≡ ks = take_all (suc (length ks) - 1) ks (omega arith) in
+    rw (all, sym e) refl
+
+-- the text of a report that isn't empty
+pub report_text-some : (file : List ℕ) (sites : List Place) (ws : List Warning) → length ws ≢ 0
+    → report_text file sites ws ≡ flat_map (warning_line file sites) ws ++ count_line file (length ws)
+report_text-some file sites [] h = absurd (h refl)
+report_text-some file sites (w ∷ ws) h = refl
+
+-- the parts of a warning's line in one row
+pub regrouped : (out file a line b col c kind d call e who killers end : List ℕ) → ((((((((out ++ (file ++ (a ++ (line ++ (b ++ (col ++ c)))))) ++ kind) ++ d) ++ call) ++ e) ++ who) ++ killers) ++ end)
+    ≡ out ++ (file ++ (a ++ (line ++ (b ++ (col ++ (c ++ (kind ++ (d ++ (call ++ (e ++ (who ++ (killers ++ end))))))))))))
+regrouped out file a line b col c kind d call e who killers end = simp append_assoc
+
+drop-there : (ws : List Warning) (i : ℕ) (w : Warning) → slice_get ws i ≡ Some w → drop i ws ≡ w ∷ drop (i + 1) ws
+drop-there [] i w h = absurd cc
+drop-there (v ∷ vs) zero w h = let same : v ≡ w = cc in ap (λ x. x ∷ vs) same
+drop-there (v ∷ vs) (suc i) w h = drop-there vs i w h ∙ ap (λ n. w ∷ drop n (v ∷ vs)) (let e : suc (i + 1) ≡ suc i + 1 = omega arith in e)
+
+-- one line more
+pub line-next : (line : Warning → List ℕ) (ws : List Warning) (i : ℕ) (w : Warning) (out all : List ℕ) → slice_get ws i ≡ Some w
+    → out ++ flat_map line (drop i ws) ≡ all → (out ++ line w) ++ flat_map line (drop (i + 1) ws) ≡ all
+line-next line ws i w out all h e =
+    append_assoc out (line w) (flat_map line (drop (i + 1) ws)) ∙ ap (λ l. out ++ flat_map line l) (sym (drop-there ws i w h)) ∙ e
+
+-- there is a warning at each index
+pub some-there : (ws : List Warning) (i : ℕ) → i < length ws → slice_get ws i ≡ None → ⊥
+some-there [] i lt h = omega arith
+some-there (w ∷ ws) zero lt h = absurd cc
+some-there (w ∷ ws) (suc i) lt h = some-there ws i (omega arith) h

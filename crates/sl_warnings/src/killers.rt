@@ -1,0 +1,103 @@
+//! The text of the places at which an iterator may have been invalidated.
+ghost use Rattle.std.specs.Prelude.{◌≡◌, [], ◌∷◌, ◌++◌, if◌then◌else◌, IfOk, OnOk};
+ghost use Rattle.sl_kind.specs.Kills.{has};
+ghost use Rattle.sl_model.specs.Texts.{place_text, site_text, further_sites, sites_text, killers_text};
+ghost use Rattle.sl_warnings.specs.Views.{sites_in};
+
+use crate::rendering::push;
+use sl_base::limits::SITES;
+use sl_base::{Items, Place, Site};
+use sl_kind::Kills;
+use std::alloc::{AllocError, Global};
+
+// The places of these killers, where the kind is that of an invalid iterator.
+pub fn push_killers(
+    alloc: Global,
+    out: &mut Items<u8>,
+    sites: &[Place],
+    kind: u8,
+    killers: &Kills,
+) -> Result<(), AllocError>
+    ensures { OnOk result (out.new ≡ out.old ++ killers_text sites.now kind (sites_in killers.now)) }
+{
+    if kind != 1 {
+        return Ok(());
+    }
+    let numbers = sites_of(alloc, killers)?;
+    push_sites(alloc, out, sites, numbers.as_slice())
+}
+
+// The sites of a set in ascending order.
+fn sites_of(alloc: Global, killers: &Kills) -> Result<Items<Site>, AllocError>
+    ensures { IfOk result (λ sites. sites ≡ sites_in killers.now) }
+{
+    let mut sites = Items::new(alloc);
+    for number in 0..SITES as u16 {
+        push_killer(&mut sites, killers, Site::new(number))?;
+    }
+    Ok(sites)
+}
+
+// Puts a site at the end if it is in the set.
+fn push_killer(sites: &mut Items<Site>, killers: &Kills, site: Site) -> Result<(), AllocError>
+    ensures { OnOk result (sites.new ≡ sites.old ++ (if has killers.now site then site ∷ [] else [])) }
+{
+    if killers.has(site) {
+        sites.push(site)?;
+    }
+    Ok(())
+}
+
+fn push_sites(
+    alloc: Global,
+    out: &mut Items<u8>,
+    sites: &[Place],
+    killers: &[Site],
+) -> Result<(), AllocError>
+    ensures { OnOk result (out.new ≡ out.old ++ sites_text sites.now killers.now) }
+{
+    if let [first, more @ ..] = killers {
+        push(out, b", invalidated at ")?;
+        push_site(alloc, out, sites, *first)?;
+        push_further(alloc, out, sites, more)?;
+    }
+    Ok(())
+}
+
+fn push_further(
+    alloc: Global,
+    out: &mut Items<u8>,
+    sites: &[Place],
+    killers: &[Site],
+) -> Result<(), AllocError>
+    ensures { OnOk result (out.new ≡ out.old ++ further_sites sites.now killers.now) }
+{
+    for killer in killers {
+        push(out, b", ")?;
+        push_site(alloc, out, sites, *killer)?;
+    }
+    Ok(())
+}
+
+// The place of a site.
+fn push_site(
+    alloc: Global,
+    out: &mut Items<u8>,
+    sites: &[Place],
+    site: Site,
+) -> Result<(), AllocError>
+    ensures { OnOk result (out.new ≡ out.old ++ site_text sites.now site) }
+{
+    match sites.get(usize::from(site.number())) {
+        Some(place) => push_place(alloc, out, *place),
+        None => Ok(()),
+    }
+}
+
+fn push_place(alloc: Global, out: &mut Items<u8>, place: Place) -> Result<(), AllocError>
+    ensures { OnOk result (out.new ≡ out.old ++ place_text place) }
+{
+    let line = place.line;
+    let col = place.col;
+    push(out, format!(in alloc; "{line}:{col}")?.as_bytes())
+}

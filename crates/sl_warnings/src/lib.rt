@@ -1,0 +1,17 @@
+//! Warnings, the report that keeps them in order, and its text.
+#![tactic(auto)]
+
+mod killers;
+mod laws;
+mod rendering;
+mod report;
+mod spot;
+#[cfg(test)]
+mod tests;
+mod warning;
+mod wording;
+
+pub use laws::{covers_more, stays_ascending, tells_its_sites};
+pub use rendering::render;
+pub use report::Report;
+pub use warning::Warning;

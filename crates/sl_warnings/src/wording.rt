@@ -1,0 +1,66 @@
+//! The words for the kind of a failure and for the one whose need it is.
+ghost use Rattle.std.specs.Prelude.{◌≡◌, ◌++◌, OnOk};
+ghost use Rattle.sl_model.specs.Texts.{kind_text, who_text, name_text, name_in_for};
+
+use crate::rendering::push;
+use sl_base::{Items, Name};
+use std::alloc::{AllocError, Global};
+
+// The words for a kind, none where the number is no kind's.
+pub fn kind_words(kind: u8) -> &'static str
+    ensures { result.now ≡ kind_text kind }
+{
+    match kind {
+        1 => "invalid iterator",
+        2 => "wrong container",
+        3 => "bad range",
+        4 => "end iterator",
+        5 => "out of range",
+        6 => "empty container",
+        7 => "own elements",
+        8 => "no room",
+        9 => "overlap",
+        10 => "not partitioned",
+        11 => "not sorted",
+        _ => "",
+    }
+}
+
+// Whose need it is.
+pub fn push_who(
+    alloc: Global,
+    out: &mut Items<u8>,
+    call: &[u8],
+    argument: u8,
+    name: &Option<Name>,
+) -> Result<(), AllocError>
+    ensures { OnOk result (out.new ≡ out.old ++ who_text call.now argument name.now) }
+{
+    match name {
+        Some(name) => push_name(out, call, argument, name.as_slice()),
+        None => push(out, format!(in alloc; "argument {argument}")?.as_bytes()),
+    }
+}
+
+// An argument's name in a call.
+fn push_name(out: &mut Items<u8>, call: &[u8], argument: u8, name: &[u8]) -> Result<(), AllocError>
+    ensures { OnOk result (out.new ≡ out.old ++ name_text call.now argument name.now) }
+{
+    if call == b"for".as_slice() {
+        push_in_for(out, argument, name)
+    } else {
+        push(out, name)
+    }
+}
+
+// The name of the container of a range-for, with which of its iterators it is.
+fn push_in_for(out: &mut Items<u8>, argument: u8, name: &[u8]) -> Result<(), AllocError>
+    ensures { OnOk result (out.new ≡ out.old ++ name_in_for argument name.now) }
+{
+    if argument == 1 {
+        push(out, b"begin of ")?;
+    } else if argument == 2 {
+        push(out, b"end of ")?;
+    }
+    push(out, name)
+}
