@@ -1,7 +1,6 @@
 -- Answers to a text that was read are those to all that was left of the file, and no text has two tokenings.
-use Rattle.std.proofs.Common.{◌≡◌, ◌≤◌, ◌++◌, ℕ, List, length, Option, Some, None, sym, ap, ◌∙◌, arith, length-append, append-nil, Result, Ok, Err, IfOk, Vec}
+use Rattle.std.proofs.Common.{◌≡◌, ◌≤◌, ◌++◌, ℕ, List, length, Option, Some, None, sym, ap, ◌∙◌, arith, length-append, append-nil, Result, Ok, Err, IfOk}
 use Rattle.std.specs.declared.alloc.AllocError.{AllocError}
-use Rattle.std.specs.declared.alloc.Global.{Global}
 use Rattle.sl_syntax.specs.declared.typed.Typed.{Typed as TypedCode}
 use Rattle.sl_model.specs.Covers.{Warning}
 use Rattle.sl_model.specs.Texts.{report_text, refusal_line}
@@ -15,14 +14,14 @@ use Rattle.sl_tool.specs.declared.status.Status.{Status}
 use Rattle.sl_tool.specs.Answers.{AnswerTo, too_long, refused, reported, IsReport, status_of}
 
 -- the report on a text of the form is its answer
-pub AnswerTo-report : (file text : List ℕ) (p : TypedCode) (result : Result (Status × Vec ℕ Global) AllocError) → length text ≤ TEXT_BYTES → IsBuilt text p
-    → IfOk result (λ a. (r : List Warning) × IsReport p r × (a.0 ≡ status_of r) × (a.1.items ≡ report_text file p.sites r)) → IfOk result (λ a. AnswerTo file text a.0 a.1.items)
+pub AnswerTo-report : (file text : List ℕ) (p : TypedCode) (result : Result (Status × List ℕ) AllocError) → length text ≤ TEXT_BYTES → IsBuilt text p
+    → IfOk result (λ a. (r : List Warning) × IsReport p r × (a.0 ≡ status_of r) × (a.1 ≡ report_text file p.sites r)) → IfOk result (λ a. AnswerTo file text a.0 a.1)
 AnswerTo-report file text p (Ok a) short built h = rw (h.2, h.3) (reported short p built h.0 h.1)
 AnswerTo-report file text p (Err e) short built h = tt
 
 -- where a text is refused, that is its answer
-pub AnswerTo-refusal : (file text : List ℕ) (r : Refusal) (result : Result (Status × Vec ℕ Global) AllocError) → length text ≤ TEXT_BYTES → IsRefused text r
-    → IfOk result (λ a. (a.0 ≡ Refused) × (a.1.items ≡ refusal_line file r.place (reason_words r.reason))) → IfOk result (λ a. AnswerTo file text a.0 a.1.items)
+pub AnswerTo-refusal : (file text : List ℕ) (r : Refusal) (result : Result (Status × List ℕ) AllocError) → length text ≤ TEXT_BYTES → IsRefused text r
+    → IfOk result (λ a. (a.0 ≡ Refused) × (a.1 ≡ refusal_line file r.place (reason_words r.reason))) → IfOk result (λ a. AnswerTo file text a.0 a.1)
 AnswerTo-refusal file text r (Ok a) short is h = rw (h.0, h.1) (refused short r is)
 AnswerTo-refusal file text r (Err e) short is h = tt
 

@@ -17,7 +17,6 @@ pub mod Ascending
 pub mod Built
 pub mod KillersAscend
 pub mod Founded
-pub mod TextLaws
 pub mod ItemLaws
 pub mod NameLaws
 pub mod BodyLaws
@@ -29,3 +28,4 @@ pub mod KindLaws
 pub mod StopHereLaws
 pub mod HeadLaws
 pub mod OneTextLaws
+pub mod ReportLaws

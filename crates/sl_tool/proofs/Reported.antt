@@ -3,7 +3,8 @@ use Rattle.std.proofs.Common.{ℕ, List}
 use Rattle.sl_syntax.specs.declared.typed.Typed.{Typed}
 use Rattle.sl_tool.specs.Answers.{IsReport}
 use Rattle.sl_tool.specs.Analysis.{nothing_known, warnings_of}
-use Rattle.sl_tool.specs.Form.{IsBuilt}
+use Rattle.sl_tool.specs.Exactness.{AreInOrder, KillersAscend}
+use Rattle.sl_tool.specs.Form.{IsBuilt, IsOfText}
 use Rattle.sl_tool.specs.Told.{report_of}
 use Rattle.sl_tool.proofs.Soundness.{reports, meaning}
 use Rattle.sl_tool.proofs.Founded.{uses-declared, exact-built, order-built, founded-built}
@@ -16,3 +17,11 @@ is_report text p built = record {
   in_order = order-built text p built;
   founded = founded-built text p built;
 }
+
+-- They are in order.
+pub ordered : (p : Typed) → IsOfText p → AreInOrder (report_of p.names (warnings_of nothing_known p.stmts))
+ordered p (text, built) = order-built text p built
+
+-- Their killers ascend.
+pub ascending : (p : Typed) → IsOfText p → KillersAscend (report_of p.names (warnings_of nothing_known p.stmts))
+ascending p (text, built) i w h = (founded-built text p built i w h).ascend

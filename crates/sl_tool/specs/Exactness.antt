@@ -86,6 +86,10 @@ PlacesAscend stmts = (i j it jt name other : ℕ) (p q : Place) → i < j → sl
 abbrev pub Ascend : List ℕ → Type 0
 Ascend ns = (i j a b : ℕ) → i < j → slice_get ns i ≡ Some a → slice_get ns j ≡ Some b → a < b
 
+-- the killers of each warning ascend
+abbrev pub KillersAscend : List Warning → Type 0
+KillersAscend r = (i : ℕ) (w : Warning) → slice_get r i ≡ Some w → Ascend w.killers
+
 -- a site that is numbered in the text: the place with this number is that of a `push_back` before an index
 pub record IsSiteBefore (p : TypedCode) (index site : ℕ) : Type 0 where
   pub push : IsPushBefore p.stmts index site

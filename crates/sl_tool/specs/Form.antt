@@ -133,6 +133,10 @@ pub record ReadsAs (tokens : List Token) (p : Typed) : Type 0 where
 abbrev pub IsBuilt : List ℕ → Typed → Type 0
 IsBuilt text p = (tokens : List Token) × Tokens text tokens × ReadsAs tokens p
 
+-- this is a text of the form in numbers
+abbrev pub IsOfText : Typed → Type 0
+IsOfText p = (text : List ℕ) × IsBuilt text p
+
 -- each statement uses vectors and iterators that are declared before it, of which there are this many at first
 abbrev pub UsesDeclared : ℕ → ℕ → List Stmt → Type 0
 UsesDeclared vectors iterators [] = Unit {0}

@@ -8,21 +8,21 @@ ghost use Rattle.sl_model.specs.Covers.{Warning as WarningValue};
 ghost use Rattle.sl_model.specs.Texts.{report_text};
 ghost use Rattle.sl_tool.specs.Answers.{IsReport, status_of};
 ghost use Rattle.sl_syntax.specs.declared.typed.Typed.{Typed as TypedValue};
-ghost use Rattle.sl_tool.specs.Form.{IsBuilt};
+ghost use Rattle.sl_tool.specs.Form.{IsOfText};
 ghost use Rattle.sl_tool.specs.Begins.{stop_place};
 ghost use Rattle.sl_tool.specs.declared.refusal.Refusal.{Refusal as RefusalValue};
 ghost use Rattle.sl_tool.specs.Refusals.{IsReadOf, IsRefused, reason_of};
-ghost use Rattle.sl_tool.specs.Told.{report_of};
 
-use crate::analysis::{Warning, warnings_in};
+use crate::analysis::warnings_in;
 use crate::reading::read::Read;
 use crate::reading::read_text;
 use crate::refusal::{Reason, Refusal};
-use crate::rendering::render;
+use crate::reporting::report_on;
 use crate::status::Status;
-use sl_base::{Place, Token, place_of};
+use sl_base::{Items, Place, Token, place_of};
 use sl_lexer::{LexErr, lex};
 use sl_syntax::Typed;
+use sl_warnings::{Report, render};
 use std::alloc::{AllocError, Global};
 
 /// The text in numbers, or where and why it is refused.
@@ -95,21 +95,22 @@ fn fault_in(error: LexErr) -> Result<(Reason, u32), AllocError>
 }
 
 /// The report on the text that this is in numbers, of a file of this name, as a status and as bytes.
-pub fn check(alloc: Global, file: &str, p: &Typed) -> Result<(Status, Vec<u8>), AllocError>
-    ensures { (text : List ℕ) → IsBuilt text p.now →
-        IfOk result (λ a. (r : List WarningValue) × IsReport p.now r × (a.0 ≡ status_of r) × (a.1.items ≡ report_text file.now p.now.sites r)) }
+pub fn check(alloc: Global, file: &str, p: &Typed) -> Result<(Status, Items<u8>), AllocError>
+    requires { IsOfText p.now }
+    ensures { IfOk result (λ a. (r : List WarningValue) × IsReport p.now r × (a.0 ≡ status_of r) × (a.1 ≡ report_text file.now p.now.sites r)) }
 {
-    let report = warnings_in(alloc, p.stmts.as_slice())?;
-    let text = render(alloc, file, p, report.as_slice())?;
-    Ok((status_of(report.as_slice()), text))
+    let warnings = warnings_in(alloc, p.stmts.as_slice())?;
+    let report = report_on(alloc, p.names.as_slice(), warnings.as_slice())?;
+    let text = render(alloc, file, p.sites.as_slice(), &report)?;
+    Ok((status_of(&report), text))
 }
 
 // A text is passed where there is no warning.
-fn status_of(report: &[Warning]) -> Status
-    ensures { (names : List (List ℕ)) → result ≡ status_of (report_of names report.now) }
+fn status_of(report: &Report) -> Status
+    ensures { result ≡ status_of report.now }
 {
-    match report {
-        [] => Status::Passed,
+    match report.len() {
+        0 => Status::Passed,
         _ => Status::Warned,
     }
 }

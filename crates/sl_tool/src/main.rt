@@ -5,7 +5,7 @@ mod analysis;
 mod checking;
 mod reading;
 mod refusal;
-mod rendering;
+mod reporting;
 mod status;
 mod tool;
 

@@ -192,6 +192,11 @@ fn reports(rt: HostRuntime) -> Result<(), Fail> {
             "std::vector<int> v; v.push_back(1); auto it = v.begin(); v.push_back(2); auto at = v.begin(); int x = *at; int y = *it;",
             "a.cpp:8:11: invalid iterator in *: it, invalidated at 5:5\na.cpp: warnings: 1\n",
         ),
+        // Two iterators are invalid, each by its own calls.
+        (
+            "std::vector<int> v; auto a = v.begin(); v.push_back(1); auto b = v.begin(); v.push_back(2); int x = *b; int y = *a;",
+            "a.cpp:7:11: invalid iterator in *: b, invalidated at 6:5\na.cpp:8:11: invalid iterator in *: a, invalidated at 4:5, 6:5\na.cpp: warnings: 2\n",
+        ),
         (
             "std::vector<int> v; auto it = v.begin(); int x = *it;",
             "a.cpp:4:11: end iterator in *: it\na.cpp: warnings: 1\n",
@@ -359,6 +364,33 @@ fn limits(rt: HostRuntime) -> Result<(), Fail> {
     Ok(())
 }
 
+#[test]
+fn elements(rt: HostRuntime) -> Result<(), Fail> {
+    // An iterator from behind the last of 16 and of 17 insertions, and one from before it.
+    for pushes in 16..18 {
+        let counts = Counts {
+            vectors: 1,
+            pushes,
+            iterators: 1,
+            numbers: 1,
+        };
+        let text = counted(rt.alloc(), &counts)?;
+        let ran = check(rt.alloc(), text.as_bytes())?;
+        assert_eq!(rt; ran.out.bytes(), PASSED.as_bytes(), "{pushes}");
+        let mut text = counted(rt.alloc(), &counts)?;
+        text.truncate(text.len() - 2);
+        text.push_str("v1.push_back(0);\nint y = *i1;\n}\n")?;
+        let ran = check(rt.alloc(), text.as_bytes())?;
+        let push = pushes + 5;
+        let star = pushes + 6;
+        let answer = format!(in rt.alloc();
+            "a.cpp:{star}:9: invalid iterator in *: i1, invalidated at {push}:4\na.cpp: warnings: 1\n"
+        )?;
+        assert_eq!(rt; ran.out.bytes(), answer.as_bytes(), "{pushes}");
+    }
+    Ok(())
+}
+
 // The empty program behind blanks, `length` bytes in all.
 fn padded(alloc: Global, length: usize) -> Result<Vec<u8>, AllocError> {
     let program = b"int main() {}";
@@ -460,6 +492,18 @@ fn write_faults(rt: HostRuntime) -> Result<(), Fail> {
             "write {call}, room {room}"
         );
     }
+    // A report may be cut.
+    let statements =
+        "std::vector<int> v; v.push_back(1); auto it = v.begin(); v.push_back(2); int x = *it;";
+    let text = main_of(rt.alloc(), statements)?;
+    let outside = Outside {
+        text: text.as_bytes(),
+        write_fails: &[1],
+        ..HONEST
+    };
+    let ran = run(rt.alloc(), &["check", "a.cpp"], &outside)?;
+    assert_eq!(rt; ran.status, Status::WriteFault);
+    assert_eq!(rt; ran.out.bytes(), b"a.cpp:6:11".as_slice());
     // The line of a fault may fail too.
     let outside = Outside {
         read_fails: &[1],

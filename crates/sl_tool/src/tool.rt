@@ -11,7 +11,7 @@ use crate::checking::{check, typed_text};
 use crate::refusal::Refusal;
 use crate::status::Status;
 use sl_base::limits::TEXT_BYTES;
-use sl_base::{Files, ReadErr, Sink, read_all, write_all};
+use sl_base::{Files, Items, ReadErr, Sink, read_all, write_all};
 use std::alloc::{AllocError, Global};
 
 const USAGE: &str = "usage: stllint check FILE | run FILE INPUT SCHEDULE STEPS | specs | self N\n";
@@ -48,7 +48,7 @@ pub fn run_tool<F: Files, K: Sink>(
         }
     };
     match answer(alloc, file, &text) {
-        Ok((status, text)) => deliver(out, status, &text),
+        Ok((status, text)) => deliver(out, status, text.as_slice()),
         Err(AllocError) => Status::Memory,
     }
 }
@@ -64,12 +64,12 @@ fn file_in(words: &[String]) -> Option<&str>
 }
 
 // The answer to a text.
-fn answer(alloc: Global, file: &str, text: &[u8]) -> Result<(Status, Vec<u8>), AllocError>
-    ensures { IfOk result (λ a. AnswerTo file.now text.now a.0 a.1.items) }
+fn answer(alloc: Global, file: &str, text: &[u8]) -> Result<(Status, Items<u8>), AllocError>
+    ensures { IfOk result (λ a. AnswerTo file.now text.now a.0 a.1) }
 {
     if text.len() > TEXT_BYTES {
         let line = format!(in alloc; "{file}: refused: longer than 1048576 bytes\n")?;
-        return Ok((Status::Refused, line.into_bytes()));
+        return Ok((Status::Refused, items_of(alloc, line.as_bytes())?));
     }
     match typed_text(alloc, text)? {
         Ok(p) => check(alloc, file, &p),
@@ -78,14 +78,25 @@ fn answer(alloc: Global, file: &str, text: &[u8]) -> Result<(Status, Vec<u8>), A
 }
 
 // The answer to a text that is refused.
-fn refuse(alloc: Global, file: &str, refusal: Refusal) -> Result<(Status, Vec<u8>), AllocError>
-    ensures { IfOk result (λ a. (a.0 ≡ Status.Refused) × (a.1.items ≡ refusal_line file.now refusal.place (reason_words refusal.reason))) }
+fn refuse(alloc: Global, file: &str, refusal: Refusal) -> Result<(Status, Items<u8>), AllocError>
+    ensures { IfOk result (λ a. (a.0 ≡ Status.Refused) × (a.1 ≡ refusal_line file.now refusal.place (reason_words refusal.reason))) }
 {
     let line = refusal.place.line;
     let col = refusal.place.col;
     let words = refusal.reason.words();
     let text = format!(in alloc; "{file}:{line}:{col}: refused: {words}\n")?;
-    Ok((Status::Refused, text.into_bytes()))
+    Ok((Status::Refused, items_of(alloc, text.as_bytes())?))
+}
+
+// These bytes.
+fn items_of(alloc: Global, bytes: &[u8]) -> Result<Items<u8>, AllocError>
+    ensures { IfOk result (λ items. items ≡ bytes.now) }
+{
+    let mut items = Items::new(alloc);
+    for byte in bytes {
+        items.push(*byte)?;
+    }
+    Ok(items)
 }
 
 // Writes an answer, and tells its status or that a write failed.

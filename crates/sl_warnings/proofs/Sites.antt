@@ -216,3 +216,36 @@ sites_from-step k i before all lt e =
 
 pub sites_from-all : (k : Kills) (i : ℕ) (before : List ℕ) → SITES ≤ i → before ++ sites_from k i ≡ sites_in k → before ≡ sites_in k
 sites_from-all k i before h e = sym (append-nil before) ∙ ap (λ l. before ++ l) (sym (sites_from-end k i h)) ∙ e
+
+-- no number from one on passes
+filter-none : (p : ℕ → Bool) (i n : ℕ) → ((s : ℕ) → i ≤ s → p s ≡ false) → filter p (numbers i n) ≡ []
+filter-none p i zero h = refl
+filter-none p i (suc n) h = rw (h i (omega arith), filter-none p (i + 1) n (λ s low. h s (omega arith))) refl
+
+-- the numbers that pass, and one behind all of them
+filter-last : (p q : ℕ → Bool) (x i n : ℕ) → q x ≡ true → ((s : ℕ) → s ≢ x → q s ≡ p s) → ((s : ℕ) → x ≤ s → p s ≡ false) → i ≤ x → x < i + n → filter q (numbers i n) ≡ filter p (numbers i n) ++ x ∷ []
+filter-last p q x i zero same others above low high = absurd (omega arith)
+filter-last p q x i (suc n) same others above low high = ⊎_elim
+    (λ (here : i ≡ x).
+    let no_q : filter q (numbers (i + 1) n) ≡ [] = filter-none q (i + 1) n (λ s from. others s (let e : s ≢ x = omega arith in e) ∙ above s (omega arith)) in
+    let no_p : filter p (numbers (i + 1) n) ≡ [] = filter-none p (i + 1) n (λ s from. above s (omega arith)) in
+    let passes : q i ≡ true = ap q here ∙ same in
+    let fails : p i ≡ false = above i (omega arith) in
+    rw (passes, fails, no_q, no_p, here) refl)
+    (λ (below : i ≢ x).
+    let rest = filter-last p q x (i + 1) n same others above (omega arith) (omega arith) in
+    let tail = filter p (numbers (i + 1) n) in
+    rw (others i below, rest)
+    (elim (p i) as (λ b. cond b (i ∷ (tail ++ x ∷ [])) (tail ++ x ∷ []) ≡ cond b (i ∷ tail) tail ++ x ∷ [])
+    [ true ↦ refl | false ↦ refl ]))
+    (cases_eq i x)
+
+-- the sites of a set, and one behind all of them
+pub sites_in-last : (k more : Kills) (x : ℕ) → has more x ≡ true → ((s : ℕ) → s ≢ x → has more s ≡ has k s) → ((s : ℕ) → x ≤ s → has k s ≡ false) → sites_in more ≡ sites_in k ++ x ∷ []
+unfolding sites_in
+sites_in-last k more x same others above = filter-last (has k) (has more) x 0 SITES same others above (omega arith) (has-site more x same)
+
+-- the sites of a set with none
+pub sites_in-none : (k : Kills) → ((s : ℕ) → has k s ≡ false) → sites_in k ≡ []
+unfolding sites_in
+sites_in-none k h = filter-none (has k) 0 SITES (λ s from. h s)

@@ -22,5 +22,5 @@ returns-in-Ok-answer g c =
       c.read_all.ensures.others,
       to_text c.in-Ok.text.items _ _
           (record { read = read; answer = answer; told = λ all e. told _ _ all _ _ _ _ read answer e })
-          (rw c.deref-in-Ok-answer.ensures.value at c.deliver-in-Ok-answer.ensures),
+          (rw c.as_slice.ensures at c.deliver-in-Ok-answer.ensures),
     )

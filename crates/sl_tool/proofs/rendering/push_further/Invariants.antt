@@ -1,6 +1,0 @@
-use Rattle.std.proofs.Common.{◌≡◌, ◌++◌, drop}
-use Rattle.sl_model.specs.Texts.{further_sites}
-use Rattle.sl_tool.proofs.rendering.push_further.Given as goal
-
-abbrev pub invariant-loop-killer : goal.invariant-loop-killer
-invariant-loop-killer l = l.out.items ++ further_sites l.sites (drop l.killer-index l.killers) ≡ l.initial.out.items ++ further_sites l.sites l.killers
