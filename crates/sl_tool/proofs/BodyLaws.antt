@@ -32,7 +32,6 @@ pub record StandsAt (body rest : List Token) (room : ℕ) (r : Reader) : Type 0 
   pub ends : (is : List Item) → AreItems (scope_of r) rest room is → Reads body rest r is
   pub stops : (k : ℕ) → Stops (IsBody (scope_of r) room) (words_in rest) k → Stops (IsBody no_scope STATEMENTS) (words_in body) (length body - length rest + k)
   pub inside : length rest ≤ length body
-  pub declared : (ss : List Stmt) → UsesDeclared (length r.vectors) (length r.iterators) ss → UsesDeclared 0 0 (r.stmts ++ ss)
 
 begins_at : (body : List Token) (k : ℕ) → length body - length body + k ≡ k
 begins_at body k = omega arith
@@ -43,7 +42,6 @@ starts body = record {
   ends = λ is h. record { items = is; are_items = h; stmts = refl; sites = refl; scope = refl };
   stops = λ k h. rw (begins_at body k) h;
   inside = omega arith;
-  declared = λ ss h. h;
 }
 
 -- the limits hold behind a statement that may stand there
@@ -139,19 +137,12 @@ module _ (body rest : List Token) (room : ℕ) (old new : Reader) (i : Item) (at
       let count : length body - length rest + (n + k) ≡ length body - length (drop n rest) + k = omega (arith, length-drop n rest, at.inside) in
       rw count at (at.stops (n + k) (subst (λ l. Stops (IsBody (scope_of old) room) l (n + k)) words here))
 
-  declared_more : (ss : List Stmt) → UsesDeclared (length new.vectors) (length new.iterators) ss → UsesDeclared 0 0 (new.stmts ++ ss)
-  declared_more ss h =
-      let uses = uses_declared (scope_of old) rest i ss adds.allowed (subst (λ (s : Scope). UsesDeclared (length s.vectors) (length s.iterators) ss) adds.scope h) in
-      let same = ap (λ l. l ++ ss) adds.stmts ∙ append_assoc old.stmts (typed_item (scope_of old) rest i ∷ []) ss in
-      subst (λ l. UsesDeclared 0 0 l) (sym same) (at.declared (typed_item (scope_of old) rest i ∷ ss) uses)
-
   pub moves : StandsAt body (drop (length (item_words i)) rest) (room - 1) new
   moves = record {
     small = subst IsSmall (sym adds.scope) (small_after (scope_of old) i adds.allowed at.small);
     ends = reads_more;
     stops = stops_more;
     inside = omega (arith, length-drop (length (item_words i)) rest, at.inside);
-    declared = declared_more;
   }
 
 -- at the closing brace the body is read
@@ -164,7 +155,6 @@ read_at_end body rest room r at e =
       stmts = sym (append-nil r.stmts) ∙ all.stmts;
       sites = sym (append-nil r.sites) ∙ all.sites;
       names = ap (λ (s : Scope). s.names) all.scope;
-      declared = subst (λ l. UsesDeclared 0 0 l) (append-nil r.stmts) (at.declared [] tt);
     }
 
 -- one statement further, where the reader has taken one

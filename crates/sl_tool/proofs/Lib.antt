@@ -29,3 +29,4 @@ pub mod StopHereLaws
 pub mod HeadLaws
 pub mod OneTextLaws
 pub mod ReportLaws
+pub mod ScopedText

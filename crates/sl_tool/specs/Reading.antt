@@ -13,7 +13,7 @@ use Rattle.sl_tool.specs.declared.reading.reader.Reader.{Reader}
 use Rattle.sl_tool.specs.declared.reading.read.Read.{Read}
 use Rattle.sl_tool.specs.declared.reading.read.Read.TheVariants.{Whole, Stops as ReadStops}
 use Rattle.sl_tool.specs.Begins.{IsText, Stops}
-use Rattle.sl_tool.specs.Form.{head_words, Item, push_back_item, item_words, Scope, no_scope, IsAllowed, after_item, after_items, AllAllowed, typed_item, typed_items, push_places, place_in, words_in, UsesDeclared}
+use Rattle.sl_tool.specs.Form.{head_words, Item, push_back_item, item_words, Scope, no_scope, IsAllowed, after_item, after_items, AllAllowed, typed_item, typed_items, push_places, place_in, words_in}
 
 -- the words begin with those of the statement
 abbrev pub BeginsWith : List Word → Item → Type 0
@@ -95,4 +95,3 @@ pub record IsRead (body : List Token) (r : Reader) : Type 0 where
   pub stmts : r.stmts ≡ typed_items no_scope body items
   pub sites : r.sites ≡ push_places body items
   pub names : r.names ≡ (after_items no_scope items).names
-  pub declared : UsesDeclared 0 0 r.stmts

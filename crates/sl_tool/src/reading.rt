@@ -1,7 +1,7 @@
 //! Reads the tokens of a text of the form that is checked so far into numbers.
 ghost use Rattle.std.specs.Prelude.{IfOk};
 ghost use Rattle.sl_tool.specs.Begins.{StopsAt};
-ghost use Rattle.sl_tool.specs.Form.{ReadsAs, UsesDeclared};
+ghost use Rattle.sl_tool.specs.Form.{ReadsAs};
 ghost use Rattle.sl_tool.specs.Reading.{MatchRead};
 
 pub mod body;
@@ -23,8 +23,7 @@ use tokens::place_in;
 
 /// The text in numbers, where the tokens are a text of the form; otherwise the number of the token at which they stop.
 pub fn read_text(alloc: Global, tokens: &[Token]) -> Result<Read<Typed>, AllocError>
-    ensures form { IfOk result (λ read. MatchRead read (ReadsAs tokens.now) (StopsAt tokens.now)) }
-    ensures declared { IfOk result (λ read. MatchRead read (λ p. UsesDeclared 0 0 p.stmts) (λ k. Unit {0})) }
+    ensures { IfOk result (λ read. MatchRead read (ReadsAs tokens.now) (StopsAt tokens.now)) }
 {
     let Some(body) = body_of(tokens) else {
         return Ok(Read::Stops(stop_in_head(alloc, tokens)));

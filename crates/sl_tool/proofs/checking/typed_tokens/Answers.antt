@@ -2,4 +2,4 @@ use Rattle.sl_tool.specs.Refusals.{by_form}
 use Rattle.sl_tool.proofs.checking.typed_tokens.Goals as goal
 
 pub returns-in-Stops : goal.returns-in-Stops
-returns-in-Stops c = rw c.stop_place.ensures (by_form c.args.tokens.now c.requires.cut c.in-Stops.k (rw c.in-Stops.is at c.in_ok-p.ensures.form))
+returns-in-Stops c = rw c.stop_place.ensures (by_form c.args.tokens.now c.requires.cut c.in-Stops.k (rw c.in-Stops.is at c.in_ok-p.ensures))
