@@ -1,3 +1,5 @@
+#include <vector>
+
 int main() {
   std::vector<int> v;
   v.push_back(1);
