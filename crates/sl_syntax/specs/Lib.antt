@@ -1,2 +1,9 @@
 pub mod Typed
 pub mod View
+pub mod Tree
+pub mod TreeView
+pub mod Kinds
+pub mod Written
+pub mod Depth
+pub mod Shaped
+pub mod Placed

@@ -1,8 +1,17 @@
 // Trees of texts.
 #![tactic(auto)]
 
+mod kind;
 mod operator;
-mod typed;
+mod tree;
+pub mod typed;
 
-pub use operator::{Access, Arithmetic, Comparison};
-pub use typed::{Stmt, Typed};
+pub use kind::Kind;
+pub use operator::{
+    Access, Arithmetic, Assignment, BinaryOperator, Comparison, PostfixOperator, PrefixOperator,
+    Selector,
+};
+pub use tree::{
+    Block, Cond, ContainerType, Declaration, Effect, Expr, First, Function, Identifier,
+    Initializer, Item, Out, Param, Print, Program, Read, ResultType, Stmt,
+};

@@ -21,6 +21,59 @@ pub enum Comparison {
     GreaterEqual,
 }
 
+/// An operator between two operands.
+#[derive(Clone, Copy, Debug, PartialEq, Eq)]
+pub enum BinaryOperator {
+    /// `||`
+    Or,
+    /// `&&`
+    And,
+    Comparison(Comparison),
+    Arithmetic(Arithmetic),
+}
+
+/// An operator before its operand.
+#[derive(Clone, Copy, Debug, PartialEq, Eq)]
+pub enum PrefixOperator {
+    /// `!`
+    Not,
+    /// `-`
+    Negate,
+    /// `*`
+    Dereference,
+    /// `++`
+    Increment,
+    /// `--`
+    Decrement,
+}
+
+/// An operator behind its operand.
+#[derive(Clone, Copy, Debug, PartialEq, Eq)]
+pub enum PostfixOperator {
+    /// `++`
+    Increment,
+    /// `--`
+    Decrement,
+}
+
+/// How a member is named.
+#[derive(Clone, Copy, Debug, PartialEq, Eq)]
+pub enum Selector {
+    /// `.`
+    Dot,
+    /// `->`
+    Arrow,
+}
+
+/// An operator that gives a left side a value.
+#[derive(Clone, Copy, Debug, PartialEq, Eq)]
+pub enum Assignment {
+    /// `=`
+    Set,
+    /// `+=` and the others
+    Update(Arithmetic),
+}
+
 /// How a function may use a container that is handed to it by reference.
 #[derive(Clone, Copy, Debug, PartialEq, Eq)]
 pub enum Access {

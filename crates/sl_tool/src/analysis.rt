@@ -3,7 +3,7 @@ ghost use Rattle.std.specs.Prelude.{◌≡◌, ◌++◌, [], List, ℕ, length, 
 ghost use Rattle.sl_tool.specs.Analysis.{nothing_known, sites_on, invalid_at, end_at, dereferenced, warned, known_after, warnings_of};
 
 use sl_base::{Items, Place, Site};
-use sl_syntax::Stmt;
+use sl_syntax::typed::Stmt;
 use std::alloc::{AllocError, Global};
 
 /// What may be wrong with an iterator that is dereferenced.

@@ -21,7 +21,7 @@ use crate::reporting::report_on;
 use crate::status::Status;
 use sl_base::{Items, Place, Token, place_of};
 use sl_lexer::{LexErr, lex};
-use sl_syntax::Typed;
+use sl_syntax::typed::Typed;
 use sl_warnings::{Report, render};
 use std::alloc::{AllocError, Global};
 

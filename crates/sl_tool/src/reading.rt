@@ -16,7 +16,7 @@ pub mod tokens;
 use body::{HEAD_TOKENS, body_of, read_body};
 use read::Read;
 use sl_base::Token;
-use sl_syntax::Typed;
+use sl_syntax::typed::Typed;
 use std::alloc::{AllocError, Global};
 use stopping::stop_in_head;
 use tokens::place_in;

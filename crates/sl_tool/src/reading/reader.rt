@@ -12,7 +12,7 @@ use crate::reading::names::{copy_of, number_of};
 use crate::reading::tokens::place_in;
 use sl_base::limits::{CONTAINERS, ITERATORS, SCALARS, SITES};
 use sl_base::{Items, Name, Place, Site, Token};
-use sl_syntax::{Stmt, Typed};
+use sl_syntax::typed::{Stmt, Typed};
 use std::alloc::{AllocError, Global};
 
 /// What is read so far: the names of vectors, of iterators, of numbers, and of all of them, each in the order in which
