@@ -1,0 +1,5 @@
+pub mod Steps
+pub mod Expressions
+pub mod Effects
+pub mod Declarations
+pub mod Statements
