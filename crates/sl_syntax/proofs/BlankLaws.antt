@@ -1,8 +1,9 @@
--- A blank tree has the words of the tree, its depth and its shape, and it is placed over any tokens of those words at the one place.
-use Rattle.std.proofs.Common.{◌≡◌, refl, ap, sym, ◌∙◌, Bool, true, false, List, [], ◌∷◌, ◌++◌, map, flat_map, Option, Some, None, option_map, codes}
-use Rattle.std.proofs.lemmas.List.{map-append}
+-- A blank tree has the words of the tree, and is written by any tokens of those words that all stand at the one place.
+use Rattle.std.proofs.Common.{◌≡◌, refl, ap, subst, sym, ◌∙◌, Bool, true, false, List, [], ◌∷◌, ◌++◌, map, flat_map, Option, Some, None, option_map, codes}
+use Rattle.std.proofs.lemmas.List.{map-append, append-nil}
 use Rattle.sl_base.specs.declared.mark.Mark.TheVariants as m
 use Rattle.sl_base.specs.declared.place.Place.{Place}
+use Rattle.sl_base.specs.declared.token.Token.{Token}
 use Rattle.sl_base.specs.declared.word.Word.TheVariants as w
 use Rattle.sl_syntax.specs.declared.tree.declaration.ContainerType.{ContainerType}
 use Rattle.sl_syntax.specs.declared.tree.effect.Read.{Read}
@@ -11,7 +12,9 @@ use Rattle.sl_syntax.specs.declared.tree.function.Param.TheVariants as r
 use Rattle.sl_syntax.specs.declared.tree.identifier.Identifier.{Identifier}
 use Rattle.sl_syntax.specs.Tree as t
 use Rattle.sl_syntax.specs.Tree.{Expr, Exprs, Initializer, Declaration, Out, Effect, Cond, First, Stmt, Item, Items, Function, Program}
-use Rattle.sl_syntax.specs.Blank.{nowhere, blank_identifier, blank_container, blank_expr, blank_exprs, blank_initializer, blank_declaration, blank_read, blank_out, blank_effect, blank_cond, blank_first, blank_stmt, blank_item, blank_items, blank_param, blank_function, blank}
+use Rattle.sl_syntax.specs.Blank.{nowhere, blank_token, blank_identifier, blank_container, blank_expr, blank_exprs, blank_initializer, blank_declaration, blank_read, blank_out, blank_effect, blank_cond, blank_first, blank_stmt, blank_item, blank_items, blank_param, blank_function, blank}
+use Rattle.sl_syntax.specs.Placed.{Spells, Placed}
+use Rattle.sl_syntax.specs.Shaped.{Each}
 use Rattle.sl_syntax.specs.Written.{Written, at, plain, mark, named, from_place, form_word, is_map, elements_written, result_word, container_written, written, list_written, rest_written, initializer_written, declaration_written, out_written, read_written, effect_written, cond_written, first_written, option_written, tested, stmt_written, item_written, items_written, param_written, params_written, function_written, program_written, words_of, words}
 
 -- the same word, each place that is told of it the one place
@@ -179,3 +182,46 @@ words_of-blank (x ∷ xs) = rw (words_of-blank xs) refl
 
 pub blank-words : (p : Program) → words (blank p) ≡ words p
 blank-words p = ap words_of (blank-program_written p) ∙ words_of-blank (program_written p)
+
+all_nowhere : (places : List Place) → Each (λ (p : Place). p ≡ nowhere) (map (λ _. nowhere) places)
+all_nowhere [] = tt
+all_nowhere (p ∷ ps) = (refl, all_nowhere ps)
+
+spells-blank : (xs : List Written) (more : List Token) → Spells (map blank_written xs) (map blank_token (words_of xs) ++ more) more
+spells-blank [] more = refl
+spells-blank (x ∷ xs) more = ((refl, all_nowhere x.told), spells-blank xs more)
+
+-- The blank of a program is written by its words, each at the one place.
+pub blank-placed : (p : Program) (more : List Token) → Spells (program_written (blank p)) (map blank_token (words p) ++ more) more
+blank-placed p more = subst (λ (xs : List Written). Spells xs (map blank_token (words p) ++ more) more) (sym (blank-program_written p)) (spells-blank (program_written p) more)
+
+pub blank-placed_alone : (p : Program) → Placed (blank p) (map blank_token (words p))
+blank-placed_alone p = subst (λ (tokens : List Token). Placed (blank p) tokens) (append-nil (map blank_token (words p))) (blank-placed p [])
+
+all_at : (places : List Place) (place : Place) → place ≡ nowhere → Each (λ (p : Place). p ≡ place) (map (λ _. nowhere) places)
+all_at [] place h = tt
+all_at (p ∷ ps) place h = (sym h, all_at ps place h)
+
+spelled_by : (xs : List Written) (tokens : List Token) → map (λ (token : Token). token.word) tokens ≡ words_of xs → Each (λ (token : Token). token.place ≡ nowhere) tokens
+    → Spells (map blank_written xs) tokens []
+spelled_by [] [] e h = refl
+spelled_by [] (token ∷ tokens) e h = absurd cc
+spelled_by (x ∷ xs) [] e h = absurd cc
+spelled_by (x ∷ xs) (token ∷ tokens) e h =
+    let word : token.word ≡ x.word = cc in
+    let others : map (λ (token : Token). token.word) tokens ≡ words_of xs = cc in
+    ((word, all_at x.told token.place h.0), spelled_by xs tokens others h.1)
+
+-- The blank of a program is written by any tokens of its words at the one place.
+pub blank_of : (p : Program) (tokens : List Token) → map (λ (token : Token). token.word) tokens ≡ words p → Each (λ (token : Token). token.place ≡ nowhere) tokens → Placed (blank p) tokens
+blank_of p tokens e h = subst (λ (xs : List Written). Spells xs tokens []) (sym (blank-program_written p)) (spelled_by (program_written p) tokens e h)
+
+-- What is spelled are the words, whatever the places.
+pub spelled-words : (xs : List Written) (tokens rest : List Token) → Spells xs tokens rest
+    → map (λ (token : Token). token.word) tokens ≡ words_of xs ++ map (λ (token : Token). token.word) rest
+spelled-words [] tokens rest h = ap (map (λ (token : Token). token.word)) h
+spelled-words (x ∷ xs) [] rest h = absurd h
+spelled-words (x ∷ xs) (token ∷ tokens) rest h = rw (h.0.0, spelled-words xs tokens rest h.1) refl
+
+pub placed-words : (p : Program) (tokens : List Token) → Placed p tokens → map (λ (token : Token). token.word) tokens ≡ words p
+placed-words p tokens h = spelled-words (program_written p) tokens [] h ∙ append-nil (words p)
