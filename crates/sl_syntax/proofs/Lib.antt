@@ -1,3 +1,4 @@
 pub mod Examples
 pub mod BlankLaws
 pub mod BlankShape
+pub mod TreeExamples
