@@ -63,7 +63,8 @@ blank-container_written : (x : ContainerType) → container_written (blank_conta
 blank-container_written x = ap (λ (l : List Written). at nowhere (form_word x.form) ∷ l) (blank-elements_written (is_map x.form))
 
 -- a container's type, and what follows
-after_container : (c : ContainerType) (ys vs : List Written) → vs ≡ map blank_written ys → container_written (blank_container c) ++ vs ≡ map blank_written (container_written c ++ ys)
+after_container : (c : ContainerType) (ys vs : List Written) → vs ≡ map blank_written ys
+    → container_written (blank_container c) ++ vs ≡ map blank_written (container_written c ++ ys)
 after_container c ys vs h = beside (container_written c) ys (container_written (blank_container c)) vs (blank-container_written c) h
 
 pub blank-declaration_written : (x : Declaration) → declaration_written (blank_declaration x) ≡ map blank_written (declaration_written x)
@@ -71,21 +72,24 @@ blank-declaration_written (t.declares_scalar place s x None) = refl
 blank-declaration_written (t.declares_scalar place s x (Some v)) = rw (blank-written v) refl
 blank-declaration_written (t.declares_auto place x v) = rw (blank-written v) refl
 blank-declaration_written (t.declares_container c x i) =
-    after_container c (named x ∷ initializer_written i) (named (blank_identifier x) ∷ initializer_written (blank_initializer i)) (rw (blank-initializer_written i) refl)
+    after_container c (named x ∷ initializer_written i) (named (blank_identifier x) ∷ initializer_written (blank_initializer i))
+    (rw (blank-initializer_written i) refl)
 
 pub blank-out_written : (x : Out) → out_written (blank_out x) ≡ map blank_written (out_written x)
 blank-out_written (t.text place bytes) = refl
 blank-out_written (t.end_line place) = refl
 blank-out_written (t.value x) = blank-written x
 
-read_from : (xs : List Identifier) → flat_map (λ x. mark m.ShiftRight ∷ named x ∷ []) (map blank_identifier xs) ≡ map blank_written (flat_map (λ x. mark m.ShiftRight ∷ named x ∷ []) xs)
+read_from : (xs : List Identifier)
+    → flat_map (λ x. mark m.ShiftRight ∷ named x ∷ []) (map blank_identifier xs) ≡ map blank_written (flat_map (λ x. mark m.ShiftRight ∷ named x ∷ []) xs)
 read_from [] = refl
 read_from (x ∷ xs) = rw (read_from xs) refl
 
 pub blank-read_written : (x : Read) → read_written (blank_read x) ≡ map blank_written (read_written x)
 blank-read_written x = rw (read_from x.variables) refl
 
-print_from : (xs : List Out) → flat_map (λ x. mark m.ShiftLeft ∷ out_written x) (map blank_out xs) ≡ map blank_written (flat_map (λ x. mark m.ShiftLeft ∷ out_written x) xs)
+print_from : (xs : List Out)
+    → flat_map (λ x. mark m.ShiftLeft ∷ out_written x) (map blank_out xs) ≡ map blank_written (flat_map (λ x. mark m.ShiftLeft ∷ out_written x) xs)
 print_from [] = refl
 print_from (x ∷ xs) = rw (map-append blank_written, blank-out_written x, print_from xs) refl
 
@@ -123,7 +127,8 @@ mutual
   blank-stmt_written (t.block opens items closes) = rw (map-append blank_written, blank-items_written items) refl
   blank-stmt_written (t.choice place c x) = ap (λ (l : List Written). at nowhere (w.Key (codes "if")) ∷ l) (blank-tested c _ _ (blank-stmt_written x))
   blank-stmt_written (t.choice_else place c x y) = ap (λ (l : List Written). at nowhere (w.Key (codes "if")) ∷ l)
-      (blank-tested c _ (stmt_written x ++ plain (w.Key (codes "else")) ∷ stmt_written y) (rw (map-append blank_written, blank-stmt_written x, blank-stmt_written y) refl))
+      (blank-tested c _ (stmt_written x ++ plain (w.Key (codes "else")) ∷ stmt_written y)
+      (rw (map-append blank_written, blank-stmt_written x, blank-stmt_written y) refl))
   blank-stmt_written (t.while place c x) = ap (λ (l : List Written). at nowhere (w.Key (codes "while")) ∷ l) (blank-tested c _ _ (blank-stmt_written x))
   blank-stmt_written (t.for place first c step x) =
       simp (
@@ -138,7 +143,8 @@ mutual
   blank-stmt_written (t.continue place) = refl
   blank-stmt_written (t.gives_back place v) = rw (map-append blank_written, blank-option written blank_expr blank-written v) refl
   blank-stmt_written (t.does place e) =
-      ap (from_place nowhere) (beside (effect_written e) (mark m.Semicolon ∷ []) (effect_written (blank_effect e)) (mark m.Semicolon ∷ []) (blank-effect_written e) refl)
+      ap (from_place nowhere) (beside (effect_written e) (mark m.Semicolon ∷ []) (effect_written (blank_effect e)) (mark m.Semicolon ∷ [])
+      (blank-effect_written e) refl)
       ∙ blank-from_place place (effect_written e ++ mark m.Semicolon ∷ [])
 
   pub blank-item_written : (x : Item) → item_written (blank_item x) ≡ map blank_written (item_written x)
@@ -156,7 +162,8 @@ blank-param_written (r.Container c x) = after_container c (mark m.And ∷ named 
 blank-param_written (r.ConstContainer place c x) = ap (λ (l : List Written). at nowhere (w.Key (codes "const")) ∷ l)
     (after_container c (mark m.And ∷ named x ∷ []) (mark m.And ∷ named (blank_identifier x) ∷ []) refl)
 
-params_from : (xs : List Param) → flat_map (λ y. mark m.Comma ∷ param_written y) (map blank_param xs) ≡ map blank_written (flat_map (λ y. mark m.Comma ∷ param_written y) xs)
+params_from : (xs : List Param)
+    → flat_map (λ y. mark m.Comma ∷ param_written y) (map blank_param xs) ≡ map blank_written (flat_map (λ y. mark m.Comma ∷ param_written y) xs)
 params_from [] = refl
 params_from (x ∷ xs) = rw (map-append blank_written, blank-param_written x, params_from xs) refl
 
@@ -168,12 +175,15 @@ pub blank-function_written : (f : Function) → function_written (blank_function
 blank-function_written f =
     let body : List Written = stmt_written (t.block f.opens f.items f.closes) in
     ap (λ (l : List Written). at nowhere (result_word f.result) ∷ named (blank_identifier f.name) ∷ mark m.LeftParenthesis ∷ l)
-    (beside (params_written f.params) (mark m.RightParenthesis ∷ body) (params_written (map blank_param f.params)) (mark m.RightParenthesis ∷ stmt_written (t.block nowhere (blank_items f.items) nowhere))
+    (beside (params_written f.params) (mark m.RightParenthesis ∷ body) (params_written (map blank_param f.params))
+    (mark m.RightParenthesis ∷ stmt_written (t.block nowhere (blank_items f.items) nowhere))
     (blank-params_written f.params) (ap (λ (l : List Written). mark m.RightParenthesis ∷ l) (blank-stmt_written (t.block f.opens f.items f.closes))))
 
 pub blank-program_written : (p : Program) → program_written (blank p) ≡ map blank_written (program_written p)
 blank-program_written [] = refl
-blank-program_written (f ∷ fs) = beside (function_written f) (program_written fs) (function_written (blank_function f)) (program_written (blank fs)) (blank-function_written f) (blank-program_written fs)
+blank-program_written (f ∷ fs) =
+    beside (function_written f) (program_written fs) (function_written (blank_function f)) (program_written (blank fs))
+    (blank-function_written f) (blank-program_written fs)
 
 -- Places are no part of words.
 words_of-blank : (xs : List Written) → words_of (map blank_written xs) ≡ words_of xs
@@ -193,7 +203,8 @@ spells-blank (x ∷ xs) more = ((refl, all_nowhere x.told), spells-blank xs more
 
 -- The blank of a program is written by its words, each at the one place.
 pub blank-placed : (p : Program) (more : List Token) → Spells (program_written (blank p)) (map blank_token (words p) ++ more) more
-blank-placed p more = subst (λ (xs : List Written). Spells xs (map blank_token (words p) ++ more) more) (sym (blank-program_written p)) (spells-blank (program_written p) more)
+blank-placed p more =
+    subst (λ (xs : List Written). Spells xs (map blank_token (words p) ++ more) more) (sym (blank-program_written p)) (spells-blank (program_written p) more)
 
 pub blank-placed_alone : (p : Program) → Placed (blank p) (map blank_token (words p))
 blank-placed_alone p = subst (λ (tokens : List Token). Placed (blank p) tokens) (append-nil (map blank_token (words p))) (blank-placed p [])
@@ -202,8 +213,8 @@ all_at : (places : List Place) (place : Place) → place ≡ nowhere → Each (�
 all_at [] place h = tt
 all_at (p ∷ ps) place h = (sym h, all_at ps place h)
 
-spelled_by : (xs : List Written) (tokens : List Token) → map (λ (token : Token). token.word) tokens ≡ words_of xs → Each (λ (token : Token). token.place ≡ nowhere) tokens
-    → Spells (map blank_written xs) tokens []
+spelled_by : (xs : List Written) (tokens : List Token) → map (λ (token : Token). token.word) tokens ≡ words_of xs
+    → Each (λ (token : Token). token.place ≡ nowhere) tokens → Spells (map blank_written xs) tokens []
 spelled_by [] [] e h = refl
 spelled_by [] (token ∷ tokens) e h = absurd cc
 spelled_by (x ∷ xs) [] e h = absurd cc
@@ -213,7 +224,8 @@ spelled_by (x ∷ xs) (token ∷ tokens) e h =
     ((word, all_at x.told token.place h.0), spelled_by xs tokens others h.1)
 
 -- The blank of a program is written by any tokens of its words at the one place.
-pub blank_of : (p : Program) (tokens : List Token) → map (λ (token : Token). token.word) tokens ≡ words p → Each (λ (token : Token). token.place ≡ nowhere) tokens → Placed (blank p) tokens
+pub blank_of : (p : Program) (tokens : List Token) → map (λ (token : Token). token.word) tokens ≡ words p
+    → Each (λ (token : Token). token.place ≡ nowhere) tokens → Placed (blank p) tokens
 blank_of p tokens e h = subst (λ (xs : List Written). Spells xs tokens []) (sym (blank-program_written p)) (spelled_by (program_written p) tokens e h)
 
 -- What is spelled are the words, whatever the places.

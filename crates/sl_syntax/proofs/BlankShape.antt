@@ -39,7 +39,8 @@ blank-highest : {A : Type 0} (h : A → ℕ) (clear : A → A) → ((x : A) → 
 blank-highest h clear each [] = refl
 blank-highest h clear each (x ∷ xs) = rw (each x, blank-highest h clear each xs) refl
 
-blank-option_height : {A : Type 0} (h : A → ℕ) (clear : A → A) → ((x : A) → h (clear x) ≡ h x) → (x : Option A) → option_height h (option_map clear x) ≡ option_height h x
+blank-option_height : {A : Type 0} (h : A → ℕ) (clear : A → A) → ((x : A) → h (clear x) ≡ h x) → (x : Option A)
+    → option_height h (option_map clear x) ≡ option_height h x
 blank-option_height h clear each None = refl
 blank-option_height h clear each (Some x) = each x
 
@@ -148,7 +149,8 @@ mutual
   blank-are_exprs (t.with x xs) h = (blank-is_expr x h.0, blank-are_exprs xs h.1)
 
 -- what may be left out, and each of a list
-blank-if_there : {A : Type 0} (P : A → Type 0) (clear : A → A) → ((x : A) → P x → P (clear x)) → (x : Option A) → IfThere P x → IfThere P (option_map clear x)
+blank-if_there : {A : Type 0} (P : A → Type 0) (clear : A → A) → ((x : A) → P x → P (clear x))
+    → (x : Option A) → IfThere P x → IfThere P (option_map clear x)
 blank-if_there P clear each None h = tt
 blank-if_there P clear each (Some x) h = each x h
 

@@ -2,3 +2,4 @@ pub mod Examples
 pub mod BlankLaws
 pub mod BlankShape
 pub mod TreeExamples
+pub mod StatementExamples

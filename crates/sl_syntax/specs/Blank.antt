@@ -82,7 +82,8 @@ abbrev mutual
   blank_stmt (t.choice place c x) = t.choice nowhere (blank_cond c) (blank_stmt x)
   blank_stmt (t.choice_else place c x y) = t.choice_else nowhere (blank_cond c) (blank_stmt x) (blank_stmt y)
   blank_stmt (t.while place c x) = t.while nowhere (blank_cond c) (blank_stmt x)
-  blank_stmt (t.for place first c step x) = t.for nowhere (option_map blank_first first) (option_map blank_cond c) (option_map blank_effect step) (blank_stmt x)
+  blank_stmt (t.for place first c step x) =
+      t.for nowhere (option_map blank_first first) (option_map blank_cond c) (option_map blank_effect step) (blank_stmt x)
   blank_stmt (t.range_for place is_auto x v body) = t.range_for nowhere is_auto (blank_identifier x) (blank_identifier v) (blank_stmt body)
   blank_stmt (t.break place) = t.break nowhere
   blank_stmt (t.continue place) = t.continue nowhere
