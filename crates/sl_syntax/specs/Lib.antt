@@ -7,3 +7,4 @@ pub mod Written
 pub mod Depth
 pub mod Shaped
 pub mod Placed
+pub mod Blank
