@@ -5,6 +5,7 @@ mod kind;
 mod operator;
 mod tree;
 pub mod typed;
+mod write;
 
 pub use kind::Kind;
 pub use operator::{

@@ -1,0 +1,4 @@
+//! The words of a program's tree, by the same rules that read it.
+
+mod marks;
+mod word;
