@@ -1,2 +1,4 @@
 pub mod Examples
 pub mod TreeViews
+pub mod WrittenLaws
+pub mod ExprWords

@@ -1,5 +1,5 @@
 //! Single words, and the types that are written with few.
-ghost use Rattle.std.specs.Prelude.{◌≡◌, ◌<◌, ◌≤◌, ◌++◌, [], ◌∷◌, length, OnOk};
+ghost use Rattle.std.specs.Prelude.{◌≡◌, ◌==◌, if◌then◌else◌, ◌<◌, ◌≤◌, ◌++◌, [], ◌∷◌, length, OnOk};
 ghost use Rattle.sl_base.specs.declared.limits.TheConstants.{NAME_BYTES};
 ghost use Rattle.sl_syntax.specs.Written as spec;
 
@@ -12,6 +12,16 @@ pub fn write_mark(out: &mut Items<Word>, mark: Mark) -> Result<(), AllocError>
     ensures { OnOk result (out.new ≡ out.old ++ Word.Mark mark ∷ []) }
 {
     out.push(Word::Mark(mark))
+}
+
+/// Writes a comma before each part of a list but the first.
+pub fn write_comma_before(out: &mut Items<Word>, position: usize) -> Result<(), AllocError>
+    ensures { OnOk result (out.new ≡ out.old ++ (if position == 0 then [] else Word.Mark Mark.Comma ∷ [])) }
+{
+    if position == 0 {
+        return Ok(());
+    }
+    write_mark(out, Mark::Comma)
 }
 
 /// Writes a name.
