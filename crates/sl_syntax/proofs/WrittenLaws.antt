@@ -1,7 +1,7 @@
 -- Laws of the words of a tree.
-use Rattle.std.proofs.Common.{◌≡◌, ℕ, ◌+◌, ◌<◌, zero, suc, List, [], ◌∷◌, ◌++◌, length, get_or, drop, flat_map, refl, sym, ap, ◌∙◌, append_assoc, add-one}
+use Rattle.std.proofs.Common.{◌≡◌, ℕ, ◌+◌, ◌<◌, ◌≤◌, zero, suc, map, List, [], ◌∷◌, ◌++◌, length, get_or, drop, flat_map, refl, sym, ap, ◌∙◌, append_assoc, add-one}
 use Rattle.std.proofs.Math.Seq.{drop-cons, drop-length}
-use Rattle.std.proofs.lemmas.List.{map-append}
+use Rattle.std.proofs.lemmas.List.{map-append, append-nil, drop_all}
 use Rattle.sl_base.specs.declared.mark.Mark.TheVariants as m
 use Rattle.sl_base.specs.declared.word.Word.TheVariants as w
 use Rattle.sl_base.specs.declared.place.Place.{Place}
@@ -44,3 +44,16 @@ separated_from f (suc k) xs = flat_map (λ y. w.Mark m.Comma ∷ f y) (drop (suc
 pub separated_end : {X : Type 0} (f : X → List Word) (xs : List X) → separated_from f (length xs) xs ≡ []
 separated_end f [] = refl
 separated_end f (x ∷ xs) = ap (flat_map (λ y. w.Mark m.Comma ∷ f y)) (drop-length xs)
+
+pub words_of-flat_map : {X : Type 0} (f : X → List Written) (xs : List X) → words_of (flat_map f xs) ≡ flat_map (λ x. words_of (f x)) xs
+words_of-flat_map f [] = refl
+words_of-flat_map f (x ∷ xs) = words_of-append (f x) (flat_map f xs) ∙ ap (λ (l : List Word). words_of (f x) ++ l) (words_of-flat_map f xs)
+
+pub words_of-flat_map-map : {X Y : Type 0} (f : Y → List Written) (g : X → Y) (xs : List X) → words_of (flat_map f (map g xs)) ≡ flat_map (λ x. words_of (f (g x))) xs
+words_of-flat_map-map f g [] = refl
+words_of-flat_map-map f g (x ∷ xs) =
+    words_of-append (f (g x)) (flat_map f (map g xs)) ∙ ap (λ (l : List Word). words_of (f (g x)) ++ l) (words_of-flat_map-map f g xs)
+
+-- nothing is left to write
+pub none_left : {X : Type 0} (f : X → List Word) (xs : List X) (k : ℕ) (out whole : List Word) → length xs ≤ k → out ++ flat_map f (drop k xs) ≡ whole → out ≡ whole
+none_left f xs k out whole le h = sym (append-nil out) ∙ ap (λ l. out ++ flat_map f l) (sym (drop_all k xs le)) ∙ h

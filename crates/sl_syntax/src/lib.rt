@@ -16,3 +16,4 @@ pub use tree::{
     Block, Cond, ContainerType, Declaration, Effect, Expr, First, Function, Identifier,
     Initializer, Item, Out, Param, Print, Program, Read, ResultType, Stmt,
 };
+pub use write::write_tokens;
