@@ -1,8 +1,7 @@
 -- The words of functions and of their parameters.
-use Rattle.std.proofs.Common.{◌≡◌, ℕ, List, [], ◌∷◌, ◌++◌, flat_map, map, refl, ap, ◌∙◌}
+use Rattle.std.proofs.Common.{◌≡◌, List, [], ◌∷◌, ◌++◌, flat_map, refl, ap, ◌∙◌}
 use Rattle.sl_base.specs.declared.mark.Mark.TheVariants as m
 use Rattle.sl_base.specs.declared.word.Word.{Word}
-use Rattle.sl_base.specs.declared.word.Word.TheVariants as w
 use Rattle.sl_syntax.specs.declared.tree.function.Function.{Function as FunctionCode}
 use Rattle.sl_syntax.specs.declared.tree.function.Param.{Param}
 use Rattle.sl_syntax.specs.declared.tree.function.Program.{Program as ProgramCode}

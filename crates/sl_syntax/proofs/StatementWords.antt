@@ -1,5 +1,5 @@
 -- The words of a statement of the code, variant by variant.
-use Rattle.std.proofs.Common.{◌≡◌, ℕ, Bool, List, [], ◌∷◌, ◌++◌, Box, Vec, flat_map, refl, ap, ◌∙◌, append_assoc, codes, Option, Some, None, option_map}
+use Rattle.std.proofs.Common.{◌≡◌, Bool, List, [], ◌∷◌, ◌++◌, Box, flat_map, refl, ap, ◌∙◌, append_assoc, codes, Option, Some, None, option_map}
 use Rattle.std.specs.declared.alloc.Global.{Global}
 use Rattle.sl_base.specs.declared.mark.Mark.TheVariants as m
 use Rattle.sl_base.specs.declared.place.Place.{Place}

@@ -1,6 +1,6 @@
 -- Laws of the words of a tree.
-use Rattle.std.proofs.Common.{◌≡◌, ℕ, ◌+◌, ◌<◌, ◌≤◌, zero, suc, map, List, [], ◌∷◌, ◌++◌, length, get_or, drop, flat_map, refl, sym, ap, ◌∙◌, append_assoc, add-one}
-use Rattle.std.proofs.Math.Seq.{drop-cons, drop-length}
+use Rattle.std.proofs.Common.{◌≡◌, ℕ, ◌≤◌, zero, suc, map, List, [], ◌∷◌, ◌++◌, length, drop, flat_map, refl, sym, ap, ◌∙◌}
+use Rattle.std.proofs.Math.Seq.{drop-length}
 use Rattle.std.proofs.lemmas.List.{map-append, append-nil, drop_all}
 use Rattle.sl_base.specs.declared.mark.Mark.TheVariants as m
 use Rattle.sl_base.specs.declared.word.Word.TheVariants as w
@@ -18,18 +18,6 @@ pub words_of-from_place : (p : Place) (xs : List Written) → words_of (from_pla
 words_of-from_place p [] = refl
 words_of-from_place p (x ∷ xs) = refl
 
--- one more is written, of a list whose words follow one another
-pub one_more : {X : Type 0} (front : X → List Word) (all : List X → List Word) (cons : (x : X) (xs : List X) → all (x ∷ xs) ≡ front x ++ all xs)
-    (xs : List X) (k : ℕ) (x : X) (out more whole : List Word) → k < length xs → x ≡ get_or xs k x → more ≡ out ++ front x → out ++ all (drop k xs) ≡ whole
-    → more ++ all (drop (k + 1) xs) ≡ whole
-one_more {X = X} front all cons xs k x out more whole lt is e h =
-    let rest : List X = drop (k + 1) xs in
-    let next : drop k xs ≡ x ∷ rest = rw (add-one, drop-cons xs k x lt, ← is) refl in
-    ap (λ (l : List Word). l ++ all rest) e
-    ∙ append_assoc out (front x) (all rest)
-    ∙ ap (λ (l : List Word). out ++ l) (sym (cons x rest) ∙ ap all (sym next))
-    ∙ h
-
 -- the words of the parts of a list, with a comma between two
 abbrev pub separated : {X : Type 0} → (X → List Word) → List X → List Word
 separated f [] = []
@@ -40,10 +28,16 @@ abbrev pub separated_from : {X : Type 0} → (X → List Word) → ℕ → List 
 separated_from f zero xs = separated f xs
 separated_from f (suc k) xs = flat_map (λ y. w.Mark m.Comma ∷ f y) (drop (suc k) xs)
 
--- all are written
-pub separated_end : {X : Type 0} (f : X → List Word) (xs : List X) → separated_from f (length xs) xs ≡ []
-separated_end f [] = refl
-separated_end f (x ∷ xs) = ap (flat_map (λ y. w.Mark m.Comma ∷ f y)) (drop-length xs)
+all_written : {X : Type 0} (f : X → List Word) (xs : List X) → separated_from f (length xs) xs ≡ []
+all_written f [] = refl
+all_written f (x ∷ xs) = ap (flat_map (λ y. w.Mark m.Comma ∷ f y)) (drop-length xs)
+
+-- nothing is left to write
+pub none_left_separated : {X : Type 0} (f : X → List Word) (xs : List X) (k : ℕ) (out whole : List Word) → k ≡ length xs → out ++ separated_from f k xs ≡ whole
+    → out ≡ whole
+none_left_separated f xs k out whole e h =
+    let rest : separated_from f k xs ≡ [] = rw e (all_written f xs) in
+    sym (append-nil out) ∙ ap (λ (l : List Word). out ++ l) (sym rest) ∙ h
 
 pub words_of-flat_map : {X : Type 0} (f : X → List Written) (xs : List X) → words_of (flat_map f xs) ≡ flat_map (λ x. words_of (f x)) xs
 words_of-flat_map f [] = refl

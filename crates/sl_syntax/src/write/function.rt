@@ -32,7 +32,9 @@ fn write_param(out: &mut Items<Word>, x: &Param) -> Result<(), AllocError>
             write_name(out, name)
         }
         Param::ConstContainer {
-            container, name, ..
+            container,
+            name,
+            ..
         } => {
             out.push(key(b"const"))?;
             write_container(out, *container)?;

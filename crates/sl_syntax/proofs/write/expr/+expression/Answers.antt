@@ -1,7 +1,5 @@
-use Rattle.std.proofs.Common.{◌≡◌, ◌∷◌, ◌++◌, append_assoc, arith, List, [], length, sym, ap, ◌∙◌}
-use Rattle.std.proofs.lemmas.List.{append-nil}
-use Rattle.sl_base.specs.declared.word.Word.{Word}
-use Rattle.sl_syntax.proofs.WrittenLaws.{separated_from, separated_end}
+use Rattle.std.proofs.Common.{◌≡◌, ◌∷◌, ◌++◌, append_assoc, arith}
+use Rattle.sl_syntax.proofs.WrittenLaws.{none_left_separated}
 use Rattle.std.proofs.lemmas.Result.{IfOk-equal}
 use Rattle.sl_base.specs.declared.word.Word.TheVariants as w
 use Rattle.sl_base.specs.declared.mark.Mark.TheVariants as m
@@ -44,6 +42,4 @@ write_expr-returns-in_ok-write_name-in-MemberCall t c =
 pub write_list-returns : goal.write_list-returns
 write_list-returns t c =
     let xs = c.args.xs.now in
-    let all : c.loop-i.i ≡ length xs = omega arith in
-    let rest : separated_from expr_words_of c.loop-i.i xs ≡ [] = rw all (separated_end expr_words_of xs) in
-    rw list_words (sym (append-nil c.loop-i.out) ∙ ap (λ (l : List Word). c.loop-i.out ++ l) (sym rest) ∙ c.loop-i.invariant)
+    rw (list_words xs) (none_left_separated expr_words_of xs c.loop-i.i c.loop-i.out _ (omega arith) c.loop-i.invariant)
