@@ -3,10 +3,10 @@ ghost use Rattle.std.specs.Prelude.{◌≡◌, ◌++◌, [], ◌∷◌, OnOk};
 ghost use Rattle.sl_syntax.specs.TreeView.{expr_of, exprs_of};
 ghost use Rattle.sl_syntax.specs.Written.{words_of, written, list_written};
 
-use crate::tree::{Expr, Identifier};
+use crate::tree::Expr;
 use crate::write::marks::{binary_mark, postfix_mark, prefix_mark, selector_mark};
-use crate::write::word::{truth_word, write_comma_before, write_mark, write_name};
-use sl_base::{Items, Mark, Name, Word};
+use crate::write::word::{lib, name_word, truth_word, write_comma_before, write_mark, write_name};
+use sl_base::{Items, Mark, Word};
 use std::alloc::AllocError;
 
 /// Writes an expression.
@@ -22,17 +22,11 @@ pub fn write_expr(out: &mut Items<Word>, x: &Expr) -> Result<(), AllocError>
         Expr::Call {
             function,
             arguments,
-        } => {
-            write_name(out, function)?;
-            write_arguments(out, arguments)
-        }
+        } => write_call(out, name_word(function), arguments),
         Expr::LibraryCall {
             function,
             arguments,
-        } => {
-            out.push(Word::Lib(Name::new(function.name.as_slice())))?;
-            write_arguments(out, arguments)
-        }
+        } => write_call(out, lib(function.name.as_slice()), arguments),
         Expr::Parentheses { inner, .. } => {
             write_bracketed(out, Mark::LeftParenthesis, inner, Mark::RightParenthesis)
         }
@@ -73,8 +67,7 @@ pub fn write_expr(out: &mut Items<Word>, x: &Expr) -> Result<(), AllocError>
         } => {
             write_expr(out, object)?;
             write_mark(out, Mark::Dot)?;
-            write_name(out, function)?;
-            write_arguments(out, arguments)
+            write_call(out, name_word(function), arguments)
         }
         Expr::Member {
             object,
@@ -104,11 +97,12 @@ fn write_bracketed(
     write_mark(out, last)
 }
 
-/// Writes the arguments of a call.
+/// Writes the word that names a function, and its arguments.
 #[cycle(expression)]
-fn write_arguments(out: &mut Items<Word>, arguments: &[Expr]) -> Result<(), AllocError>
-    ensures { OnOk result (out.new ≡ out.old ++ (Word.Mark Mark.LeftParenthesis ∷ (words_of (list_written (exprs_of arguments.now)) ++ Word.Mark Mark.RightParenthesis ∷ []))) }
+fn write_call(out: &mut Items<Word>, word: Word, arguments: &[Expr]) -> Result<(), AllocError>
+    ensures { OnOk result (out.new ≡ out.old ++ (word ∷ Word.Mark Mark.LeftParenthesis ∷ (words_of (list_written (exprs_of arguments.now)) ++ Word.Mark Mark.RightParenthesis ∷ []))) }
 {
+    out.push(word)?;
     write_mark(out, Mark::LeftParenthesis)?;
     write_list(out, arguments)?;
     write_mark(out, Mark::RightParenthesis)

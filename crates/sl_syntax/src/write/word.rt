@@ -24,11 +24,18 @@ pub fn write_comma_before(out: &mut Items<Word>, position: usize) -> Result<(), 
     write_mark(out, Mark::Comma)
 }
 
+/// The word of a name.
+pub fn name_word(x: &Identifier) -> Word
+    ensures { result ≡ Word.Name x.now.name }
+{
+    Word::Name(Name::new(x.name.as_slice()))
+}
+
 /// Writes a name.
 pub fn write_name(out: &mut Items<Word>, x: &Identifier) -> Result<(), AllocError>
     ensures { OnOk result (out.new ≡ out.old ++ Word.Name x.now.name ∷ []) }
 {
-    out.push(Word::Name(Name::new(x.name.as_slice())))
+    out.push(name_word(x))
 }
 
 /// The key with these bytes.
