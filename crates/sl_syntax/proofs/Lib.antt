@@ -4,3 +4,8 @@ pub mod BlankLaws
 pub mod BlankShape
 pub mod TreeExamples
 pub mod StatementExamples
+pub mod WrittenLaws
+pub mod ExprWords
+pub mod EffectWords
+pub mod StatementWords
+pub mod FunctionWords

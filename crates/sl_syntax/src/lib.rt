@@ -5,6 +5,7 @@ mod kind;
 mod operator;
 mod tree;
 pub mod typed;
+mod write;
 
 pub use kind::Kind;
 pub use operator::{
@@ -15,3 +16,4 @@ pub use tree::{
     Block, Cond, ContainerType, Declaration, Effect, Expr, First, Function, Identifier,
     Initializer, Item, Out, Param, Print, Program, Read, ResultType, Stmt,
 };
+pub use write::write_tokens;
