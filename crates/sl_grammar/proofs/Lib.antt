@@ -1,1 +1,4 @@
 mod Examples
+pub mod CompleteSteps
+pub mod CompleteKinds
+pub mod CompleteLists
