@@ -2,3 +2,4 @@ mod Examples
 pub mod CompleteSteps
 pub mod CompleteKinds
 pub mod CompleteLists
+pub mod CompleteExpressions
