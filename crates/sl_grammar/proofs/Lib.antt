@@ -3,3 +3,4 @@ pub mod CompleteSteps
 pub mod CompleteKinds
 pub mod CompleteLists
 pub mod CompleteExpressions
+pub mod CompleteEffects
