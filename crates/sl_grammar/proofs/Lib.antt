@@ -4,3 +4,4 @@ pub mod CompleteKinds
 pub mod CompleteLists
 pub mod CompleteExpressions
 pub mod CompleteEffects
+pub mod CompleteDeclarations
