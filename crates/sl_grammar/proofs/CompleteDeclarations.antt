@@ -42,7 +42,7 @@ type-reads : (c : ContainerType) (ts rest : List Token) → Spelled (container_w
 unfolding container_type
 type-reads c ts rest s = at_word s (λ o us e a. rw (e, elements-read (is_map c.form) us rest a) refl)
 
-type-kind : (c : ContainerType) (ts rest : List Token) → Spelled (container_written c) ts rest → kind_at ts ≡ k.Container c.form
+pub type-kind : (c : ContainerType) (ts rest : List Token) → Spelled (container_written c) ts rest → kind_at ts ≡ k.Container c.form
 type-kind c ts rest s = at_word s (λ o us e a. rw e (form-kind c.form))
 
 -- the reader of this declaration

@@ -62,7 +62,7 @@ no-input : (kind : Kind) → begins_expr kind ≡ true → is_input kind ≡ fal
 no-input k.Input h = absurd (false≢true h)
 no-input _ h = refl
 
-and-false : (b : Bool) → b && false ≡ false
+pub and-false : (b : Bool) → b && false ≡ false
 and-false true = refl
 and-false false = refl
 
@@ -220,7 +220,7 @@ begins_effect k.Input = true
 begins_effect k.Output = true
 begins_effect kind = begins_expr kind
 
-begins-effect : (kind : Kind) → begins_expr kind ≡ true → begins_effect kind ≡ true
+pub begins-effect : (kind : Kind) → begins_expr kind ≡ true → begins_effect kind ≡ true
 begins-effect k.Input h = refl
 begins-effect k.Output h = refl
 begins-effect _ h = h

@@ -5,3 +5,4 @@ pub mod CompleteLists
 pub mod CompleteExpressions
 pub mod CompleteEffects
 pub mod CompleteDeclarations
+pub mod CompleteBegins
