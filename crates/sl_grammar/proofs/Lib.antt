@@ -6,3 +6,5 @@ pub mod CompleteExpressions
 pub mod CompleteEffects
 pub mod CompleteDeclarations
 pub mod CompleteBegins
+pub mod CompleteBlocks
+pub mod CompleteStatements
