@@ -1,5 +1,5 @@
 -- Which words begin effects, statements and items, and what is read where one of them stands.
-use Rattle.std.proofs.Common.{◌≡◌, ℕ, zero, suc, ◌+◌, ◌-◌, ◌<◌, ◌≤◌, max, Bool, true, false, List, [], ◌∷◌, ◌++◌, length, None, Some, refl, sym, ap, subst, ◌∙◌, arith, length-append}
+use Rattle.std.proofs.Common.{◌≡◌, ℕ, ◌-◌, ◌≤◌, Bool, true, false, List, [], ◌∷◌, ◌++◌, length, None, Some, refl, arith, length-append}
 use Rattle.std.specs.Prelude.{nat_lt}
 use Rattle.std.proofs.lemmas.Bool.{false≢true}
 use Rattle.sl_base.specs.declared.mark.Mark.TheVariants as m
@@ -13,13 +13,13 @@ use Rattle.sl_syntax.specs.Tree as t
 use Rattle.sl_syntax.specs.Tree.{Cond, Declaration, Stmt, Item}
 use Rattle.sl_syntax.specs.Written.{Written, written, cond_written, declaration_written, container_written, effect_written, stmt_written, item_written, from_place}
 use Rattle.sl_syntax.specs.Written as v
-use Rattle.sl_grammar.specs.Effects.{assignment_of, effect}
+use Rattle.sl_grammar.specs.Effects.{effect}
 use Rattle.sl_grammar.specs.Statements.{is_else, is_item, declared, item_by, for_behind, for_by, effect_stmt, stmt_by}
 use Rattle.sl_grammar.specs.Steps.{Reader, Tall, ◌>>=◌, pure, only, kind_at, is_mark}
 use Rattle.sl_grammar.proofs.CompleteDeclarations.{reader_of, type-kind}
 use Rattle.sl_grammar.proofs.CompleteEffects.{EndsEffect, begins_effect, begins-effect, effect-begins, effect-some}
 use Rattle.sl_grammar.proofs.CompleteKinds.{expr-begins, scalar-kind}
-use Rattle.sl_grammar.proofs.CompleteSteps.{Spelled, split, at_word, plain_word, from_word}
+use Rattle.sl_grammar.proofs.CompleteSteps.{Spelled, split, at_word, from_word}
 
 pub semicolon-ends : EndsEffect (k.Mark m.Semicolon)
 semicolon-ends = record { ends = record { stops = omega arith; not_call = refl }; no_read = refl; no_print = refl; no_assignment = λ room. refl }

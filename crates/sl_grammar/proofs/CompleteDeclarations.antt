@@ -1,31 +1,26 @@
 -- The words of a declaration or a parameter are read as it is.
-use Rattle.std.proofs.Common.{◌≡◌, ℕ, zero, suc, ◌+◌, ◌-◌, ◌<◌, ◌≤◌, max, Bool, true, false, List, [], ◌∷◌, ◌++◌, length, flat_map, Some, None, Ok, refl, sym, ap, subst, ◌∙◌, arith, length-append}
-use Rattle.std.specs.Prelude.{⊤, codes}
-use Rattle.std.proofs.lemmas.Bool.{lt-ltb, false≢true}
+use Rattle.std.proofs.Common.{◌≡◌, ℕ, ◌+◌, ◌≤◌, Bool, true, false, List, [], ◌∷◌, ◌++◌, Some, None, Ok, refl, arith}
+use Rattle.std.specs.Prelude.{⊤}
+use Rattle.std.proofs.lemmas.Bool.{lt-ltb}
 use Rattle.sl_base.specs.declared.mark.Mark.TheVariants as m
-use Rattle.sl_base.specs.declared.place.Place.{Place}
-use Rattle.sl_base.specs.declared.scalar.Scalar.{Scalar}
 use Rattle.sl_base.specs.declared.token.Token.{Token}
-use Rattle.sl_base.specs.declared.word.Word.TheVariants as w
-use Rattle.sl_syntax.specs.declared.kind.Kind.{Kind}
 use Rattle.sl_syntax.specs.declared.kind.Kind.TheVariants as k
 use Rattle.sl_syntax.specs.declared.tree.declaration.ContainerType.{ContainerType}
 use Rattle.sl_syntax.specs.declared.tree.function.Param.{Param}
 use Rattle.sl_syntax.specs.declared.tree.function.Param.TheVariants as r
-use Rattle.sl_syntax.specs.declared.tree.identifier.Identifier.{Identifier}
-use Rattle.sl_syntax.specs.Depth.{height, list_height, highest, initializer_height, declaration_height, param_height}
-use Rattle.sl_syntax.specs.Shaped.{IsExpr, AreExprs, Each, IsInitializer, IsDeclaration}
+use Rattle.sl_syntax.specs.Depth.{list_height, highest, initializer_height, declaration_height, param_height}
+use Rattle.sl_syntax.specs.Shaped.{AreExprs, Each, IsInitializer, IsDeclaration}
 use Rattle.sl_syntax.specs.Tree as t
 use Rattle.sl_syntax.specs.Tree.{Expr, Exprs, Initializer, Declaration}
 use Rattle.sl_syntax.specs.Written.{Written, is_map, list_written, elements_written, container_written, initializer_written, declaration_written, param_written, params_written}
 use Rattle.sl_syntax.specs.Written as v
 use Rattle.sl_grammar.specs.Declarations.{int, elements_by, container_type, optional_value, scalar_declaration, auto_declaration, braces, constructed, initializer, container_declaration, scalar_param, container_param, const_param, param, comma_param, params}
-use Rattle.sl_grammar.specs.Expressions.{expr, list_before, list}
-use Rattle.sl_grammar.specs.Steps.{Reader, Tall, kind_at, is_mark, mark, identifier, all_behind}
+use Rattle.sl_grammar.specs.Expressions.{expr}
+use Rattle.sl_grammar.specs.Steps.{Reader, Tall, kind_at, is_mark, mark, identifier}
 use Rattle.sl_grammar.proofs.CompleteExpressions.{whole-complete}
-use Rattle.sl_grammar.proofs.CompleteKinds.{Ends, scalar-kind, form-kind}
+use Rattle.sl_grammar.proofs.CompleteKinds.{scalar-kind, form-kind}
 use Rattle.sl_grammar.proofs.CompleteLists.{brace-close, list-reads, list_before-reads}
-use Rattle.sl_grammar.proofs.CompleteSteps.{token, Spelled, split, at_word, plain_word, Turn, Row, row, all-row}
+use Rattle.sl_grammar.proofs.CompleteSteps.{Spelled, split, at_word, plain_word, Turn, row, all-row}
 
 elements-read : (b : Bool) (ts rest : List Token) → Spelled (elements_written b) ts rest → elements_by b ts ≡ Ok (tt, rest)
 unfolding int mark
@@ -60,7 +55,7 @@ module _ (room : ℕ) where
       plain_word c (λ o place us e d.
       let e2 : us ≡ rest = d.spells in
       let list = list_before-reads (expr (room + 1) 1) (expr room 1) room (room + 1) (whole-complete (room + 1)) (whole-complete room) (omega arith) m.RightBrace xs ts mid brace-close a l
-          (rw e (record { is = refl; ends = record { stops = omega arith; not_call = refl }; no_comma = refl })) b in
+      (rw e (record { is = refl; ends = record { stops = omega arith; not_call = refl }; no_comma = refl })) b in
       rw (list, e, e2) refl))
 
   initializer-reads : (i : Initializer) (ts rest : List Token) → IsInitializer i → initializer_height i ≤ room → kind_at rest ≡ k.Mark m.Semicolon → Spelled (initializer_written i) ts rest
@@ -81,7 +76,7 @@ module _ (room : ℕ) where
       plain_word b (λ o2 p2 t2 e2 s2.
       let e : t2 ≡ rest = s2.spells in
       let inside = list-reads (expr (room + 1) 1) (expr room 1) room (room + 1) (whole-complete (room + 1)) (whole-complete room) (omega arith) x xs t1 mid g.1 l
-          (rw e2 (record { stops = omega arith; not_call = refl })) (rw e2 refl) a in
+      (rw e2 (record { stops = omega arith; not_call = refl })) (rw e2 refl) a in
       rw (e1, inside, e2, e) refl)))
 
   -- The words of a declaration, before a `;`, are read as that declaration.

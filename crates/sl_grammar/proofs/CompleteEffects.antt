@@ -1,29 +1,28 @@
 -- The words of a read, a print, an assignment or a condition are read as it is.
-use Rattle.std.proofs.Common.{◌≡◌, ℕ, zero, suc, ◌+◌, ◌-◌, ◌<◌, ◌≤◌, ◌&&◌, max, drop, Bool, true, false, List, [], ◌∷◌, ◌++◌, length, flat_map, None, Ok, refl, sym, ap, subst, ◌∙◌, arith, length-append}
+use Rattle.std.proofs.Common.{◌≡◌, ℕ, ◌+◌, ◌<◌, ◌≤◌, ◌&&◌, max, drop, Bool, true, false, List, [], ◌∷◌, length, flat_map, None, Ok, refl, sym, subst, arith, length-append}
 use Rattle.std.specs.Prelude.{⊤, codes}
-use Rattle.std.proofs.lemmas.Bool.{lt-ltb, le-ltb, false≢true}
+use Rattle.std.proofs.lemmas.Bool.{lt-ltb, false≢true}
 use Rattle.sl_base.specs.declared.mark.Mark.TheVariants as m
 use Rattle.sl_base.specs.declared.place.Place.{Place}
 use Rattle.sl_base.specs.declared.token.Token.{Token}
 use Rattle.sl_base.specs.declared.word.Word.TheVariants as w
 use Rattle.sl_syntax.specs.declared.kind.Kind.{Kind}
 use Rattle.sl_syntax.specs.declared.kind.Kind.TheVariants as k
-use Rattle.sl_syntax.specs.declared.operator.Assignment.{Assignment}
 use Rattle.sl_syntax.specs.declared.operator.PrefixOperator.TheVariants as p
 use Rattle.sl_syntax.specs.declared.tree.effect.Read.{Read}
 use Rattle.sl_syntax.specs.declared.tree.identifier.Identifier.{Identifier}
 use Rattle.sl_syntax.specs.Depth.{height, highest, out_height, effect_height, cond_height}
-use Rattle.sl_syntax.specs.Shaped.{level, IsExpr, Each, AreSome, IsRead, IsOut, IsEffect, IsCond}
+use Rattle.sl_syntax.specs.Shaped.{IsExpr, Each, AreSome, IsRead, IsOut, IsEffect, IsCond}
 use Rattle.sl_syntax.specs.Tree as t
 use Rattle.sl_syntax.specs.Tree.{Expr, Out, Effect, Cond}
 use Rattle.sl_syntax.specs.Written.{Written, written, named, read_written, out_written, print_written, effect_written, cond_written, assignment_mark}
 use Rattle.sl_syntax.specs.Written as v
 use Rattle.sl_grammar.specs.Effects.{shifted_name, read, is_input, out_by, shifted_out, print, assignment_of, assigned, effect_by, effect, begins_no_read, no_read, cond_by, cond}
-use Rattle.sl_grammar.specs.Expressions.{goes_on, expr}
-use Rattle.sl_grammar.specs.Steps.{Reader, Tall, and_then, ◌>>=◌, pure, kind_at, is_mark, mark, identifier, all_behind}
+use Rattle.sl_grammar.specs.Expressions.{expr}
+use Rattle.sl_grammar.specs.Steps.{and_then, ◌>>=◌, pure, kind_at, is_mark, mark, identifier, all_behind}
 use Rattle.sl_grammar.proofs.CompleteExpressions.{expr-complete, whole-complete}
 use Rattle.sl_grammar.proofs.CompleteKinds.{Ends, assignment-mark, assignment-ends, begins_expr, expr-begins, expr-some}
-use Rattle.sl_grammar.proofs.CompleteSteps.{token, Spelled, split, at_word, plain_word, Turn, Row, row, all-row}
+use Rattle.sl_grammar.proofs.CompleteSteps.{Spelled, split, at_word, plain_word, Turn, row, all-row}
 
 -- what follows an effect or a condition
 pub record EndsEffect (kind : Kind) : Type 0 where
@@ -149,8 +148,14 @@ module _ (room : ℕ) where
       split (written x) s (λ mid a b.
       at_word b (λ o us e c.
       let ends : Ends 1 (kind_at mid) = rw e (assignment-ends op) in
-      rw (effect-kind (kind_at ts) (expr-begins x ts mid g.0 a), (whole-complete (room + 1)).reads x ts mid g.0 (omega arith) ends a, e, assignment-mark room op,
-      lt-ltb (height x) room (omega arith), (whole-complete room).reads y us rest g.1 (omega arith) f.ends c) refl))
+      rw (
+        effect-kind (kind_at ts) (expr-begins x ts mid g.0 a),
+        (whole-complete (room + 1)).reads x ts mid g.0 (omega arith) ends a,
+        e,
+        assignment-mark room op,
+        lt-ltb (height x) room (omega arith),
+        (whole-complete room).reads y us rest g.1 (omega arith) f.ends c,
+      ) refl))
 
   -- no expression begins with `(std::cin`
   parenthesis-no_read : (r : Expr) (ts rest : List Token) → IsExpr r → Spelled (written r) ts rest → is_mark m.LeftParenthesis (kind_at ts) && is_input (kind_at (drop 1 ts)) ≡ false

@@ -1,31 +1,27 @@
 -- The words of a statement are read as that statement.
-use Rattle.std.proofs.Common.{◌≡◌, ℕ, zero, suc, ◌+◌, ◌-◌, ◌<◌, ◌≤◌, max, Bool, true, false, List, [], ◌∷◌, ◌++◌, length, Option, Some, None, Ok, refl, sym, ap, subst, ◌∙◌, arith}
-use Rattle.std.specs.Prelude.{codes}
+use Rattle.std.proofs.Common.{◌≡◌, ℕ, zero, suc, ◌+◌, ◌<◌, ◌≤◌, max, true, false, List, [], ◌∷◌, ◌++◌, Option, Some, None, Ok, refl, sym, ◌∙◌, arith}
 use Rattle.std.proofs.lemmas.Bool.{lt-ltb, false≢true}
 use Rattle.sl_base.specs.declared.mark.Mark.TheVariants as m
 use Rattle.sl_base.specs.declared.place.Place.{Place}
 use Rattle.sl_base.specs.declared.scalar.Scalar.{Scalar}
 use Rattle.sl_base.specs.declared.token.Token.{Token}
-use Rattle.sl_base.specs.declared.word.Word.TheVariants as w
 use Rattle.sl_syntax.specs.declared.kind.Kind.TheVariants as k
 use Rattle.sl_syntax.specs.declared.tree.identifier.Identifier.{Identifier}
-use Rattle.sl_syntax.specs.Depth.{height, option_height, effect_height, cond_height, first_height, stmt_height}
+use Rattle.sl_syntax.specs.Depth.{height, option_height, effect_height, cond_height, stmt_height}
 use Rattle.sl_syntax.specs.Shaped.{IfThere, ends_open, IsExpr, IsEffect, IsCond, IsFirst, IsStmt}
 use Rattle.sl_syntax.specs.Tree as t
 use Rattle.sl_syntax.specs.Tree.{Expr, Effect, Cond, First, Stmt}
 use Rattle.sl_syntax.specs.Written.{Written, written, option_written, effect_written, cond_written, first_written, value_written, tested, stmt_written}
 use Rattle.sl_syntax.specs.Written as v
-use Rattle.sl_grammar.specs.Effects.{effect, cond}
-use Rattle.sl_grammar.specs.Expressions.{expr}
-use Rattle.sl_grammar.specs.Statements.{first_of, is_else, ranges, condition, otherwise, choice, loop, optional_cond, optional_effect, for_behind, range_behind, valued_first, variable_behind, declared_first, for_by, for_loop, return_stmt, effect_stmt, word_stmt, stmt_by, stmt}
-use Rattle.sl_grammar.specs.Steps.{here, Reader, Tall, kind_at, is_mark, mark, identifier}
+use Rattle.sl_grammar.specs.Statements.{first_of, is_else, condition, otherwise, choice, loop, optional_cond, optional_effect, for_behind, range_behind, valued_first, variable_behind, declared_first, for_by, for_loop, return_stmt, effect_stmt, word_stmt, stmt_by, stmt}
+use Rattle.sl_grammar.specs.Steps.{here, Reader, Tall, kind_at, mark, identifier}
 use Rattle.sl_grammar.proofs.CompleteBegins.{semicolon-ends, parenthesis-ends, effect-not_semicolon, effect-not_parenthesis, cond-begins, does-some, stmt-height_some, for-kind, does-kind}
 use Rattle.sl_grammar.proofs.CompleteBlocks.{ReadsStmts, block-reads}
-use Rattle.sl_grammar.proofs.CompleteEffects.{EndsEffect, and-false, effect-complete, effect-begins, cond-complete}
+use Rattle.sl_grammar.proofs.CompleteEffects.{and-false, effect-complete, effect-begins, cond-complete}
 use Rattle.sl_grammar.proofs.CompleteExpressions.{whole-complete}
 use Rattle.sl_grammar.proofs.CompleteKinds.{scalar-kind, expr-begins}
 use Rattle.sl_grammar.proofs.CompleteLists.{semicolon-close}
-use Rattle.sl_grammar.proofs.CompleteSteps.{token, Spelled, split, at_word, plain_word, from_word}
+use Rattle.sl_grammar.proofs.CompleteSteps.{Spelled, split, at_word, plain_word, from_word}
 
 -- the words of a `for` behind its first part
 abbrev for_written : Option Cond → Option Effect → Stmt → List Written

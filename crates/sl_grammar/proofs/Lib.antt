@@ -8,3 +8,4 @@ pub mod CompleteDeclarations
 pub mod CompleteBegins
 pub mod CompleteBlocks
 pub mod CompleteStatements
+pub mod CompletePrograms
