@@ -78,7 +78,8 @@ stmt-begins (t.break place) ts rest g s = at_word s (λ o us e a. rw e refl)
 stmt-begins (t.continue place) ts rest g s = at_word s (λ o us e a. rw e refl)
 stmt-begins (t.gives_back place x) ts rest g s = at_word s (λ o us e a. rw e refl)
 stmt-begins (t.does place e) ts rest g s =
-    split (effect_written e) (from_word place (effect_written e ++ v.mark m.Semicolon ∷ []) (does-some e) s).0 (λ mid a b. begins-stmt (kind_at ts) (effect-begins e ts mid g a))
+    split (effect_written e) (from_word place (effect_written e ++ v.mark m.Semicolon ∷ []) (does-some e) s).0
+    (λ mid a b. begins-stmt (kind_at ts) (effect-begins e ts mid g a))
 
 -- the word begins an item
 abbrev pub begins_item : Kind → Bool
@@ -157,7 +158,8 @@ item-some (t.declares d) = rw length-append (omega (arith, declaration-some d))
 item-some (t.states x) = stmt-some x
 
 module _ (inner : Reader (Tall Stmt)) (room : ℕ) where
-  pub declared-kind : (d : Declaration) (ts rest : List Token) → Spelled (declaration_written d) ts rest → item_by room inner (kind_at ts) ≡ only (nat_lt 1 room) (declared room (reader_of (room - 2) d))
+  pub declared-kind : (d : Declaration) (ts rest : List Token) → Spelled (declaration_written d) ts rest
+      → item_by room inner (kind_at ts) ≡ only (nat_lt 1 room) (declared room (reader_of (room - 2) d))
   declared-kind (t.declares_scalar place s x None) ts rest h = at_word h (λ o us e a. rw (e, scalar-kind s) refl)
   declared-kind (t.declares_scalar place s x (Some y)) ts rest h = at_word h (λ o us e a. rw (e, scalar-kind s) refl)
   declared-kind (t.declares_auto place x y) ts rest h = at_word h (λ o us e a. rw e refl)
@@ -169,7 +171,8 @@ module _ (inner : Reader (Tall Stmt)) (room : ℕ) where
   stated-kind (k.Container f) h = absurd (false≢true h)
   stated-kind _ h = refl
 
-  pub for-kind : (place : Place) (kind : Kind) → begins_effect kind ≡ true → for_by inner room place kind ≡ (effect room >>= (λ e. for_behind inner room place (Some (t.first_effect e.0), e.1)))
+  pub for-kind : (place : Place) (kind : Kind) → begins_effect kind ≡ true
+      → for_by inner room place kind ≡ (effect room >>= (λ e. for_behind inner room place (Some (t.first_effect e.0), e.1)))
   for-kind place (k.Scalar s) h = absurd (false≢true h)
   for-kind place k.Auto h = absurd (false≢true h)
   for-kind place (k.Mark m.Semicolon) h = absurd (false≢true h)

@@ -29,7 +29,8 @@ elements-read false ts rest s =
     let e : t3 ≡ rest = s3.spells in
     rw (e1, e2, e3, e) refl)))
 elements-read true ts rest s =
-    plain_word s (λ o1 p1 t1 e1 s1. plain_word s1 (λ o2 p2 t2 e2 s2. plain_word s2 (λ o3 p3 t3 e3 s3. plain_word s3 (λ o4 p4 t4 e4 s4. plain_word s4 (λ o5 p5 t5 e5 s5.
+    plain_word s (λ o1 p1 t1 e1 s1. plain_word s1 (λ o2 p2 t2 e2 s2. plain_word s2 (λ o3 p3 t3 e3 s3.
+    plain_word s3 (λ o4 p4 t4 e4 s4. plain_word s4 (λ o5 p5 t5 e5 s5.
     let e : t5 ≡ rest = s5.spells in
     rw (e1, e2, e3, e4, e5, e) refl)))))
 
@@ -47,18 +48,21 @@ reader_of room (t.declares_auto place x v) = auto_declaration room
 reader_of room (t.declares_container c x i) = container_declaration room c.form
 
 module _ (room : ℕ) where
-  braces-read : (equal : Bool) (xs : Exprs) (ts rest : List Token) → AreExprs xs → list_height xs ≤ room → Spelled (list_written xs ++ v.mark m.RightBrace ∷ []) ts rest
+  braces-read : (equal : Bool) (xs : Exprs) (ts rest : List Token) → AreExprs xs → list_height xs ≤ room
+      → Spelled (list_written xs ++ v.mark m.RightBrace ∷ []) ts rest
       → braces room equal ts ≡ Ok ((t.braces equal xs, list_height xs), rest)
   unfolding braces mark
   braces-read equal xs ts rest a l s =
       split (list_written xs) s (λ mid b c.
       plain_word c (λ o place us e d.
       let e2 : us ≡ rest = d.spells in
-      let list = list_before-reads (expr (room + 1) 1) (expr room 1) room (room + 1) (whole-complete (room + 1)) (whole-complete room) (omega arith) m.RightBrace xs ts mid brace-close a l
+      let list = list_before-reads (expr (room + 1) 1) (expr room 1) room (room + 1) (whole-complete (room + 1)) (whole-complete room)
+      (omega arith) m.RightBrace xs ts mid brace-close a l
       (rw e (record { is = refl; ends = record { stops = omega arith; not_call = refl }; no_comma = refl })) b in
       rw (list, e, e2) refl))
 
-  initializer-reads : (i : Initializer) (ts rest : List Token) → IsInitializer i → initializer_height i ≤ room → kind_at rest ≡ k.Mark m.Semicolon → Spelled (initializer_written i) ts rest
+  initializer-reads : (i : Initializer) (ts rest : List Token) → IsInitializer i → initializer_height i ≤ room → kind_at rest ≡ k.Mark m.Semicolon
+      → Spelled (initializer_written i) ts rest
       → initializer room ts ≡ Ok ((i, initializer_height i), rest)
   unfolding initializer constructed mark identifier
   initializer-reads t.absent ts rest g l f s = let e : ts ≡ rest = s.spells in rw (e, f) refl
@@ -80,7 +84,8 @@ module _ (room : ℕ) where
       rw (e1, inside, e2, e) refl)))
 
   -- The words of a declaration, before a `;`, are read as that declaration.
-  pub declaration-complete : (d : Declaration) (ts rest : List Token) → IsDeclaration d → declaration_height d ≤ room + 1 → kind_at rest ≡ k.Mark m.Semicolon → Spelled (declaration_written d) ts rest
+  pub declaration-complete : (d : Declaration) (ts rest : List Token) → IsDeclaration d → declaration_height d ≤ room + 1
+      → kind_at rest ≡ k.Mark m.Semicolon → Spelled (declaration_written d) ts rest
       → reader_of room d ts ≡ Ok ((d, declaration_height d), rest)
   unfolding scalar_declaration auto_declaration container_declaration optional_value mark identifier
   declaration-complete (t.declares_scalar place s x None) ts rest g l f h =
@@ -141,11 +146,13 @@ unfolding mark
 param-turn x ts mid p f s = plain_word s (λ o place us e a. record { goes_on = rw e refl; reads = rw (e, param-reads x us mid a) refl })
 
 -- The words of parameters, before a `)`, are read as those parameters.
-pub params-complete : (xs : List Param) (ts rest : List Token) → kind_at rest ≡ k.Mark m.RightParenthesis → Spelled (params_written xs) ts rest → params ts ≡ Ok ((xs, highest param_height xs), rest)
+pub params-complete : (xs : List Param) (ts rest : List Token) → kind_at rest ≡ k.Mark m.RightParenthesis → Spelled (params_written xs) ts rest
+    → params ts ≡ Ok ((xs, highest param_height xs), rest)
 unfolding params
 params-complete [] ts rest f s = let e : ts ≡ rest = s.spells in rw (e, f) refl
 params-complete (x ∷ xs) ts rest f s =
     split (param_written x) s (λ mid a b.
-    let r = row (is_mark m.Comma) comma_param param_height behind_comma Any (λ kind. ⊤) param-turn (λ y us vs p q. tt) (λ y. omega arith) xs mid rest (each-any xs) tt (rw f refl) b in
+    let r = row (is_mark m.Comma) comma_param param_height behind_comma Any (λ kind. ⊤) param-turn (λ y us vs p q. tt) (λ y. omega arith) xs mid rest
+    (each-any xs) tt (rw f refl) b in
     let others = all-row (is_mark m.Comma) comma_param param_height xs (x ∷ []) (param_height x) mid rest r in
     rw (param-begins x ts mid a, param-reads x ts mid a, others) refl)

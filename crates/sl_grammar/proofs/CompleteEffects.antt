@@ -44,14 +44,16 @@ each-any (x ∷ xs) = (tt, each-any xs)
 abbrev no_height : Identifier → ℕ
 no_height x = 0
 
-name-turn : (x : Identifier) (ts mid : List Token) → Any x → ⊤ → Spelled (shift_name x) ts mid → Turn (is_mark m.ShiftRight) shifted_name no_height x ts mid
+name-turn : (x : Identifier) (ts mid : List Token) → Any x → ⊤ → Spelled (shift_name x) ts mid
+    → Turn (is_mark m.ShiftRight) shifted_name no_height x ts mid
 unfolding shifted_name mark identifier
 name-turn x ts mid p f s =
     plain_word s (λ o place us e a. at_word a (λ o2 vs e2 b.
     let e3 : vs ≡ mid = b.spells in
     record { goes_on = rw e refl; reads = rw (e, e2, e3) refl }))
 
-names-row : (xs : List Identifier) (x : Identifier) (ts rest : List Token) → is_mark m.ShiftRight (kind_at rest) ≡ false → Spelled (flat_map shift_name xs) ts rest
+names-row : (xs : List Identifier) (x : Identifier) (ts rest : List Token) → is_mark m.ShiftRight (kind_at rest) ≡ false
+    → Spelled (flat_map shift_name xs) ts rest
     → all_behind (is_mark m.ShiftRight) shifted_name (x ∷ [], 0) ts ≡ Ok ((x ∷ xs, max 0 (highest no_height xs)), rest)
 names-row xs x ts rest e s =
     all-row (is_mark m.ShiftRight) shifted_name no_height xs (x ∷ []) 0 ts rest
@@ -67,7 +69,8 @@ and-false false = refl
 
 module _ (room : ℕ) where
   read-names : (place : Place) (xs : List Identifier) (ts rest : List Token) → 0 < room → AreSome xs → is_mark m.ShiftRight (kind_at rest) ≡ false
-      → Spelled (v.at place (w.Lib (codes "cin")) ∷ flat_map shift_name xs) ts rest → read room ts ≡ Ok ((record { place = place; variables = xs }, 1), rest)
+      → Spelled (v.at place (w.Lib (codes "cin")) ∷ flat_map shift_name xs) ts rest
+      → read room ts ≡ Ok ((record { place = place; variables = xs }, 1), rest)
   unfolding read shifted_name mark identifier
   read-names place [] ts rest l a e s = absurd (omega arith)
   read-names place (x ∷ xs) ts rest l a e s =
@@ -76,7 +79,8 @@ module _ (room : ℕ) where
       at_word c (λ o3 ws e3 d.
       rw (e1, e2, e3, lt-ltb 0 room l, names-row xs x ws rest e d) refl)))
 
-  pub read-reads : (r : Read) (ts rest : List Token) → 0 < room → IsRead r → is_mark m.ShiftRight (kind_at rest) ≡ false → Spelled (read_written r) ts rest → read room ts ≡ Ok ((r, 1), rest)
+  pub read-reads : (r : Read) (ts rest : List Token) → 0 < room → IsRead r → is_mark m.ShiftRight (kind_at rest) ≡ false
+      → Spelled (read_written r) ts rest → read room ts ≡ Ok ((r, 1), rest)
   read-reads r ts rest l a e s = read-names r.place r.variables ts rest l a e s
 
   out-kind : (kind : Kind) → begins_expr kind ≡ true → out_by room kind ≡ (expr room 5 >>= (λ x. pure (t.value x.0, x.1)))
@@ -90,16 +94,22 @@ module _ (room : ℕ) where
   abbrev LowOut : Out → Type 0
   LowOut x = IsOut x × (out_height x < room)
 
-  out-reads : (x : Out) (ts rest : List Token) → LowOut x → Ends 5 (kind_at rest) → Spelled (out_written x) ts rest → out_by room (kind_at ts) ts ≡ Ok ((x, out_height x), rest)
+  out-reads : (x : Out) (ts rest : List Token) → LowOut x → Ends 5 (kind_at rest) → Spelled (out_written x) ts rest
+      → out_by room (kind_at ts) ts ≡ Ok ((x, out_height x), rest)
   out-reads (t.text place bytes) ts rest p f s = at_word s (λ o us e a. let e2 : us ≡ rest = a.spells in rw (e, e2) refl)
   out-reads (t.end_line place) ts rest p f s = at_word s (λ o us e a. let e2 : us ≡ rest = a.spells in rw (e, e2) refl)
-  out-reads (t.value x) ts rest p f s = rw (out-kind (kind_at ts) (expr-begins x ts rest p.0.1 s), (expr-complete room).reads x 5 ts rest p.0.1 p.1 p.0.0 f s) refl
+  out-reads (t.value x) ts rest p f s = rw (
+    out-kind (kind_at ts) (expr-begins x ts rest p.0.1 s),
+    (expr-complete room).reads x 5 ts rest p.0.1 p.1 p.0.0 f s,
+  ) refl
 
-  shift-reads : (x : Out) (ts rest : List Token) → LowOut x → Ends 5 (kind_at rest) → Spelled (shift_out x) ts rest → shifted_out room ts ≡ Ok ((x, out_height x), rest)
+  shift-reads : (x : Out) (ts rest : List Token) → LowOut x → Ends 5 (kind_at rest) → Spelled (shift_out x) ts rest
+      → shifted_out room ts ≡ Ok ((x, out_height x), rest)
   unfolding shifted_out mark
   shift-reads x ts rest p f s = plain_word s (λ o place us e a. rw e (out-reads x us rest p f a))
 
-  out-turn : (x : Out) (ts mid : List Token) → LowOut x → Ends 5 (kind_at mid) → Spelled (shift_out x) ts mid → Turn (is_mark m.ShiftLeft) (shifted_out room) out_height x ts mid
+  out-turn : (x : Out) (ts mid : List Token) → LowOut x → Ends 5 (kind_at mid) → Spelled (shift_out x) ts mid
+      → Turn (is_mark m.ShiftLeft) (shifted_out room) out_height x ts mid
   out-turn x ts mid p f s = record { goes_on = plain_word s (λ o place us e a. rw e refl); reads = shift-reads x ts mid p f s }
 
   out-ends : (x : Out) (ts mid : List Token) → LowOut x → Spelled (shift_out x) ts mid → Ends 5 (kind_at ts)
@@ -113,7 +123,8 @@ module _ (room : ℕ) where
   outs-ends [] ts rest f s = subst (λ (u : List Token). Ends 5 (kind_at u)) (sym s.spells) f
   outs-ends (x ∷ xs) ts rest f s = plain_word s (λ o place us e a. rw e (record { stops = omega arith; not_call = refl }))
 
-  print-reads : (place : Place) (xs : List Out) (ts rest : List Token) → AreSome xs → Each IsOut xs → highest out_height xs < room → EndsEffect (kind_at rest) → Spelled (print_written place xs) ts rest
+  print-reads : (place : Place) (xs : List Out) (ts rest : List Token) → AreSome xs → Each IsOut xs → highest out_height xs < room
+      → EndsEffect (kind_at rest) → Spelled (print_written place xs) ts rest
       → print room ts ≡ Ok ((t.prints place xs, highest out_height xs + 1), rest)
   unfolding print
   print-reads place [] ts rest n a l f s = absurd (omega arith)
@@ -123,7 +134,8 @@ module _ (room : ℕ) where
       let ends : Ends 5 (kind_at rest) = record { stops = omega (arith, f.ends.stops); not_call = f.ends.not_call } in
       let low : Each LowOut (x ∷ xs) = low-outs (x ∷ xs) a l in
       let first = shift-reads x us mid low.0 (outs-ends xs mid rest ends d) c in
-      let r = row (is_mark m.ShiftLeft) (shifted_out room) out_height shift_out LowOut (Ends 5) out-turn out-ends (λ y. omega arith) xs mid rest low.1 ends f.no_print d in
+      let r = row (is_mark m.ShiftLeft) (shifted_out room) out_height shift_out LowOut (Ends 5) out-turn out-ends
+      (λ y. omega arith) xs mid rest low.1 ends f.no_print d in
       let others = all-row (is_mark m.ShiftLeft) (shifted_out room) out_height xs (x ∷ []) (out_height x) mid rest r in
       rw (e, lt-ltb 0 room (omega arith), first, others) refl))
 
@@ -133,7 +145,8 @@ module _ (room : ℕ) where
   effect-kind _ h = refl
 
   -- The words of an effect are read as that effect.
-  pub effect-complete : (e : Effect) (ts rest : List Token) → IsEffect e → effect_height e ≤ room → EndsEffect (kind_at rest) → Spelled (effect_written e) ts rest
+  pub effect-complete : (e : Effect) (ts rest : List Token) → IsEffect e → effect_height e ≤ room → EndsEffect (kind_at rest)
+      → Spelled (effect_written e) ts rest
       → effect room ts ≡ Ok ((e, effect_height e), rest)
   unfolding effect assigned
   effect-complete (t.reads r) ts rest g l f s =
@@ -158,14 +171,16 @@ module _ (room : ℕ) where
       ) refl))
 
   -- no expression begins with `(std::cin`
-  parenthesis-no_read : (r : Expr) (ts rest : List Token) → IsExpr r → Spelled (written r) ts rest → is_mark m.LeftParenthesis (kind_at ts) && is_input (kind_at (drop 1 ts)) ≡ false
+  parenthesis-no_read : (r : Expr) (ts rest : List Token) → IsExpr r → Spelled (written r) ts rest
+      → is_mark m.LeftParenthesis (kind_at ts) && is_input (kind_at (drop 1 ts)) ≡ false
   parenthesis-no_read (t.number place n) ts rest g h = at_word h (λ o us e _. rw e refl)
   parenthesis-no_read (t.truth place true) ts rest g h = at_word h (λ o us e _. rw e refl)
   parenthesis-no_read (t.truth place false) ts rest g h = at_word h (λ o us e _. rw e refl)
   parenthesis-no_read (t.name x) ts rest g h = at_word h (λ o us e _. rw e refl)
   parenthesis-no_read (t.call f xs) ts rest g h = at_word h (λ o us e _. rw e refl)
   parenthesis-no_read (t.library_call f xs) ts rest g h = at_word h (λ o us e _. rw (e, g.0) refl)
-  parenthesis-no_read (t.parentheses place x) ts rest g h = at_word h (λ o us e d. split (written x) d (λ mid p q. rw e (no-input (kind_at us) (expr-begins x us mid g p))))
+  parenthesis-no_read (t.parentheses place x) ts rest g h = at_word h (λ o us e d. split (written x) d
+      (λ mid p q. rw e (no-input (kind_at us) (expr-begins x us mid g p))))
   parenthesis-no_read (t.prefix p.Not place x) ts rest g h = at_word h (λ o us e _. rw e refl)
   parenthesis-no_read (t.prefix p.Negate place x) ts rest g h = at_word h (λ o us e _. rw e refl)
   parenthesis-no_read (t.prefix p.Dereference place x) ts rest g h = at_word h (λ o us e _. rw e refl)
@@ -197,12 +212,14 @@ module _ (room : ℕ) where
   not-no_read (t.member_call x f xs) ts rest g h = split (written x) h (λ mid p q. not-no_read x ts mid g.1 p)
   not-no_read (t.member x s place f) ts rest g h = split (written x) h (λ mid p q. not-no_read x ts mid g.1 p)
 
-  cond-kind : (kind : Kind) (ts : List Token) → begins_expr kind ≡ true → begins_no_read room ts ≡ false → cond_by room kind ts ≡ and_then (expr (room + 1) 1 ts) (λ x. pure (t.tests x.0, x.1))
+  cond-kind : (kind : Kind) (ts : List Token) → begins_expr kind ≡ true → begins_no_read room ts ≡ false
+      → cond_by room kind ts ≡ and_then (expr (room + 1) 1 ts) (λ x. pure (t.tests x.0, x.1))
   cond-kind k.Input ts h n = absurd (false≢true h)
   cond-kind _ ts h n = rw (n, and-false) refl
 
   -- The words of a condition are read as that condition.
-  pub cond-complete : (c : Cond) (ts rest : List Token) → IsCond c → cond_height c ≤ room → EndsEffect (kind_at rest) → Spelled (cond_written c) ts rest → cond room ts ≡ Ok ((c, cond_height c), rest)
+  pub cond-complete : (c : Cond) (ts rest : List Token) → IsCond c → cond_height c ≤ room → EndsEffect (kind_at rest)
+      → Spelled (cond_written c) ts rest → cond room ts ≡ Ok ((c, cond_height c), rest)
   unfolding cond no_read mark
   cond-complete (t.tests_read r) ts rest g l f s =
       let input : kind_at ts ≡ k.Input = at_word s (λ o us e a. rw e refl) in
@@ -217,7 +234,10 @@ module _ (room : ℕ) where
       let inside : read room vs ≡ Ok ((r, 1), mid) = read-reads r vs mid (omega arith) g (rw e3 refl) c in
       rw (e, e2, input, lt-ltb 1 room (omega arith), inside, e3, e4) refl))))
   cond-complete (t.tests x) ts rest g l f s =
-      rw (cond-kind (kind_at ts) ts (expr-begins x ts rest g s) (not-no_read x ts rest g s), (whole-complete (room + 1)).reads x ts rest g (omega arith) f.ends s) refl
+      rw (
+        cond-kind (kind_at ts) ts (expr-begins x ts rest g s) (not-no_read x ts rest g s),
+        (whole-complete (room + 1)).reads x ts rest g (omega arith) f.ends s,
+      ) refl
 
 -- the word begins an effect
 abbrev pub begins_effect : Kind → Bool

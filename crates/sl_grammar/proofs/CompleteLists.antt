@@ -19,7 +19,8 @@ use Rattle.sl_grammar.proofs.CompleteSteps.{Spelled, split, plain_word, Turn, ro
 
 -- a whole expression that is less high than this is read as it is
 pub record ReadsWhole (bound : ℕ) (reader : Reader (Tall Expr)) : Type 0 where
-  pub reads : (r : Expr) (ts rest : List Token) → IsExpr r → height r < bound → Ends 1 (kind_at rest) → Spelled (written r) ts rest → reader ts ≡ Ok ((r, height r), rest)
+  pub reads : (r : Expr) (ts rest : List Token) → IsExpr r → height r < bound → Ends 1 (kind_at rest) → Spelled (written r) ts rest
+      → reader ts ≡ Ok ((r, height r), rest)
 
 -- the word is this mark, behind a list
 pub record Closes (close : Mark) (kind : Kind) : Type 0 where
@@ -82,7 +83,8 @@ module _ (one more : Reader (Tall Expr)) (n bound : ℕ) (o : ReadsWhole bound o
   abbrev Low : Expr → Type 0
   Low x = IsExpr x × (height x < n)
 
-  comma-turn : (x : Expr) (ts mid : List Token) → Low x → Ends 1 (kind_at mid) → Spelled (behind_comma x) ts mid → Turn (is_mark m.Comma) (comma_expr one more n) height x ts mid
+  comma-turn : (x : Expr) (ts mid : List Token) → Low x → Ends 1 (kind_at mid) → Spelled (behind_comma x) ts mid
+      → Turn (is_mark m.Comma) (comma_expr one more n) height x ts mid
   unfolding mark
   comma-turn x ts mid p f s = plain_word s (λ a place us e b. record { goes_on = rw e refl; reads = rw (e, q.reads x us mid p.0 p.1 f b) refl })
 
@@ -93,14 +95,17 @@ module _ (one more : Reader (Tall Expr)) (n bound : ℕ) (o : ReadsWhole bound o
   low-each t.none a l = tt
   low-each (t.with x xs) a l = ((a.0, omega arith), low-each xs a.1 (omega arith))
 
-  rest-row : (xs : Exprs) (ts rest : List Token) → AreExprs xs → rest_height xs < n → Ends 1 (kind_at rest) → is_mark m.Comma (kind_at rest) ≡ false → Spelled (rest_written xs) ts rest
+  rest-row : (xs : Exprs) (ts rest : List Token) → AreExprs xs → rest_height xs < n → Ends 1 (kind_at rest)
+      → is_mark m.Comma (kind_at rest) ≡ false → Spelled (rest_written xs) ts rest
       → all_behind (is_mark m.Comma) (comma_expr one more n) ([], 0) ts ≡ Ok ((exprs_list xs, rest_height xs), rest)
   rest-row xs ts rest a l f e s =
       let s' : Spelled (flat_map behind_comma (exprs_list xs)) ts rest = subst (λ (w : List Written). Spelled w ts rest) (rest-list xs) s in
-      let r = row (is_mark m.Comma) (comma_expr one more n) height behind_comma Low (Ends 1) comma-turn comma-ends (λ x. omega arith) (exprs_list xs) ts rest (low-each xs a l) f e s' in
+      let r = row (is_mark m.Comma) (comma_expr one more n) height behind_comma Low (Ends 1) comma-turn comma-ends (λ x. omega arith)
+      (exprs_list xs) ts rest (low-each xs a l) f e s' in
       all-row (is_mark m.Comma) (comma_expr one more n) height (exprs_list xs) [] 0 ts rest r ∙ rw (zero-max, rest-highest) refl
 
-  pub list-reads : (x : Expr) (xs : Exprs) (ts rest : List Token) → AreExprs (t.with x xs) → list_height (t.with x xs) ≤ n → Ends 1 (kind_at rest) → is_mark m.Comma (kind_at rest) ≡ false
+  pub list-reads : (x : Expr) (xs : Exprs) (ts rest : List Token) → AreExprs (t.with x xs) → list_height (t.with x xs) ≤ n → Ends 1 (kind_at rest)
+      → is_mark m.Comma (kind_at rest) ≡ false
       → Spelled (list_written (t.with x xs)) ts rest → list one more n ts ≡ Ok ((t.with x xs, list_height (t.with x xs)), rest)
   unfolding list list_behind
   list-reads x t.none ts rest a l f e s =
@@ -111,9 +116,16 @@ module _ (one more : Reader (Tall Expr)) (n bound : ℕ) (o : ReadsWhole bound o
       split (written x) s (λ mid b c.
       let comma : is_mark m.Comma (kind_at mid) ≡ true = plain_word c (λ offset place us e2 d. rw e2 refl) in
       let ends : Ends 1 (kind_at mid) = plain_word c (λ offset place us e2 d. rw e2 (record { stops = omega arith; not_call = refl })) in
-      rw (o.reads x ts mid a.0 (omega arith) ends b, comma, lt-ltb (height x) n (omega arith), rest-row (t.with y ys) mid rest a.1 (omega arith) f e c, from-list) refl)
+      rw (
+        o.reads x ts mid a.0 (omega arith) ends b,
+        comma,
+        lt-ltb (height x) n (omega arith),
+        rest-row (t.with y ys) mid rest a.1 (omega arith) f e c,
+        from-list,
+      ) refl)
 
-  pub list_before-reads : (close : Mark) (xs : Exprs) (ts rest : List Token) → IsClose close → AreExprs xs → list_height xs ≤ n → Closes close (kind_at rest) → Spelled (list_written xs) ts rest
+  pub list_before-reads : (close : Mark) (xs : Exprs) (ts rest : List Token) → IsClose close → AreExprs xs → list_height xs ≤ n
+      → Closes close (kind_at rest) → Spelled (list_written xs) ts rest
       → list_before one more n close ts ≡ Ok ((xs, list_height xs), rest)
   unfolding list_before
   list_before-reads close t.none ts rest i a l c s =

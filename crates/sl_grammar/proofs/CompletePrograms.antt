@@ -30,7 +30,8 @@ result-more : (result : ResultType) → is_more (kind_of (result_word result)) �
 result-more z.Void = refl
 result-more (z.Scalar s) = rw scalar-kind refl
 
-pub function-complete : (f : Function) (ts rest : List Token) → LowFunction f → Spelled (function_written f) ts rest → function ts ≡ Ok ((f, function_height f), rest)
+pub function-complete : (f : Function) (ts rest : List Token) → LowFunction f → Spelled (function_written f) ts rest
+    → function ts ≡ Ok ((f, function_height f), rest)
 unfolding function function_behind mark identifier
 function-complete f ts rest p s =
     at_word s (λ o1 t1 e1 s1.
@@ -38,23 +39,27 @@ function-complete f ts rest p s =
     plain_word s2 (λ o3 p3 t3 e3 s3.
     split (params_written f.params) s3 (λ t4 a4 s4.
     plain_word s4 (λ o5 p5 t5 e5 s5.
-    let body = block-reads (stmt (TREE_DEPTH - 2)) (TREE_DEPTH - 2) (stmt-complete (TREE_DEPTH - 2)) f.opens f.closes f.items t5 rest p.0 (omega (arith, p.1)) s5 in
+    let body = block-reads (stmt (TREE_DEPTH - 2)) (TREE_DEPTH - 2) (stmt-complete (TREE_DEPTH - 2)) f.opens f.closes f.items t5 rest p.0
+    (omega (arith, p.1)) s5 in
     rw (e1, result-kind f.result, e2, e3, params-complete f.params t3 t4 (rw e5 refl) a4, e5, body) refl)))))
 
-function-turn : (f : Function) (ts mid : List Token) → LowFunction f → ⊤ → Spelled (function_written f) ts mid → Turn is_more function function_height f ts mid
+function-turn : (f : Function) (ts mid : List Token) → LowFunction f → ⊤ → Spelled (function_written f) ts mid
+    → Turn is_more function function_height f ts mid
 function-turn f ts mid p q s = record { goes_on = at_word s (λ o us e a. rw e (result-more f.result)); reads = function-complete f ts mid p s }
 
 low-functions : (fs : List Function) → Each IsFunction fs → depth fs ≤ TREE_DEPTH → Each LowFunction fs
 low-functions [] a l = tt
 low-functions (f ∷ fs) a l = ((a.0, omega arith), low-functions fs a.1 (omega arith))
 
-functions-read : (p : Program) (ts : List Token) → AreSome p → Each IsFunction p → depth p ≤ TREE_DEPTH → Spelled (program_written p) ts [] → program ts ≡ Ok ((p, depth p), [])
+functions-read : (p : Program) (ts : List Token) → AreSome p → Each IsFunction p → depth p ≤ TREE_DEPTH → Spelled (program_written p) ts []
+    → program ts ≡ Ok ((p, depth p), [])
 unfolding program
 functions-read [] ts n a l s = absurd (omega arith)
 functions-read (f ∷ fs) ts n a l s =
     split (function_written f) s (λ mid b c.
     let low : Each LowFunction (f ∷ fs) = low-functions (f ∷ fs) a l in
-    let r = row is_more function function_height function_written LowFunction (λ kind. ⊤) function-turn (λ x us vs p q. tt) (λ x. omega arith) fs mid [] low.1 tt refl c in
+    let r = row is_more function function_height function_written LowFunction (λ kind. ⊤) function-turn (λ x us vs p q. tt)
+    (λ x. omega arith) fs mid [] low.1 tt refl c in
     let others = all-row is_more function function_height fs (f ∷ []) (function_height f) mid [] r in
     rw (function-complete f ts mid low.0 b, others) refl)
 

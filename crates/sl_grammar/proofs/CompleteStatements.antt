@@ -25,7 +25,8 @@ use Rattle.sl_grammar.proofs.CompleteSteps.{Spelled, split, at_word, plain_word,
 
 -- the words of a `for` behind its first part
 abbrev for_written : Option Cond → Option Effect → Stmt → List Written
-for_written c step x = v.mark m.Semicolon ∷ (option_written cond_written c ++ v.mark m.Semicolon ∷ (option_written effect_written step ++ v.mark m.RightParenthesis ∷ stmt_written x))
+for_written c step x = v.mark m.Semicolon ∷ (option_written cond_written c ++ v.mark m.Semicolon ∷
+    (option_written effect_written step ++ v.mark m.RightParenthesis ∷ stmt_written x))
 
 module _ (inner : Reader (Tall Stmt)) (room : ℕ) (i : ReadsStmts room inner) where
   condition-reads : {C : Type 0} (c : Cond) (xs : List Written) (ts rest : List Token) → IsCond c → cond_height c ≤ room → Spelled (tested c xs) ts rest
@@ -37,14 +38,16 @@ module _ (inner : Reader (Tall Stmt)) (room : ℕ) (i : ReadsStmts room inner) w
       plain_word d (λ o2 place2 vs e2 z.
       go vs (rw (e, cond-complete room c us mid g l (rw e2 parenthesis-ends) b, e2) refl) z)))
 
-  optional_cond-reads : (c : Option Cond) (ts rest : List Token) → IfThere IsCond c → option_height cond_height c ≤ room → kind_at rest ≡ k.Mark m.Semicolon → Spelled (option_written cond_written c) ts rest
+  optional_cond-reads : (c : Option Cond) (ts rest : List Token) → IfThere IsCond c → option_height cond_height c ≤ room
+      → kind_at rest ≡ k.Mark m.Semicolon → Spelled (option_written cond_written c) ts rest
       → optional_cond inner room ts ≡ Ok ((c, option_height cond_height c), rest)
   unfolding optional_cond
   optional_cond-reads None ts rest g l f s = let e : ts ≡ rest = s.spells in rw (e, f) refl
   optional_cond-reads (Some c) ts rest g l f s =
       rw (effect-not_semicolon (kind_at ts) (cond-begins c ts rest g s), cond-complete room c ts rest g l (rw f semicolon-ends) s) refl
 
-  optional_effect-reads : (e : Option Effect) (ts rest : List Token) → IfThere IsEffect e → option_height effect_height e ≤ room → kind_at rest ≡ k.Mark m.RightParenthesis
+  optional_effect-reads : (e : Option Effect) (ts rest : List Token) → IfThere IsEffect e → option_height effect_height e ≤ room
+      → kind_at rest ≡ k.Mark m.RightParenthesis
       → Spelled (option_written effect_written e) ts rest → optional_effect inner room ts ≡ Ok ((e, option_height effect_height e), rest)
   unfolding optional_effect
   optional_effect-reads None ts rest g l f s = let e : ts ≡ rest = s.spells in rw (e, f) refl
@@ -52,9 +55,17 @@ module _ (inner : Reader (Tall Stmt)) (room : ℕ) (i : ReadsStmts room inner) w
       rw (effect-not_parenthesis (kind_at ts) (effect-begins x ts rest g s), effect-complete room x ts rest g l (rw f parenthesis-ends) s) refl
 
   for_behind-reads : (place : Place) (first : Tall (Option First)) (c : Option Cond) (step : Option Effect) (x : Stmt) (ts rest : List Token)
-      → IfThere IsCond c → IfThere IsEffect step → IsStmt x → option_height cond_height c ≤ room → option_height effect_height step ≤ room → stmt_height x ≤ room
+      → IfThere IsCond c → IfThere IsEffect step → IsStmt x → option_height cond_height c ≤ room → option_height effect_height step ≤ room
+      → stmt_height x ≤ room
       → (ends_open x ≡ true → is_else (kind_at rest) ≡ false) → Spelled (for_written c step x) ts rest
-      → for_behind inner room place first ts ≡ Ok ((t.for place first.0 c step x, max first.1 (max (option_height cond_height c) (max (option_height effect_height step) (stmt_height x))) + 1), rest)
+      → for_behind inner room place first ts ≡ Ok (
+        (
+          t.for place first.0 c step x,
+          max first.1
+              (max (option_height cond_height c) (max (option_height effect_height step) (stmt_height x))) + 1,
+        ),
+        rest,
+      )
   unfolding for_behind mark
   for_behind-reads place first c step x ts rest g1 g2 g3 l1 l2 l3 open_end s =
       plain_word s (λ o1 p1 t1 e1 s1.
@@ -62,12 +73,21 @@ module _ (inner : Reader (Tall Stmt)) (room : ℕ) (i : ReadsStmts room inner) w
       plain_word s2 (λ o3 p3 t3 e3 s3.
       split (option_written effect_written step) s3 (λ t4 a4 s4.
       plain_word s4 (λ o5 p5 t5 e5 s5.
-      rw (e1, optional_cond-reads c t1 t2 g1 l1 (rw e3 refl) a2, e3, optional_effect-reads step t3 t4 g2 l2 (rw e5 refl) a4, e5, i.reads x t5 rest g3 l3 open_end s5) refl)))))
+      rw (
+        e1,
+        optional_cond-reads c t1 t2 g1 l1 (rw e3 refl) a2,
+        e3,
+        optional_effect-reads step t3 t4 g2 l2 (rw e5 refl) a4,
+        e5,
+        i.reads x t5 rest g3 l3 open_end s5,
+      ) refl)))))
 
   -- behind the variable that the head of a `for` declares
-  valued-reads : (place at : Place) (type : Option Scalar) (x : Identifier) (y : Expr) (xs : List Written) (result : Tall Stmt) (ts rest : List Token) → IsExpr y → height y < room
+  valued-reads : (place at : Place) (type : Option Scalar) (x : Identifier) (y : Expr) (xs : List Written) (result : Tall Stmt) (ts rest : List Token)
+      → IsExpr y → height y < room
       → Spelled (value_written y ++ v.mark m.Semicolon ∷ xs) ts rest
-      → ((us : List Token) → Spelled (v.mark m.Semicolon ∷ xs) us rest → for_behind inner room place (Some (first_of type at x y), height y + 1) us ≡ Ok (result, rest))
+      → ((us : List Token) → Spelled (v.mark m.Semicolon ∷ xs) us rest → for_behind inner room place
+      (Some (first_of type at x y), height y + 1) us ≡ Ok (result, rest))
       → variable_behind inner room place at type x ts ≡ Ok (result, rest)
   unfolding variable_behind valued_first mark
   valued-reads place at type x y xs result ts rest g l s go =
@@ -87,11 +107,13 @@ module _ (inner : Reader (Tall Stmt)) (room : ℕ) (i : ReadsStmts room inner) w
   first-reads place (Some (t.first_scalar at scalar y value)) c step x ts rest g0 g1 g2 g3 l open_end s =
       at_word s (λ o1 t1 e1 s1. at_word s1 (λ o2 t2 e2 s2.
       rw (e1, scalar-kind scalar, e2) (valued-reads place at (Some scalar) y value _ _ t2 rest g0 (omega arith) s2
-      (λ us d. for_behind-reads place (Some (t.first_scalar at scalar y value), height value + 1) c step x us rest g1 g2 g3 (omega arith) (omega arith) (omega arith) open_end d))))
+      (λ us d. for_behind-reads place (Some (t.first_scalar at scalar y value), height value + 1) c step x us rest g1 g2 g3 (omega arith)
+      (omega arith) (omega arith) open_end d))))
   first-reads place (Some (t.first_auto at y value)) c step x ts rest g0 g1 g2 g3 l open_end s =
       at_word s (λ o1 t1 e1 s1. at_word s1 (λ o2 t2 e2 s2.
       rw (e1, e2) (valued-reads place at None y value _ _ t2 rest g0 (omega arith) s2
-      (λ us d. for_behind-reads place (Some (t.first_auto at y value), height value + 1) c step x us rest g1 g2 g3 (omega arith) (omega arith) (omega arith) open_end d))))
+      (λ us d. for_behind-reads place (Some (t.first_auto at y value), height value + 1) c step x us rest g1 g2 g3 (omega arith) (omega arith)
+      (omega arith) open_end d))))
   first-reads place (Some (t.first_effect e)) c step x ts rest g0 g1 g2 g3 l open_end s =
       split (effect_written e) s (λ mid a b.
       let stop : kind_at mid ≡ k.Mark m.Semicolon = plain_word b (λ o2 place3 vs e2 z. rw e2 refl) in
@@ -107,7 +129,8 @@ module _ (inner : Reader (Tall Stmt)) (room : ℕ) (i : ReadsStmts room inner) w
       let e3 : us ≡ rest = z.spells in
       rw (does-kind inner room (kind_at ts) (effect-begins e ts mid g a), effect-complete room e ts mid g l (rw e2 semicolon-ends) a, e2, e3) refl))
 
-  body-reads : (x : Stmt) (ts rest : List Token) → IsStmt x → stmt_height x ≤ suc room → (ends_open x ≡ true → is_else (kind_at rest) ≡ false) → Spelled (stmt_written x) ts rest
+  body-reads : (x : Stmt) (ts rest : List Token) → IsStmt x → stmt_height x ≤ suc room → (ends_open x ≡ true → is_else (kind_at rest) ≡ false)
+      → Spelled (stmt_written x) ts rest
       → stmt_by inner room (kind_at ts) ts ≡ Ok ((x, stmt_height x), rest)
   unfolding choice otherwise loop for_loop declared_first range_behind variable_behind return_stmt word_stmt mark identifier
   body-reads (t.block opens items closes) ts rest g l f s =
@@ -124,7 +147,14 @@ module _ (inner : Reader (Tall Stmt)) (room : ℕ) (i : ReadsStmts room inner) w
       let room_left : 0 < room = omega (arith, stmt-height_some x) in
       split (stmt_written x) b (λ mid2 d z.
       plain_word z (λ o2 place2 vs e2 w2.
-      rw (e, lt-ltb 0 room room_left, h, i.reads x mid mid2 g.1 (omega arith) (λ is_open. absurd (false≢true (sym g.2 ∙ is_open))) d, e2, i.reads y vs rest g.3 (omega arith) f w2) refl))))
+      rw (
+        e,
+        lt-ltb 0 room room_left,
+        h,
+        i.reads x mid mid2 g.1 (omega arith) (λ is_open. absurd (false≢true (sym g.2 ∙ is_open))) d,
+        e2,
+        i.reads y vs rest g.3 (omega arith) f w2,
+      ) refl))))
   body-reads (t.while place c x) ts rest g l f s =
       at_word s (λ o us e a.
       condition-reads c (stmt_written x) us rest g.0 (omega arith) a (λ mid h b.
@@ -136,11 +166,13 @@ module _ (inner : Reader (Tall Stmt)) (room : ℕ) (i : ReadsStmts room inner) w
       let room_left : 0 < room = omega (arith, stmt-height_some x) in
       rw (e, lt-ltb 0 room room_left, e2) (first-reads place first c step x vs rest g.0 g.1 g.2 g.3 l f b)))
   body-reads (t.range_for place false x y body) ts rest g l f s =
-      at_word s (λ o1 t1 e1 s1. plain_word s1 (λ o2 p2 t2 e2 s2. plain_word s2 (λ o3 p3 t3 e3 s3. at_word s3 (λ o4 t4 e4 s4. plain_word s4 (λ o5 p5 t5 e5 s5. at_word s5 (λ o6 t6 e6 s6. plain_word s6 (λ o7 p7 t7 e7 s7.
+      at_word s (λ o1 t1 e1 s1. plain_word s1 (λ o2 p2 t2 e2 s2. plain_word s2 (λ o3 p3 t3 e3 s3.
+      at_word s3 (λ o4 t4 e4 s4. plain_word s4 (λ o5 p5 t5 e5 s5. at_word s5 (λ o6 t6 e6 s6. plain_word s6 (λ o7 p7 t7 e7 s7.
       let room_left : 0 < room = omega (arith, stmt-height_some body) in
       rw (e1, lt-ltb 0 room room_left, e2, e3, e4, e5, e6, e7, i.reads body t7 rest g (omega arith) f s7) refl)))))))
   body-reads (t.range_for place true x y body) ts rest g l f s =
-      at_word s (λ o1 t1 e1 s1. plain_word s1 (λ o2 p2 t2 e2 s2. plain_word s2 (λ o3 p3 t3 e3 s3. at_word s3 (λ o4 t4 e4 s4. plain_word s4 (λ o5 p5 t5 e5 s5. at_word s5 (λ o6 t6 e6 s6. plain_word s6 (λ o7 p7 t7 e7 s7.
+      at_word s (λ o1 t1 e1 s1. plain_word s1 (λ o2 p2 t2 e2 s2. plain_word s2 (λ o3 p3 t3 e3 s3.
+      at_word s3 (λ o4 t4 e4 s4. plain_word s4 (λ o5 p5 t5 e5 s5. at_word s5 (λ o6 t6 e6 s6. plain_word s6 (λ o7 p7 t7 e7 s7.
       let room_left : 0 < room = omega (arith, stmt-height_some body) in
       rw (e1, lt-ltb 0 room room_left, e2, e3, e4, e5, e6, e7, i.reads body t7 rest g (omega arith) f s7) refl)))))))
   body-reads (t.break place) ts rest g l f s =
@@ -154,7 +186,13 @@ module _ (inner : Reader (Tall Stmt)) (room : ℕ) (i : ReadsStmts room inner) w
       split (written x) a (λ mid b d.
       plain_word d (λ o2 p2 vs e2 z.
       let e3 : vs ≡ rest = z.spells in
-      rw (e, semicolon-close.begins (kind_at us) (expr-begins x us mid g b), (whole-complete (room + 1)).reads x us mid g (omega arith) (rw e2 semicolon-ends.ends) b, e2, e3) refl)))
+      rw (
+        e,
+        semicolon-close.begins (kind_at us) (expr-begins x us mid g b),
+        (whole-complete (room + 1)).reads x us mid g (omega arith) (rw e2 semicolon-ends.ends) b,
+        e2,
+        e3,
+      ) refl)))
   body-reads (t.does place e) ts rest g l f s =
       let h = from_word place (effect_written e ++ v.mark m.Semicolon ∷ []) (does-some e) s in
       let at : place ≡ here ts = h.1 in

@@ -20,20 +20,23 @@ pub record Spelled (xs : List Written) (ts rest : List Token) : Type 0 where
 pub spelled : {xs : List Written} {ts rest : List Token} → Spells xs ts rest → Spelled xs ts rest
 spelled h = record { spells = h }
 
-splits : {C : Type 0} (a b : List Written) (ts rest : List Token) → Spells (a ++ b) ts rest → ((mid : List Token) → Spelled a ts mid → Spelled b mid rest → C) → C
+splits : {C : Type 0} (a b : List Written) (ts rest : List Token) → Spells (a ++ b) ts rest
+    → ((mid : List Token) → Spelled a ts mid → Spelled b mid rest → C) → C
 splits [] b ts rest h go = go ts (record { spells = refl }) (record { spells = h })
 splits (x ∷ a) b [] rest h go = absurd h
 splits (x ∷ a) b (t ∷ ts) rest h go = splits a b ts rest h.1 (λ mid p q. go mid (record { spells = (h.0, p.spells) }) q)
 
 -- words behind words: between them some tokens are left
-pub split : {C : Type 0} (a : List Written) {b : List Written} {ts rest : List Token} → Spelled (a ++ b) ts rest → ((mid : List Token) → Spelled a ts mid → Spelled b mid rest → C) → C
+pub split : {C : Type 0} (a : List Written) {b : List Written} {ts rest : List Token} → Spelled (a ++ b) ts rest
+    → ((mid : List Token) → Spelled a ts mid → Spelled b mid rest → C) → C
 split a {b} {ts} {rest} h go = splits a b ts rest h.spells go
 
 at_words : {C : Type 0} (place : Place) (word : Word) (xs : List Written) (ts rest : List Token) → Spells (at place word ∷ xs) ts rest
     → ((offset : ℕ) (us : List Token) → ts ≡ token word offset place ∷ us → Spelled xs us rest → C) → C
 at_words place word xs [] rest h go = absurd h
 at_words place word xs (t ∷ us) rest h go =
-    go t.offset us (ap (λ (v : Word). token v t.offset t.place ∷ us) h.0.0 ∙ ap (λ (p : Place). token word t.offset p ∷ us) (sym h.0.1.0)) (record { spells = h.1 })
+    go t.offset us (ap (λ (v : Word). token v t.offset t.place ∷ us) h.0.0 ∙ ap (λ (p : Place). token word t.offset p ∷ us) (sym h.0.1.0))
+    (record { spells = h.1 })
 
 -- a word whose place is told
 pub at_word : {C : Type 0} {place : Place} {word : Word} {xs : List Written} {ts rest : List Token} → Spelled (at place word ∷ xs) ts rest
@@ -51,12 +54,14 @@ pub plain_word : {C : Type 0} {word : Word} {xs : List Written} {ts rest : List 
 plain_word {C} {word} {xs} {ts} {rest} h go = plain_words word xs ts rest h.spells go
 
 -- words the first of which has this place too
-from_words : (place : Place) (xs : List Written) (ts rest : List Token) → 1 ≤ length xs → Spells (from_place place xs) ts rest → Spelled xs ts rest × (place ≡ here ts)
+from_words : (place : Place) (xs : List Written) (ts rest : List Token) → 1 ≤ length xs → Spells (from_place place xs) ts rest
+    → Spelled xs ts rest × (place ≡ here ts)
 from_words place [] ts rest l h = absurd (omega arith)
 from_words place (x ∷ xs) [] rest l h = absurd h
 from_words place (x ∷ xs) (t ∷ ts) rest l h = (record { spells = ((h.0.0, h.0.1.1), h.1) }, h.0.1.0)
 
-pub from_word : (place : Place) (xs : List Written) {ts rest : List Token} → 1 ≤ length xs → Spelled (from_place place xs) ts rest → Spelled xs ts rest × (place ≡ here ts)
+pub from_word : (place : Place) (xs : List Written) {ts rest : List Token} → 1 ≤ length xs → Spelled (from_place place xs) ts rest
+    → Spelled xs ts rest × (place ≡ here ts)
 from_word place xs {ts} {rest} l h = from_words place xs ts rest l h.spells
 
 spells-length : (xs : List Written) (ts rest : List Token) → Spells xs ts rest → length ts ≡ length xs + length rest
@@ -78,11 +83,13 @@ max-zero n = omega arith
 max-assoc : (a b c : ℕ) → max (max a b) c ≡ max a (max b c)
 max-assoc a b c = omega arith
 
-done_alone : {A : Type 0} (h : A → ℕ) (done : List A) (top : ℕ) (rest : List Token) → ◌≡◌ {A = Outcome (Tall (List A))} (Ok ((done, top), rest)) (Ok ((done ++ [], max top 0), rest))
+done_alone : {A : Type 0} (h : A → ℕ) (done : List A) (top : ℕ) (rest : List Token)
+    → ◌≡◌ {A = Outcome (Tall (List A))} (Ok ((done, top), rest)) (Ok ((done ++ [], max top 0), rest))
 done_alone h done top rest = rw (append-nil, max-zero) refl
 
 done_more : {A : Type 0} (h : A → ℕ) (done : List A) (top : ℕ) (x : A) (xs : List A) (rest : List Token)
-    → ◌≡◌ {A = Outcome (Tall (List A))} (Ok (((done ++ x ∷ []) ++ xs, max (max top (h x)) (highest h xs)), rest)) (Ok ((done ++ x ∷ xs, max top (max (h x) (highest h xs))), rest))
+    → ◌≡◌ {A = Outcome (Tall (List A))} (Ok (((done ++ x ∷ []) ++ xs, max (max top (h x)) (highest h xs)), rest))
+    (Ok ((done ++ x ∷ xs, max top (max (h x) (highest h xs))), rest))
 done_more h done top x xs rest = rw (append_assoc, max-assoc) refl
 
 module _ {A : Type 0} (goes : Kind → Bool) (item : Reader (Tall A)) (h : A → ℕ) where
@@ -116,7 +123,8 @@ module _ {A : Type 0} (goes : Kind → Bool) (item : Reader (Tall A)) (h : A →
     fits [] ts rest p f s = subst (λ (v : List Token). Fits (kind_at v)) (sym s.spells) f
     fits (x ∷ xs) ts rest p f s = split (w x) s (λ mid a b. first x ts mid p.0 a)
 
-    pub row : (xs : List A) (ts rest : List Token) → Each P xs → Fits (kind_at rest) → goes (kind_at rest) ≡ false → Spelled (flat_map w xs) ts rest → Row xs ts rest
+    pub row : (xs : List A) (ts rest : List Token) → Each P xs → Fits (kind_at rest) → goes (kind_at rest) ≡ false
+        → Spelled (flat_map w xs) ts rest → Row xs ts rest
     row [] ts rest p f e s = (s.spells, e)
     row (x ∷ xs) ts rest p f e s =
         split (w x) s
