@@ -1,0 +1,191 @@
+-- Which words begin effects, statements and items, and what is read where one of them stands.
+use Rattle.std.proofs.Common.{◌≡◌, ℕ, ◌-◌, ◌≤◌, Bool, true, false, List, [], ◌∷◌, ◌++◌, length, None, Some, refl, arith, length-append}
+use Rattle.std.specs.Prelude.{nat_lt}
+use Rattle.std.proofs.lemmas.Bool.{false≢true}
+use Rattle.sl_base.specs.declared.mark.Mark.TheVariants as m
+use Rattle.sl_base.specs.declared.place.Place.{Place}
+use Rattle.sl_base.specs.declared.token.Token.{Token}
+use Rattle.sl_syntax.specs.declared.kind.Kind.{Kind}
+use Rattle.sl_syntax.specs.declared.kind.Kind.TheVariants as k
+use Rattle.sl_syntax.specs.Depth.{declaration_height, stmt_height}
+use Rattle.sl_syntax.specs.Shaped.{IsCond, IsStmt, IsItem}
+use Rattle.sl_syntax.specs.Tree as t
+use Rattle.sl_syntax.specs.Tree.{Cond, Declaration, Stmt, Item}
+use Rattle.sl_syntax.specs.Written.{Written, written, cond_written, declaration_written, container_written, effect_written, stmt_written, item_written, from_place}
+use Rattle.sl_syntax.specs.Written as v
+use Rattle.sl_grammar.specs.Effects.{effect}
+use Rattle.sl_grammar.specs.Statements.{is_else, is_item, declared, item_by, for_behind, for_by, effect_stmt, stmt_by}
+use Rattle.sl_grammar.specs.Steps.{Reader, Tall, ◌>>=◌, pure, only, kind_at, is_mark}
+use Rattle.sl_grammar.proofs.CompleteDeclarations.{reader_of, type-kind}
+use Rattle.sl_grammar.proofs.CompleteEffects.{EndsEffect, begins_effect, begins-effect, effect-begins, effect-some}
+use Rattle.sl_grammar.proofs.CompleteKinds.{expr-begins, scalar-kind}
+use Rattle.sl_grammar.proofs.CompleteSteps.{Spelled, split, at_word, from_word}
+
+pub semicolon-ends : EndsEffect (k.Mark m.Semicolon)
+semicolon-ends = record { ends = record { stops = omega arith; not_call = refl }; no_read = refl; no_print = refl; no_assignment = λ room. refl }
+
+pub parenthesis-ends : EndsEffect (k.Mark m.RightParenthesis)
+parenthesis-ends = record { ends = record { stops = omega arith; not_call = refl }; no_read = refl; no_print = refl; no_assignment = λ room. refl }
+
+pub effect-not_semicolon : (kind : Kind) → begins_effect kind ≡ true → is_mark m.Semicolon kind ≡ false
+effect-not_semicolon (k.Mark m.Semicolon) h = absurd (false≢true h)
+effect-not_semicolon (k.Mark _) h = refl
+effect-not_semicolon _ h = refl
+
+pub effect-not_parenthesis : (kind : Kind) → begins_effect kind ≡ true → is_mark m.RightParenthesis kind ≡ false
+effect-not_parenthesis (k.Mark m.RightParenthesis) h = absurd (false≢true h)
+effect-not_parenthesis (k.Mark _) h = refl
+effect-not_parenthesis _ h = refl
+
+pub cond-begins : (c : Cond) (ts rest : List Token) → IsCond c → Spelled (cond_written c) ts rest → begins_effect (kind_at ts) ≡ true
+cond-begins (t.tests_read r) ts rest g s = at_word s (λ o us e a. rw e refl)
+cond-begins (t.tests_no_read place r) ts rest g s = at_word s (λ o us e a. rw e refl)
+cond-begins (t.tests x) ts rest g s = begins-effect (kind_at ts) (expr-begins x ts rest g s)
+
+-- the word begins a statement
+abbrev pub begins_stmt : Kind → Bool
+begins_stmt (k.Mark m.LeftBrace) = true
+begins_stmt k.If = true
+begins_stmt k.While = true
+begins_stmt k.For = true
+begins_stmt k.Break = true
+begins_stmt k.Continue = true
+begins_stmt k.Return = true
+begins_stmt kind = begins_effect kind
+
+begins-stmt : (kind : Kind) → begins_effect kind ≡ true → begins_stmt kind ≡ true
+begins-stmt (k.Mark m.LeftBrace) h = refl
+begins-stmt (k.Mark _) h = h
+begins-stmt k.If h = refl
+begins-stmt k.While h = refl
+begins-stmt k.For h = refl
+begins-stmt k.Break h = refl
+begins-stmt k.Continue h = refl
+begins-stmt k.Return h = refl
+begins-stmt _ h = h
+
+pub does-some : (e : _) → 1 ≤ length (effect_written e ++ v.mark m.Semicolon ∷ [])
+does-some e = rw length-append (omega (arith, effect-some e))
+
+pub stmt-begins : (x : Stmt) (ts rest : List Token) → IsStmt x → Spelled (stmt_written x) ts rest → begins_stmt (kind_at ts) ≡ true
+stmt-begins (t.block opens items closes) ts rest g s = at_word s (λ o us e a. rw e refl)
+stmt-begins (t.choice place c x) ts rest g s = at_word s (λ o us e a. rw e refl)
+stmt-begins (t.choice_else place c x y) ts rest g s = at_word s (λ o us e a. rw e refl)
+stmt-begins (t.while place c x) ts rest g s = at_word s (λ o us e a. rw e refl)
+stmt-begins (t.for place first c step x) ts rest g s = at_word s (λ o us e a. rw e refl)
+stmt-begins (t.range_for place auto x y body) ts rest g s = at_word s (λ o us e a. rw e refl)
+stmt-begins (t.break place) ts rest g s = at_word s (λ o us e a. rw e refl)
+stmt-begins (t.continue place) ts rest g s = at_word s (λ o us e a. rw e refl)
+stmt-begins (t.gives_back place x) ts rest g s = at_word s (λ o us e a. rw e refl)
+stmt-begins (t.does place e) ts rest g s =
+    split (effect_written e) (from_word place (effect_written e ++ v.mark m.Semicolon ∷ []) (does-some e) s).0
+    (λ mid a b. begins-stmt (kind_at ts) (effect-begins e ts mid g a))
+
+-- the word begins an item
+abbrev pub begins_item : Kind → Bool
+begins_item (k.Scalar s) = true
+begins_item k.Auto = true
+begins_item (k.Container f) = true
+begins_item kind = begins_stmt kind
+
+begins-item : (kind : Kind) → begins_stmt kind ≡ true → begins_item kind ≡ true
+begins-item (k.Scalar s) h = refl
+begins-item k.Auto h = refl
+begins-item (k.Container f) h = refl
+begins-item _ h = h
+
+declaration-begins : (d : Declaration) (ts rest : List Token) → Spelled (declaration_written d) ts rest → begins_item (kind_at ts) ≡ true
+declaration-begins (t.declares_scalar place s x None) ts rest h = at_word h (λ o us e a. rw (e, scalar-kind s) refl)
+declaration-begins (t.declares_scalar place s x (Some y)) ts rest h = at_word h (λ o us e a. rw (e, scalar-kind s) refl)
+declaration-begins (t.declares_auto place x y) ts rest h = at_word h (λ o us e a. rw e refl)
+declaration-begins (t.declares_container c x i) ts rest h = split (container_written c) h (λ mid a b. rw (type-kind c ts mid a) refl)
+
+pub item-begins : (x : Item) (ts rest : List Token) → IsItem x → Spelled (item_written x) ts rest → begins_item (kind_at ts) ≡ true
+item-begins (t.declares d) ts rest g s = split (declaration_written d) s (λ mid a b. declaration-begins d ts mid a)
+item-begins (t.states x) ts rest g s = begins-item (kind_at ts) (stmt-begins x ts rest g s)
+
+pub item-not_else : (kind : Kind) → begins_item kind ≡ true → is_else kind ≡ false
+item-not_else k.Else h = absurd (false≢true h)
+item-not_else _ h = refl
+
+pub item-goes_on : (kind : Kind) → begins_item kind ≡ true → is_item kind ≡ true
+item-goes_on (k.Mark m.RightBrace) h = absurd (false≢true h)
+item-goes_on (k.Mark _) h = refl
+item-goes_on _ h = refl
+
+pub declaration-height_some : (d : Declaration) → 1 ≤ declaration_height d
+declaration-height_some (t.declares_scalar place s x y) = omega arith
+declaration-height_some (t.declares_auto place x y) = omega arith
+declaration-height_some (t.declares_container c x i) = omega arith
+
+pub stmt-height_some : (x : Stmt) → 1 ≤ stmt_height x
+stmt-height_some (t.block opens items closes) = omega arith
+stmt-height_some (t.choice place c x) = omega arith
+stmt-height_some (t.choice_else place c x y) = omega arith
+stmt-height_some (t.while place c x) = omega arith
+stmt-height_some (t.for place first c step x) = omega arith
+stmt-height_some (t.range_for place auto x y body) = omega arith
+stmt-height_some (t.break place) = omega arith
+stmt-height_some (t.continue place) = omega arith
+stmt-height_some (t.gives_back place x) = omega arith
+stmt-height_some (t.does place e) = omega arith
+
+-- an item has a word at least
+from-length : (place : Place) (xs : List Written) → length (from_place place xs) ≡ length xs
+from-length place [] = refl
+from-length place (x ∷ xs) = refl
+
+stmt-some : (x : Stmt) → 1 ≤ length (stmt_written x)
+stmt-some (t.block opens items closes) = omega arith
+stmt-some (t.choice place c x) = omega arith
+stmt-some (t.choice_else place c x y) = omega arith
+stmt-some (t.while place c x) = omega arith
+stmt-some (t.for place first c step x) = omega arith
+stmt-some (t.range_for place auto x y body) = omega arith
+stmt-some (t.break place) = omega arith
+stmt-some (t.continue place) = omega arith
+stmt-some (t.gives_back place x) = omega arith
+stmt-some (t.does place e) = omega (arith, from-length place (effect_written e ++ v.mark m.Semicolon ∷ []), does-some e)
+
+declaration-some : (d : Declaration) → 1 ≤ length (declaration_written d)
+declaration-some (t.declares_scalar place s x None) = omega arith
+declaration-some (t.declares_scalar place s x (Some y)) = omega arith
+declaration-some (t.declares_auto place x y) = omega arith
+declaration-some (t.declares_container c x i) = omega arith
+
+pub item-some : (x : Item) → 1 ≤ length (item_written x)
+item-some (t.declares d) = rw length-append (omega (arith, declaration-some d))
+item-some (t.states x) = stmt-some x
+
+module _ (inner : Reader (Tall Stmt)) (room : ℕ) where
+  pub declared-kind : (d : Declaration) (ts rest : List Token) → Spelled (declaration_written d) ts rest
+      → item_by room inner (kind_at ts) ≡ only (nat_lt 1 room) (declared room (reader_of (room - 2) d))
+  declared-kind (t.declares_scalar place s x None) ts rest h = at_word h (λ o us e a. rw (e, scalar-kind s) refl)
+  declared-kind (t.declares_scalar place s x (Some y)) ts rest h = at_word h (λ o us e a. rw (e, scalar-kind s) refl)
+  declared-kind (t.declares_auto place x y) ts rest h = at_word h (λ o us e a. rw e refl)
+  declared-kind (t.declares_container c x i) ts rest h = split (container_written c) h (λ mid a b. rw (type-kind c ts mid a) refl)
+
+  pub stated-kind : (kind : Kind) → begins_stmt kind ≡ true → item_by room inner kind ≡ (inner >>= (λ s. pure (t.states s.0, s.1)))
+  stated-kind (k.Scalar s) h = absurd (false≢true h)
+  stated-kind k.Auto h = absurd (false≢true h)
+  stated-kind (k.Container f) h = absurd (false≢true h)
+  stated-kind _ h = refl
+
+  pub for-kind : (place : Place) (kind : Kind) → begins_effect kind ≡ true
+      → for_by inner room place kind ≡ (effect room >>= (λ e. for_behind inner room place (Some (t.first_effect e.0), e.1)))
+  for-kind place (k.Scalar s) h = absurd (false≢true h)
+  for-kind place k.Auto h = absurd (false≢true h)
+  for-kind place (k.Mark m.Semicolon) h = absurd (false≢true h)
+  for-kind place (k.Mark _) h = refl
+  for-kind place _ h = refl
+
+  pub does-kind : (kind : Kind) → begins_effect kind ≡ true → stmt_by inner room kind ≡ effect_stmt inner room
+  does-kind (k.Mark m.LeftBrace) h = absurd (false≢true h)
+  does-kind (k.Mark _) h = refl
+  does-kind k.If h = absurd (false≢true h)
+  does-kind k.While h = absurd (false≢true h)
+  does-kind k.For h = absurd (false≢true h)
+  does-kind k.Break h = absurd (false≢true h)
+  does-kind k.Continue h = absurd (false≢true h)
+  does-kind k.Return h = absurd (false≢true h)
+  does-kind _ h = refl

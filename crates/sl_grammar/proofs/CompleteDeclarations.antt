@@ -1,0 +1,158 @@
+-- The words of a declaration or a parameter are read as it is.
+use Rattle.std.proofs.Common.{◌≡◌, ℕ, ◌+◌, ◌≤◌, Bool, true, false, List, [], ◌∷◌, ◌++◌, Some, None, Ok, refl, arith}
+use Rattle.std.specs.Prelude.{⊤}
+use Rattle.std.proofs.lemmas.Bool.{lt-ltb}
+use Rattle.sl_base.specs.declared.mark.Mark.TheVariants as m
+use Rattle.sl_base.specs.declared.token.Token.{Token}
+use Rattle.sl_syntax.specs.declared.kind.Kind.TheVariants as k
+use Rattle.sl_syntax.specs.declared.tree.declaration.ContainerType.{ContainerType}
+use Rattle.sl_syntax.specs.declared.tree.function.Param.{Param}
+use Rattle.sl_syntax.specs.declared.tree.function.Param.TheVariants as r
+use Rattle.sl_syntax.specs.Depth.{list_height, highest, initializer_height, declaration_height, param_height}
+use Rattle.sl_syntax.specs.Shaped.{AreExprs, Each, IsInitializer, IsDeclaration}
+use Rattle.sl_syntax.specs.Tree as t
+use Rattle.sl_syntax.specs.Tree.{Expr, Exprs, Initializer, Declaration}
+use Rattle.sl_syntax.specs.Written.{Written, is_map, list_written, elements_written, container_written, initializer_written, declaration_written, param_written, params_written}
+use Rattle.sl_syntax.specs.Written as v
+use Rattle.sl_grammar.specs.Declarations.{int, elements_by, container_type, optional_value, scalar_declaration, auto_declaration, braces, constructed, initializer, container_declaration, scalar_param, container_param, const_param, param, comma_param, params}
+use Rattle.sl_grammar.specs.Expressions.{expr}
+use Rattle.sl_grammar.specs.Steps.{Reader, Tall, kind_at, is_mark, mark, identifier}
+use Rattle.sl_grammar.proofs.CompleteExpressions.{whole-complete}
+use Rattle.sl_grammar.proofs.CompleteKinds.{scalar-kind, form-kind}
+use Rattle.sl_grammar.proofs.CompleteLists.{brace-close, list-reads, list_before-reads}
+use Rattle.sl_grammar.proofs.CompleteSteps.{Spelled, split, at_word, plain_word, Turn, row, all-row}
+
+elements-read : (b : Bool) (ts rest : List Token) → Spelled (elements_written b) ts rest → elements_by b ts ≡ Ok (tt, rest)
+unfolding int mark
+elements-read false ts rest s =
+    plain_word s (λ o1 p1 t1 e1 s1. plain_word s1 (λ o2 p2 t2 e2 s2. plain_word s2 (λ o3 p3 t3 e3 s3.
+    let e : t3 ≡ rest = s3.spells in
+    rw (e1, e2, e3, e) refl)))
+elements-read true ts rest s =
+    plain_word s (λ o1 p1 t1 e1 s1. plain_word s1 (λ o2 p2 t2 e2 s2. plain_word s2 (λ o3 p3 t3 e3 s3.
+    plain_word s3 (λ o4 p4 t4 e4 s4. plain_word s4 (λ o5 p5 t5 e5 s5.
+    let e : t5 ≡ rest = s5.spells in
+    rw (e1, e2, e3, e4, e5, e) refl)))))
+
+type-reads : (c : ContainerType) (ts rest : List Token) → Spelled (container_written c) ts rest → container_type c.form ts ≡ Ok (c, rest)
+unfolding container_type
+type-reads c ts rest s = at_word s (λ o us e a. rw (e, elements-read (is_map c.form) us rest a) refl)
+
+pub type-kind : (c : ContainerType) (ts rest : List Token) → Spelled (container_written c) ts rest → kind_at ts ≡ k.Container c.form
+type-kind c ts rest s = at_word s (λ o us e a. rw e (form-kind c.form))
+
+-- the reader of this declaration
+abbrev pub reader_of : ℕ → Declaration → Reader (Tall Declaration)
+reader_of room (t.declares_scalar place s x v) = scalar_declaration room s
+reader_of room (t.declares_auto place x v) = auto_declaration room
+reader_of room (t.declares_container c x i) = container_declaration room c.form
+
+module _ (room : ℕ) where
+  braces-read : (equal : Bool) (xs : Exprs) (ts rest : List Token) → AreExprs xs → list_height xs ≤ room
+      → Spelled (list_written xs ++ v.mark m.RightBrace ∷ []) ts rest
+      → braces room equal ts ≡ Ok ((t.braces equal xs, list_height xs), rest)
+  unfolding braces mark
+  braces-read equal xs ts rest a l s =
+      split (list_written xs) s (λ mid b c.
+      plain_word c (λ o place us e d.
+      let e2 : us ≡ rest = d.spells in
+      let list = list_before-reads (expr (room + 1) 1) (expr room 1) room (room + 1) (whole-complete (room + 1)) (whole-complete room)
+      (omega arith) m.RightBrace xs ts mid brace-close a l
+      (rw e (record { is = refl; ends = record { stops = omega arith; not_call = refl }; no_comma = refl })) b in
+      rw (list, e, e2) refl))
+
+  initializer-reads : (i : Initializer) (ts rest : List Token) → IsInitializer i → initializer_height i ≤ room → kind_at rest ≡ k.Mark m.Semicolon
+      → Spelled (initializer_written i) ts rest
+      → initializer room ts ≡ Ok ((i, initializer_height i), rest)
+  unfolding initializer constructed mark identifier
+  initializer-reads t.absent ts rest g l f s = let e : ts ≡ rest = s.spells in rw (e, f) refl
+  initializer-reads (t.copies x) ts rest g l f s =
+      plain_word s (λ o1 p1 t1 e1 s1. at_word s1 (λ o2 t2 e2 s2.
+      let e : t2 ≡ rest = s2.spells in
+      rw (e1, e2, e) refl))
+  initializer-reads (t.braces true xs) ts rest g l f s =
+      plain_word s (λ o1 p1 t1 e1 s1. plain_word s1 (λ o2 p2 t2 e2 s2. rw (e1, e2) (braces-read true xs t2 rest g l s2)))
+  initializer-reads (t.braces false xs) ts rest g l f s = plain_word s (λ o1 p1 t1 e1 s1. rw e1 (braces-read false xs t1 rest g l s1))
+  initializer-reads (t.arguments t.none) ts rest g l f s = absurd g.0
+  initializer-reads (t.arguments (t.with x xs)) ts rest g l f s =
+      plain_word s (λ o1 p1 t1 e1 s1.
+      split (list_written (t.with x xs)) s1 (λ mid a b.
+      plain_word b (λ o2 p2 t2 e2 s2.
+      let e : t2 ≡ rest = s2.spells in
+      let inside = list-reads (expr (room + 1) 1) (expr room 1) room (room + 1) (whole-complete (room + 1)) (whole-complete room) (omega arith) x xs t1 mid g.1 l
+      (rw e2 (record { stops = omega arith; not_call = refl })) (rw e2 refl) a in
+      rw (e1, inside, e2, e) refl)))
+
+  -- The words of a declaration, before a `;`, are read as that declaration.
+  pub declaration-complete : (d : Declaration) (ts rest : List Token) → IsDeclaration d → declaration_height d ≤ room + 1
+      → kind_at rest ≡ k.Mark m.Semicolon → Spelled (declaration_written d) ts rest
+      → reader_of room d ts ≡ Ok ((d, declaration_height d), rest)
+  unfolding scalar_declaration auto_declaration container_declaration optional_value mark identifier
+  declaration-complete (t.declares_scalar place s x None) ts rest g l f h =
+      at_word h (λ o1 t1 e1 s1. at_word s1 (λ o2 t2 e2 s2.
+      let e : t2 ≡ rest = s2.spells in
+      rw (e1, e2, e, f) refl))
+  declaration-complete (t.declares_scalar place s x (Some value)) ts rest g l f h =
+      at_word h (λ o1 t1 e1 s1. at_word s1 (λ o2 t2 e2 s2. plain_word s2 (λ o3 p3 t3 e3 s3.
+      rw (e1, e2, e3, (whole-complete (room + 1)).reads value t3 rest g (omega arith) (rw f (record { stops = omega arith; not_call = refl })) s3) refl)))
+  declaration-complete (t.declares_auto place x value) ts rest g l f h =
+      at_word h (λ o1 t1 e1 s1. at_word s1 (λ o2 t2 e2 s2. plain_word s2 (λ o3 p3 t3 e3 s3.
+      rw (e1, e2, e3, (whole-complete (room + 1)).reads value t3 rest g (omega arith) (rw f (record { stops = omega arith; not_call = refl })) s3) refl)))
+  declaration-complete (t.declares_container c x i) ts rest g l f h =
+      split (container_written c) h (λ mid a b.
+      at_word b (λ o us e d.
+      rw (lt-ltb 0 room (omega arith), type-reads c ts mid a, e, initializer-reads i us rest g (omega arith) f d) refl))
+
+param-reads : (x : Param) (ts rest : List Token) → Spelled (param_written x) ts rest → param ts ≡ Ok ((x, param_height x), rest)
+unfolding param scalar_param container_param const_param mark identifier
+param-reads (r.Value place s x) ts rest h =
+    at_word h (λ o1 t1 e1 s1. at_word s1 (λ o2 t2 e2 s2.
+    let e : t2 ≡ rest = s2.spells in
+    rw (e1, scalar-kind s, e2, e) refl))
+param-reads (r.Reference place s x) ts rest h =
+    at_word h (λ o1 t1 e1 s1. plain_word s1 (λ o2 p2 t2 e2 s2. at_word s2 (λ o3 t3 e3 s3.
+    let e : t3 ≡ rest = s3.spells in
+    rw (e1, scalar-kind s, e2, e3, e) refl)))
+param-reads (r.Container c x) ts rest h =
+    split (container_written c) h (λ mid a b.
+    plain_word b (λ o2 p2 t2 e2 s2. at_word s2 (λ o3 t3 e3 s3.
+    let e : t3 ≡ rest = s3.spells in
+    rw (type-kind c ts mid a, type-reads c ts mid a, e2, e3, e) refl)))
+param-reads (r.ConstContainer place c x) ts rest h =
+    at_word h (λ o1 t1 e1 s1.
+    split (container_written c) s1 (λ mid a b.
+    plain_word b (λ o2 p2 t2 e2 s2. at_word s2 (λ o3 t3 e3 s3.
+    let e : t3 ≡ rest = s3.spells in
+    rw (e1, type-kind c t1 mid a, type-reads c t1 mid a, e2, e3, e) refl))))
+
+param-begins : (x : Param) (ts rest : List Token) → Spelled (param_written x) ts rest → is_mark m.RightParenthesis (kind_at ts) ≡ false
+param-begins (r.Value place s x) ts rest h = at_word h (λ o1 t1 e1 s1. rw (e1, scalar-kind s) refl)
+param-begins (r.Reference place s x) ts rest h = at_word h (λ o1 t1 e1 s1. rw (e1, scalar-kind s) refl)
+param-begins (r.Container c x) ts rest h = split (container_written c) h (λ mid a b. rw (type-kind c ts mid a) refl)
+param-begins (r.ConstContainer place c x) ts rest h = at_word h (λ o1 t1 e1 s1. rw e1 refl)
+
+abbrev behind_comma : Param → List Written
+behind_comma x = v.mark m.Comma ∷ param_written x
+
+abbrev Any : Param → Type 0
+Any x = ⊤
+
+each-any : (xs : List Param) → Each Any xs
+each-any [] = tt
+each-any (x ∷ xs) = (tt, each-any xs)
+
+param-turn : (x : Param) (ts mid : List Token) → Any x → ⊤ → Spelled (behind_comma x) ts mid → Turn (is_mark m.Comma) comma_param param_height x ts mid
+unfolding mark
+param-turn x ts mid p f s = plain_word s (λ o place us e a. record { goes_on = rw e refl; reads = rw (e, param-reads x us mid a) refl })
+
+-- The words of parameters, before a `)`, are read as those parameters.
+pub params-complete : (xs : List Param) (ts rest : List Token) → kind_at rest ≡ k.Mark m.RightParenthesis → Spelled (params_written xs) ts rest
+    → params ts ≡ Ok ((xs, highest param_height xs), rest)
+unfolding params
+params-complete [] ts rest f s = let e : ts ≡ rest = s.spells in rw (e, f) refl
+params-complete (x ∷ xs) ts rest f s =
+    split (param_written x) s (λ mid a b.
+    let r = row (is_mark m.Comma) comma_param param_height behind_comma Any (λ kind. ⊤) param-turn (λ y us vs p q. tt) (λ y. omega arith) xs mid rest
+    (each-any xs) tt (rw f refl) b in
+    let others = all-row (is_mark m.Comma) comma_param param_height xs (x ∷ []) (param_height x) mid rest r in
+    rw (param-begins x ts mid a, param-reads x ts mid a, others) refl)
