@@ -1,1 +1,6 @@
 mod Examples
+pub mod NearSteps
+pub mod NearExpressions
+pub mod NearDeclarations
+pub mod NearEffects
+pub mod NearStatements
