@@ -17,7 +17,7 @@ use Rattle.sl_grammar.specs.Effects.{shifted_name, read, out_by, shifted_out, pr
 use Rattle.sl_grammar.specs.Expressions.{expr}
 use Rattle.sl_grammar.specs.Steps.{Reader, Tall, and_then, ◌>>=◌, ◌>>◌, pure, is_mark, mark}
 use Rattle.sl_grammar.proofs.NearExpressions.{expr-near, expr-behind-not, expr-behind-parenthesis}
-use Rattle.sl_grammar.proofs.NearSteps.{left_over, left-within, bind-left, Same, step, end, cut, Agree, past, Near, Level, plain, tall, yields, loose, skipped, choose, under, mark-near, identifier-near, repeat-near}
+use Rattle.sl_grammar.proofs.NearSteps.{left_over, left-within, bind-left, Same, step, end, cut, Agree, past, Twins, Level, plain, tall, yields, loose, skipped, chosen, under, mark-near, identifier-near, repeat-near}
 
 abbrev tests : Tall Expr → Reader (Tall Cond)
 tests x = pure (t.tests x.0, x.1)
@@ -39,61 +39,61 @@ module _ (room : ℕ) where
   tested_by no_read_begins = λ s. if no_read_begins then no_read room s else tested s
 
 module _ {b : ℕ} where
-  shifted_name-near : (s s' : List Token) → Near b 1 Level s s' (shifted_name s) (shifted_name s')
+  shifted_name-near : Twins b 1 Level shifted_name shifted_name
   unfolding shifted_name
   shifted_name-near s s' = plain (mark-near m.ShiftRight s s') (λ _ _ s s'. plain (identifier-near s s') (λ _ _ _ _. yields refl))
 
-  read-near : (room : ℕ) (s s' : List Token) → Near b 1 Level s s' (read room s) (read room s')
+  read-near : (room : ℕ) → Twins b 1 Level (read room) (read room)
   unfolding read
   read-near room s s' = under (nat_lt 0 room) (skipped (tall _ _ (shifted_name-near _ _)
       (λ x y _ s s'. tall _ _ (repeat-near (is_mark m.ShiftRight) shifted_name shifted_name-near (x ∷ []) (y ∷ []) 0 s s') (λ _ _ _ _ _. yields refl))))
 
   module _ (room : ℕ) where
-    out_by-near : (s s' : List Token) (kind : Kind) → Near b 0 Level s s' (out_by room kind s) (out_by room kind s')
-    out_by-near s s' k.Text = skipped (yields refl)
-    out_by-near s s' k.EndLine = skipped (yields refl)
-    out_by-near s s' _ = loose (tall _ _ (expr-near room 5 s s') (λ _ _ _ _ _. yields refl))
+    out_by-near : (kind : Kind) → Twins b 0 Level (out_by room kind) (out_by room kind)
+    out_by-near k.Text s s' = skipped (yields refl)
+    out_by-near k.EndLine s s' = skipped (yields refl)
+    out_by-near _ s s' = loose (tall _ _ (expr-near room 5 s s') (λ _ _ _ _ _. yields refl))
 
-    shifted_out-near : (s s' : List Token) → Near b 1 Level s s' (shifted_out room s) (shifted_out room s')
+    shifted_out-near : Twins b 1 Level (shifted_out room) (shifted_out room)
     unfolding shifted_out
-    shifted_out-near s s' = plain (mark-near m.ShiftLeft s s') (λ _ _ u u'. choose (λ v. out_by room v u) (λ v. out_by room v u') (out_by-near u u'))
+    shifted_out-near s s' = plain (mark-near m.ShiftLeft s s') (λ _ _ u u'. chosen (out_by room) (out_by room) out_by-near u u')
 
-    print-near : (s s' : List Token) → Near b 1 Level s s' (print room s) (print room s')
+    print-near : Twins b 1 Level (print room) (print room)
     unfolding print
     print-near s s' = under (nat_lt 0 room) (skipped (tall _ _ (shifted_out-near _ _)
         (λ x y z s s'. tall _ _ (repeat-near (is_mark m.ShiftLeft) (shifted_out room) shifted_out-near (x ∷ []) (y ∷ []) z s s') (λ _ _ _ _ _. yields refl))))
 
-    assigned_by-near : (x y : Expr) (z : ℕ) (s s' : List Token) (op : Option Assignment) → Near b 0 Level s s' (assigned_by room (x, z) op s) (assigned_by room (y, z) op s')
-    assigned_by-near x y z s s' (Some op) = under (nat_lt z room) (skipped (loose (tall _ _ (expr-near room 1 _ _) (λ _ _ _ _ _. yields refl))))
-    assigned_by-near x y z s s' None = yields refl
+    assigned_by-near : (x y : Expr) (z : ℕ) (op : Option Assignment) → Twins b 0 Level (assigned_by room (x, z) op) (assigned_by room (y, z) op)
+    assigned_by-near x y z (Some op) s s' = under (nat_lt z room) (skipped (loose (tall _ _ (expr-near room 1 _ _) (λ _ _ _ _ _. yields refl))))
+    assigned_by-near x y z None s s' = yields refl
 
-    assigned-near : (x y : Expr) (z : ℕ) (s s' : List Token) → Near b 0 Level s s' (assigned room (x, z) s) (assigned room (y, z) s')
+    assigned-near : (x y : Expr) (z : ℕ) → Twins b 0 Level (assigned room (x, z)) (assigned room (y, z))
     unfolding assigned
-    assigned-near x y z s s' = choose (λ v. assigned_by room (x, z) (assignment_of room v) s) (λ v. assigned_by room (y, z) (assignment_of room v) s') (λ v. assigned_by-near x y z s s' (assignment_of room v))
+    assigned-near x y z s s' = chosen (λ v. assigned_by room (x, z) (assignment_of room v)) (λ v. assigned_by room (y, z) (assignment_of room v)) (λ v. assigned_by-near x y z (assignment_of room v)) s s'
 
-    effect_by-near : (s s' : List Token) (kind : Kind) → Near b 1 Level s s' (effect_by room kind s) (effect_by room kind s')
-    effect_by-near s s' k.Input = tall _ _ (read-near room s s') (λ _ _ _ _ _. yields refl)
-    effect_by-near s s' k.Output = print-near s s'
-    effect_by-near s s' _ = tall _ _ (expr-near (room + 1) 1 s s') assigned-near
+    effect_by-near : (kind : Kind) → Twins b 1 Level (effect_by room kind) (effect_by room kind)
+    effect_by-near k.Input s s' = tall _ _ (read-near room s s') (λ _ _ _ _ _. yields refl)
+    effect_by-near k.Output s s' = print-near s s'
+    effect_by-near _ s s' = tall _ _ (expr-near (room + 1) 1 s s') assigned-near
 
-    pub effect-near : (s s' : List Token) → Near b 1 Level s s' (effect room s) (effect room s')
+    pub effect-near : Twins b 1 Level (effect room) (effect room)
     unfolding effect
-    effect-near s s' = choose (λ v. effect_by room v s) (λ v. effect_by room v s') (effect_by-near s s')
+    effect-near s s' = chosen (effect_by room) (effect_by room) effect_by-near s s'
 
-    behind_open-near : (place place' : Place) (s s' : List Token) → Near b 1 Level s s' (behind_open room place s) (behind_open room place' s')
+    behind_open-near : (place place' : Place) → Twins b 1 Level (behind_open room place) (behind_open room place')
     behind_open-near place place' s s' = tall _ _ (read-near room s s') (λ _ _ _ s s'. plain (mark-near m.RightParenthesis s s') (λ _ _ _ _. yields refl))
 
-    behind_not-near : (place place' : Place) (s s' : List Token) → Near b 1 Level s s' (behind_not room place s) (behind_not room place' s')
+    behind_not-near : (place place' : Place) → Twins b 1 Level (behind_not room place) (behind_not room place')
     behind_not-near place place' s s' = plain (mark-near m.LeftParenthesis s s') (λ _ _. behind_open-near place place')
 
-    no_read-near : (s s' : List Token) → Near b 1 Level s s' (no_read room s) (no_read room s')
+    no_read-near : Twins b 1 Level (no_read room) (no_read room)
     unfolding no_read
     no_read-near s s' = skipped (behind_not-near _ _ _ _)
 
-    tested-near : (s s' : List Token) → Near b 1 Level s s' (tested room s) (tested room s')
+    tested-near : Twins b 1 Level (tested room) (tested room)
     tested-near s s' = tall _ _ (expr-near (room + 1) 1 s s') (λ _ _ _ _ _. yields refl)
 
-    tested_by-near : (t : Bool) (s s' : List Token) → Near b 1 Level s s' (tested_by room t s) (tested_by room t s')
+    tested_by-near : (t : Bool) → Twins b 1 Level (tested_by room t) (tested_by room t)
     tested_by-near true s s' = no_read-near s s'
     tested_by-near false s s' = tested-near s s'
 
@@ -166,17 +166,17 @@ module _ {b : ℕ} where
       ]
 
   module _ (room : ℕ) where
-    either_test-near : (s s' : List Token) → Near b 1 Level s s' (tested_by room (nat_lt 1 room && begins_no_read room s) s) (tested_by room (nat_lt 1 room && begins_no_read room s') s')
+    either_test-near : Twins b 1 Level (λ s. tested_by room (nat_lt 1 room && begins_no_read room s) s) (λ s. tested_by room (nat_lt 1 room && begins_no_read room s) s)
     either_test-near s s' = record {
       agrees = test-agrees room (nat_lt 1 room) (ltb-true 1 room) s s';
       within = (tested_by-near {b = b} room (nat_lt 1 room && begins_no_read room s) s s).within;
       within' = (tested_by-near {b = b} room (nat_lt 1 room && begins_no_read room s') s' s').within;
     }
 
-    cond_by-near : (s s' : List Token) (kind : Kind) → Near b 1 Level s s' (cond_by room kind s) (cond_by room kind s')
-    cond_by-near s s' k.Input = tall _ _ (read-near room s s') (λ _ _ _ _ _. yields refl)
-    cond_by-near s s' _ = either_test-near s s'
+    cond_by-near : (kind : Kind) → Twins b 1 Level (cond_by room kind) (cond_by room kind)
+    cond_by-near k.Input s s' = tall _ _ (read-near room s s') (λ _ _ _ _ _. yields refl)
+    cond_by-near _ s s' = either_test-near s s'
 
-    pub cond-near : (s s' : List Token) → Near b 1 Level s s' (cond room s) (cond room s')
+    pub cond-near : Twins b 1 Level (cond room) (cond room)
     unfolding cond
-    cond-near s s' = choose (λ v. cond_by room v s) (λ v. cond_by room v s') (cond_by-near s s')
+    cond-near s s' = chosen (cond_by room) (cond_by room) cond_by-near s s'

@@ -59,6 +59,9 @@ bind-within d e n (Ok p) f h l = behind-within d e (length p.1) n (f p.0 p.1) l 
 bind-within d e n (Err (Grammar k)) f h l = l
 bind-within d e n (Err Memory) f h l = l
 
+abbrev pub Twins : {A : Type 0} → ℕ → ℕ → (A → A → Type 0) → Reader A → Reader A → Type 0
+Twins b d R p q = (s s' : List Token) → Near b d R s s' (p s) (q s')
+
 pub bind-left : {A B : Type 0} (e : ℕ) (o : Outcome A) (f : A → Reader B) → ((x : A) (u : List Token) → Within e (length u) (f x u)) → left_over (and_then o f) ≤ left_over o
 bind-left e (Ok p) f h = left-within e (length p.1) (f p.0 p.1) (h p.0 p.1)
 bind-left e (Err (Grammar k)) f h = omega arith
@@ -163,6 +166,9 @@ module _ {b : ℕ} where
     within' = (h (kind_at s')).within';
   }
 
+  pub chosen : {A : Type 0} {d : ℕ} {R : A → A → Type 0} (F G : Kind → Reader A) → ((k : Kind) → Twins b d R (F k) (G k)) → Twins b d R (λ s. F (kind_at s) s) (λ s. G (kind_at s) s)
+  chosen F G h s s' = choose (λ k. F k s) (λ k. G k s') (λ k. h k s s')
+
   pub either : {A : Type 0} {d : ℕ} {R : A → A → Type 0} {s s' : List Token} {o o' u u' : Outcome A} (t : Bool) → Near b d R s s' o o' → Near b d R s s' u u' → Near b d R s s' (if t then o else u) (if t then o' else u')
   either true m n = m
   either false m n = n
@@ -175,8 +181,8 @@ module _ {b : ℕ} where
   under t m = either t m refuses
 
   -- a choice by the next word, which there is where it isn't the end
-  pub known : {A : Type 0} {d : ℕ} {R : A → A → Type 0} (F G : Kind → Reader A) → ((s s' : List Token) → Near b d R s s' (F k.End s) (G k.End s'))
-      → ((k : Kind) (s s' : List Token) → 1 ≤ length s → 1 ≤ length s' → Near b d R s s' (F k s) (G k s')) → (s s' : List Token) → Near b d R s s' (F (kind_at s) s) (G (kind_at s') s')
+  pub known : {A : Type 0} {d : ℕ} {R : A → A → Type 0} (F G : Kind → Reader A) → Twins b d R (F k.End) (G k.End)
+      → ((k : Kind) (s s' : List Token) → 1 ≤ length s → 1 ≤ length s' → Near b d R s s' (F k s) (G k s')) → Twins b d R (λ s. F (kind_at s) s) (λ s. G (kind_at s) s)
   known {A} {d} {R} F G n h s s' = record {
     agrees = known-agrees s s';
     within = known-within d F (n [] []).within (λ k u l. (h k u u l l).within) s;
@@ -189,7 +195,7 @@ module _ {b : ℕ} where
     known-agrees _ _ (cut u u' c) = past (F (kind_at u) u) (G (kind_at u') u')
         (omega (arith, c, left-within d (length u) (F (kind_at u) u) (known-within d F (n [] []).within (λ k v l. (h k v v l l).within) u)))
 
-  pub mark-near : (m : Mark) (s s' : List Token) → Near b 1 Any s s' (mark m s) (mark m s')
+  pub mark-near : (m : Mark) → Twins b 1 Any (mark m) (mark m)
   unfolding mark
   mark-near m s s' = known (λ k u. if is_mark m k then Ok (here u, drop 1 u) else Err (refusal u)) (λ k u. if is_mark m k then Ok (here u, drop 1 u) else Err (refusal u))
       (λ _ _. refuses) (λ k u u' l l'. under (is_mark m k) (taken l l' tt)) s s'
@@ -198,7 +204,7 @@ module _ {b : ℕ} where
   identifier_by-near k.Name s s' l l' = taken l l' tt
   identifier_by-near _ s s' l l' = refuses
 
-  pub identifier-near : (s s' : List Token) → Near b 1 Any s s' (identifier s) (identifier s')
+  pub identifier-near : Twins b 1 Any identifier identifier
   unfolding identifier
   identifier-near s s' = known identifier_by identifier_by (λ _ _. refuses) identifier_by-near s s'
 
@@ -206,12 +212,12 @@ module _ {b : ℕ} where
   library_by-near k.Library s s' l l' = taken l l' tt
   library_by-near _ s s' l l' = refuses
 
-  pub library-near : (s s' : List Token) → Near b 1 Any s s' (library s) (library s')
+  pub library-near : Twins b 1 Any library library
   unfolding library
   library-near s s' = known library_by library_by (λ _ _. refuses) library_by-near s s'
 
   -- items that take a token each
-  module _ {A : Type 0} (goes : Kind → Bool) (item : Reader (Tall A)) (h : (s s' : List Token) → Near b 1 Level s s' (item s) (item s')) where
+  module _ {A : Type 0} (goes : Kind → Bool) (item : Reader (Tall A)) (h : Twins b 1 Level item item) where
     repeat-within : (n : ℕ) (done : Tall (List A)) (s : List Token) → Within 0 (length s) (repeat goes item n done s)
     unfolding repeat
     repeat-within zero done s = elim (goes (kind_at s)) as (λ t. Within 0 (length s) (if t then Err (refusal s) else Ok (done, s))) [ true ↦ omega arith | false ↦ omega arith ]
@@ -255,7 +261,7 @@ module _ {b : ℕ} where
     repeat-agrees n n' done done' most _ _ l l' (cut s s' c) = past (repeat goes item n (done, most) s) (repeat goes item n' (done', most) s')
         (omega (arith, c, left-within 0 (length s) (repeat goes item n (done, most) s) (repeat-within n (done, most) s)))
 
-    pub repeat-near : (done done' : List A) (most : ℕ) (s s' : List Token) → Near b 0 Level s s' (all_behind goes item (done, most) s) (all_behind goes item (done', most) s')
+    pub repeat-near : (done done' : List A) (most : ℕ) → Twins b 0 Level (all_behind goes item (done, most)) (all_behind goes item (done', most))
     repeat-near done done' most s s' = record {
       agrees = repeat-agrees (length s) (length s') done done' most s s' (omega arith) (omega arith);
       within = repeat-within (length s) (done, most) s;
