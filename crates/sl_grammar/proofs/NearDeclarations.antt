@@ -24,7 +24,8 @@ module _ {b : ℕ} where
   int-near s s' = chosen int_by int_by int_by-near s s'
 
   elements_by-near : (map : Bool) → Twins b 1 Any (elements_by map) (elements_by map)
-  elements_by-near false s s' = plain (mark-near m.Less s s') (λ _ _ s s'. plain (int-near s s') (λ _ _ s s'. plain (mark-near m.Greater s s') (λ _ _ _ _. yields tt)))
+  elements_by-near false s s' = plain (mark-near m.Less s s') (λ _ _ s s'. plain (int-near s s')
+      (λ _ _ s s'. plain (mark-near m.Greater s s') (λ _ _ _ _. yields tt)))
   elements_by-near true s s' = plain (mark-near m.Less s s') (λ _ _ s s'. plain (int-near s s') (λ _ _ s s'. plain (mark-near m.Comma s s')
       (λ _ _ s s'. plain (int-near s s') (λ _ _ s s'. plain (mark-near m.Greater s s') (λ _ _ _ _. yields tt)))))
 
@@ -35,11 +36,13 @@ module _ {b : ℕ} where
   module _ (room : ℕ) where
     optional_value-near : Twins b 0 Level (optional_value room) (optional_value room)
     unfolding optional_value
-    optional_value-near s s' = by_test (is_mark m.Equal) (skipped (loose (tall _ _ (expr-near (room + 1) 1 _ _) (λ _ _ _ _ _. yields refl)))) (yields refl)
+    optional_value-near s s' = by_test (is_mark m.Equal) (skipped (loose (tall _ _ (expr-near (room + 1) 1 _ _) (λ _ _ _ _ _. yields refl))))
+        (yields refl)
 
     pub scalar_declaration-near : (scalar : Scalar) → Twins b 1 Level (scalar_declaration room scalar) (scalar_declaration room scalar)
     unfolding scalar_declaration
-    scalar_declaration-near scalar s s' = skipped (plain (identifier-near _ _) (λ _ _ s s'. tall _ _ (optional_value-near s s') (λ _ _ _ _ _. yields refl)))
+    scalar_declaration-near scalar s s' = skipped (plain (identifier-near _ _)
+        (λ _ _ s s'. tall _ _ (optional_value-near s s') (λ _ _ _ _ _. yields refl)))
 
     pub auto_declaration-near : Twins b 1 Level (auto_declaration room) (auto_declaration room)
     unfolding auto_declaration
@@ -48,7 +51,8 @@ module _ {b : ℕ} where
 
     braces-near : (equal : Bool) → Twins b 1 Level (braces room equal) (braces room equal)
     unfolding braces
-    braces-near equal s s' = tall _ _ (list_before-near (expr (room + 1) 1) (expr room 1) room (expr-near (room + 1) 1) (expr-near room 1) m.RightBrace s s')
+    braces-near equal s s' = tall _ _ (list_before-near (expr (room + 1) 1) (expr room 1) room (expr-near (room + 1) 1)
+        (expr-near room 1) m.RightBrace s s')
         (λ _ _ _ s s'. plain (mark-near m.RightBrace s s') (λ _ _ _ _. yields refl))
 
     behind_equal_by-near : (kind : Kind) → Twins b 1 Level (behind_equal_by room kind) (behind_equal_by room kind)
@@ -62,7 +66,8 @@ module _ {b : ℕ} where
         (λ _ _ _ s s'. plain (mark-near m.RightParenthesis s s') (λ _ _ _ _. yields refl)))
 
     initializer_by-near : (kind : Kind) → Twins b 0 Level (initializer_by room kind) (initializer_by room kind)
-    initializer_by-near (k.Mark m.Equal) s s' = skipped (loose (chosen (behind_equal_by room) (behind_equal_by room) behind_equal_by-near (drop 1 s) (drop 1 s')))
+    initializer_by-near (k.Mark m.Equal) s s' = skipped (loose (chosen (behind_equal_by room) (behind_equal_by room) behind_equal_by-near (drop 1 s)
+        (drop 1 s')))
     initializer_by-near (k.Mark m.LeftBrace) s s' = skipped (loose (braces-near false _ _))
     initializer_by-near (k.Mark m.LeftParenthesis) s s' = loose (constructed-near s s')
     initializer_by-near _ s s' = yields refl
@@ -78,11 +83,13 @@ module _ {b : ℕ} where
 
   scalar_param-near : (place place' : Place) (scalar : Scalar) → Twins b 1 Level (scalar_param place scalar) (scalar_param place' scalar)
   unfolding scalar_param
-  scalar_param-near place place' scalar s s' = by_test (is_mark m.And) (skipped (plain (identifier-near _ _) (λ _ _ _ _. yields refl))) (plain (identifier-near s s') (λ _ _ _ _. yields refl))
+  scalar_param-near place place' scalar s s' = by_test (is_mark m.And) (skipped (plain (identifier-near _ _) (λ _ _ _ _. yields refl)))
+      (plain (identifier-near s s') (λ _ _ _ _. yields refl))
 
   container_param-near : (form : Form) → Twins b 1 Level (container_param form) (container_param form)
   unfolding container_param
-  container_param-near form s s' = plain (container_type-near form s s') (λ _ _ s s'. plain (mark-near m.And s s') (λ _ _ s s'. plain (identifier-near s s') (λ _ _ _ _. yields refl)))
+  container_param-near form s s' = plain (container_type-near form s s') (λ _ _ s s'. plain (mark-near m.And s s')
+      (λ _ _ s s'. plain (identifier-near s s') (λ _ _ _ _. yields refl)))
 
   container_by-near : (kind : Kind) → Twins b 1 Any (container_by kind) (container_by kind)
   container_by-near (k.Container form) s s' = container_type-near form s s'

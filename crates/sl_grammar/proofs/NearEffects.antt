@@ -46,7 +46,8 @@ module _ {b : ℕ} where
   read-near : (room : ℕ) → Twins b 1 Level (read room) (read room)
   unfolding read
   read-near room s s' = under (nat_lt 0 room) (skipped (tall _ _ (shifted_name-near _ _)
-      (λ x y _ s s'. tall _ _ (repeat-near (is_mark m.ShiftRight) shifted_name shifted_name-near (x ∷ []) (y ∷ []) 0 s s') (λ _ _ _ _ _. yields refl))))
+      (λ x y _ s s'. tall _ _ (repeat-near (is_mark m.ShiftRight) shifted_name shifted_name-near (x ∷ []) (y ∷ []) 0 s s')
+      (λ _ _ _ _ _. yields refl))))
 
   module _ (room : ℕ) where
     out_by-near : (kind : Kind) → Twins b 0 Level (out_by room kind) (out_by room kind)
@@ -61,7 +62,8 @@ module _ {b : ℕ} where
     print-near : Twins b 1 Level (print room) (print room)
     unfolding print
     print-near s s' = under (nat_lt 0 room) (skipped (tall _ _ (shifted_out-near _ _)
-        (λ x y z s s'. tall _ _ (repeat-near (is_mark m.ShiftLeft) (shifted_out room) shifted_out-near (x ∷ []) (y ∷ []) z s s') (λ _ _ _ _ _. yields refl))))
+        (λ x y z s s'. tall _ _ (repeat-near (is_mark m.ShiftLeft) (shifted_out room) shifted_out-near (x ∷ []) (y ∷ []) z s s')
+        (λ _ _ _ _ _. yields refl))))
 
     assigned_by-near : (x y : Expr) (z : ℕ) (op : Option Assignment) → Twins b 0 Level (assigned_by room (x, z) op) (assigned_by room (y, z) op)
     assigned_by-near x y z (Some op) s s' = under (nat_lt z room) (skipped (loose (tall _ _ (expr-near room 1 _ _) (λ _ _ _ _ _. yields refl))))
@@ -69,7 +71,8 @@ module _ {b : ℕ} where
 
     assigned-near : (x y : Expr) (z : ℕ) → Twins b 0 Level (assigned room (x, z)) (assigned room (y, z))
     unfolding assigned
-    assigned-near x y z s s' = chosen (λ v. assigned_by room (x, z) (assignment_of room v)) (λ v. assigned_by room (y, z) (assignment_of room v)) (λ v. assigned_by-near x y z (assignment_of room v)) s s'
+    assigned-near x y z s s' = chosen (λ v. assigned_by room (x, z) (assignment_of room v)) (λ v. assigned_by room (y, z) (assignment_of room v))
+        (λ v. assigned_by-near x y z (assignment_of room v)) s s'
 
     effect_by-near : (kind : Kind) → Twins b 1 Level (effect_by room kind) (effect_by room kind)
     effect_by-near k.Input s s' = tall _ _ (read-near room s s') (λ _ _ _ _ _. yields refl)
@@ -81,7 +84,8 @@ module _ {b : ℕ} where
     effect-near s s' = chosen (effect_by room) (effect_by room) effect_by-near s s'
 
     behind_open-near : (place place' : Place) → Twins b 1 Level (behind_open room place) (behind_open room place')
-    behind_open-near place place' s s' = tall _ _ (read-near room s s') (λ _ _ _ s s'. plain (mark-near m.RightParenthesis s s') (λ _ _ _ _. yields refl))
+    behind_open-near place place' s s' = tall _ _ (read-near room s s') (λ _ _ _ s s'. plain (mark-near m.RightParenthesis s s')
+        (λ _ _ _ _. yields refl))
 
     behind_not-near : (place place' : Place) → Twins b 1 Level (behind_not room place) (behind_not room place')
     behind_not-near place place' s s' = plain (mark-near m.LeftParenthesis s s') (λ _ _. behind_open-near place place')
@@ -105,9 +109,11 @@ more-room : (r least : ℕ) (s : List Token) → expr (suc (suc r) + 1) least s 
 more-room r least s = ap (λ n. expr n least s) (omega arith)
 
 -- Where there is room for a read under a test, both readings of a condition that begins with `!` take that, and a `(` behind it.
-behind-first : (r : ℕ) (t : Bool) (x : Token) (ts : List Token) → kind_of x.word ≡ k.Mark m.Not → left_over (tested_by (suc (suc r)) t (x ∷ ts)) ≤ length ts
+behind-first : (r : ℕ) (t : Bool) (x : Token) (ts : List Token) → kind_of x.word ≡ k.Mark m.Not
+    → left_over (tested_by (suc (suc r)) t (x ∷ ts)) ≤ length ts
 unfolding no_read
-behind-first r true x ts e = left-within 1 (length ts) (behind_not (suc (suc r)) x.place ts) (behind_not-near {b = 0} (suc (suc r)) x.place x.place ts ts).within
+behind-first r true x ts e = left-within 1 (length ts) (behind_not (suc (suc r)) x.place ts)
+    (behind_not-near {b = 0} (suc (suc r)) x.place x.place ts ts).within
 behind-first r false x ts e = omega (
   arith,
   ap left_over (more-room r 1 (x ∷ ts)),
@@ -116,9 +122,11 @@ behind-first r false x ts e = omega (
   bind-left 0 (expr (suc (suc r) + 1) 1 (x ∷ ts)) tests (λ y u. omega arith),
 )
 
-behind-second : (r : ℕ) (t : Bool) (x y : Token) (ts : List Token) → kind_of x.word ≡ k.Mark m.Not → kind_of y.word ≡ k.Mark m.LeftParenthesis → left_over (tested_by (suc (suc r)) t (x ∷ y ∷ ts)) ≤ length ts
+behind-second : (r : ℕ) (t : Bool) (x y : Token) (ts : List Token) → kind_of x.word ≡ k.Mark m.Not → kind_of y.word ≡ k.Mark m.LeftParenthesis
+    → left_over (tested_by (suc (suc r)) t (x ∷ y ∷ ts)) ≤ length ts
 unfolding no_read mark
-behind-second r true x y ts e f = rw f (left-within 1 (length ts) (behind_open (suc (suc r)) x.place ts) (behind_open-near {b = 0} (suc (suc r)) x.place x.place ts ts).within)
+behind-second r true x y ts e f = rw f (left-within 1 (length ts) (behind_open (suc (suc r)) x.place ts)
+    (behind_open-near {b = 0} (suc (suc r)) x.place x.place ts ts).within)
 behind-second r false x y ts e f = omega (
   arith,
   ap left_over (more-room r 1 (x ∷ y ∷ ts)),
@@ -133,24 +141,31 @@ data Looked (b room : ℕ) (s s' : List Token) : Type 0 where
   beyond : ((t : Bool) → left_over (tested_by room t s) < b) → Looked b room s s'
 
 module _ {b : ℕ} where
-  one-word : (r : ℕ) (x x' : Token) (ts ts' : List Token) (t : Bool) → x.word ≡ x'.word → length ts < b → is_mark m.Not (kind_of x.word) ≡ t → Looked b (suc (suc r)) (x ∷ ts) (x' ∷ ts')
+  one-word : (r : ℕ) (x x' : Token) (ts ts' : List Token) (t : Bool) → x.word ≡ x'.word → length ts < b → is_mark m.Not (kind_of x.word) ≡ t
+      → Looked b (suc (suc r)) (x ∷ ts) (x' ∷ ts')
   one-word r x x' ts ts' true q l e = beyond (λ t. omega (arith, l, behind-first r t x ts (is_mark-true m.Not (kind_of x.word) e)))
   one-word r x x' ts ts' false q l e = alike (rw (sym q, e) refl)
 
   two-words : (r : ℕ) (x x' y y' : Token) (ts ts' : List Token) (t u : Bool) → x.word ≡ x'.word → y.word ≡ y'.word → length ts < b
       → is_mark m.Not (kind_of x.word) ≡ t → is_mark m.LeftParenthesis (kind_of y.word) ≡ u → Looked b (suc (suc r)) (x ∷ y ∷ ts) (x' ∷ y' ∷ ts')
   two-words r x x' y y' ts ts' true true q p l e f =
-      beyond (λ t. omega (arith, l, behind-second r t x y ts (is_mark-true m.Not (kind_of x.word) e) (is_mark-true m.LeftParenthesis (kind_of y.word) f)))
+      let second : (t : Bool) → left_over (tested_by (suc (suc r)) t (x ∷ y ∷ ts)) ≤ length ts = λ t. behind-second r t x y ts
+      (is_mark-true m.Not (kind_of x.word) e) (is_mark-true m.LeftParenthesis (kind_of y.word) f) in
+      beyond (λ t. omega (arith, l, second t))
   two-words r x x' y y' ts ts' true false q p l e f = alike (rw (sym q, sym p, e, f) refl)
   two-words r x x' y y' ts ts' false u q p l e f = alike (rw (sym q, e) refl)
 
   look : (r : ℕ) (s s' : List Token) → Same b s s' → Looked b (suc (suc r)) s s'
   look r _ _ end = alike refl
-  look r _ _ (cut s s' l) = beyond (λ t. omega (arith, l, left-within 1 (length s) (tested_by (suc (suc r)) t s) (tested_by-near {b = b} (suc (suc r)) t s s).within))
+  look r _ _ (cut s s' l) =
+      let all : (t : Bool) → left_over (tested_by (suc (suc r)) t s) ≤ length s = λ t. left-within 1 (length s) (tested_by (suc (suc r)) t s)
+      (tested_by-near {b = b} (suc (suc r)) t s s).within in
+      beyond (λ t. omega (arith, l, all t))
   look r _ _ (step x x' _ _ q end) = alike (rw q refl)
   look r _ _ (step x x' _ _ q (cut ts ts' l)) = one-word r x x' ts ts' (is_mark m.Not (kind_of x.word)) q l refl
   look r _ _ (step x x' _ _ q (step y y' _ _ p end)) = alike (rw (q, p) refl)
-  look r _ _ (step x x' _ _ q (step y y' _ _ p (cut ts ts' l))) = two-words r x x' y y' ts ts' (is_mark m.Not (kind_of x.word)) (is_mark m.LeftParenthesis (kind_of y.word)) q p l refl refl
+  look r _ _ (step x x' _ _ q (step y y' _ _ p (cut ts ts' l))) = two-words r x x' y y' ts ts' (is_mark m.Not (kind_of x.word))
+      (is_mark m.LeftParenthesis (kind_of y.word)) q p l refl refl
   look r _ _ (step x x' _ _ q (step y y' _ _ p (step z z' ts ts' o same))) = alike (rw (q, p, o) refl)
 
   test-agrees : (room : ℕ) (t : Bool) → (t ≡ true → 1 < room) → (s s' : List Token) → Same b s s'
@@ -161,12 +176,14 @@ module _ {b : ℕ} where
   test-agrees (suc (suc r)) true l s s' e =
       let begins : List Token → Bool = begins_no_read (suc (suc r)) in
       elim (look r s s' e) as (λ _. Agree b Level (tested_by (suc (suc r)) (begins s) s) (tested_by (suc (suc r)) (begins s') s')) [
-        | alike q ↦ subst (λ z. Agree b Level (tested_by (suc (suc r)) (begins s) s) (tested_by (suc (suc r)) z s')) q ((tested_by-near (suc (suc r)) (begins s) s s').agrees e)
+        | alike q ↦ subst (λ z. Agree b Level (tested_by (suc (suc r)) (begins s) s) (tested_by (suc (suc r)) z s')) q
+            ((tested_by-near (suc (suc r)) (begins s) s s').agrees e)
         | beyond h ↦ past (tested_by (suc (suc r)) (begins s) s) (tested_by (suc (suc r)) (begins s') s') (h (begins s))
       ]
 
   module _ (room : ℕ) where
-    either_test-near : Twins b 1 Level (λ s. tested_by room (nat_lt 1 room && begins_no_read room s) s) (λ s. tested_by room (nat_lt 1 room && begins_no_read room s) s)
+    either_test-near : Twins b 1 Level (λ s. tested_by room (nat_lt 1 room && begins_no_read room s) s)
+        (λ s. tested_by room (nat_lt 1 room && begins_no_read room s) s)
     either_test-near s s' = record {
       agrees = test-agrees room (nat_lt 1 room) (ltb-true 1 room) s s';
       within = (tested_by-near {b = b} room (nat_lt 1 room && begins_no_read room s) s s).within;

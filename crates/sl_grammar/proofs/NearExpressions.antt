@@ -29,7 +29,8 @@ module _ {b : ℕ} where
     list_behind-near : (x y : Expr) (z : ℕ) → Twins b 0 Level (list_behind one more room (x, z)) (list_behind one more room (y, z))
     unfolding list_behind
     list_behind-near x y z s s' = by_test (is_mark m.Comma)
-        (under (nat_lt z room) (tall _ _ (repeat-near (is_mark m.Comma) (comma_expr one more room) comma_expr-near [] [] 0 s s') (λ _ _ _ _ _. yields refl))) (yields refl)
+        (under (nat_lt z room) (tall _ _ (repeat-near (is_mark m.Comma) (comma_expr one more room) comma_expr-near [] [] 0 s s')
+        (λ _ _ _ _ _. yields refl))) (yields refl)
 
     pub list-near : Twins b 1 Level (list one more room) (list one more room)
     unfolding list
@@ -44,11 +45,13 @@ module _ {b : ℕ} where
       (g : (least : ℕ) → Twins b 1 Level (smaller least) (smaller least)) where
     arguments-near : Twins b 1 Level (arguments inner smaller room) (arguments inner smaller room)
     unfolding arguments
-    arguments-near s s' = plain (mark-near m.LeftParenthesis s s') (λ _ _ u u'. tall _ _ (list_before-near (inner 1) (smaller 1) (room - 1) (h 1) (g 1) m.RightParenthesis u u')
+    arguments-near s s' = plain (mark-near m.LeftParenthesis s s') (λ _ _ u u'. tall _ _
+        (list_before-near (inner 1) (smaller 1) (room - 1) (h 1) (g 1) m.RightParenthesis u u')
         (λ _ _ _ v v'. plain (mark-near m.RightParenthesis v v') (λ _ _ _ _. yields refl)))
 
     name_or_call-near : (f f' : Identifier) → Twins b 0 Level (name_or_call inner smaller room f) (name_or_call inner smaller room f')
-    name_or_call-near f f' s s' = by_test (is_mark m.LeftParenthesis) (under (nat_lt 0 room) (loose (tall _ _ (arguments-near s s') (λ _ _ _ _ _. yields refl)))) (yields refl)
+    name_or_call-near f f' s s' = by_test (is_mark m.LeftParenthesis) (under (nat_lt 0 room)
+        (loose (tall _ _ (arguments-near s s') (λ _ _ _ _ _. yields refl)))) (yields refl)
 
     named-near : Twins b 1 Level (named inner smaller room) (named inner smaller room)
     unfolding named
@@ -60,13 +63,15 @@ module _ {b : ℕ} where
 
     parentheses-near : Twins b 1 Level (parentheses inner smaller room) (parentheses inner smaller room)
     unfolding parentheses
-    parentheses-near s s' = under (nat_lt 0 room) (skipped (tall _ _ (h 1 _ _) (λ _ _ _ u u'. plain (mark-near m.RightParenthesis u u') (λ _ _ _ _. yields refl))))
+    parentheses-near s s' = under (nat_lt 0 room) (skipped (tall _ _ (h 1 _ _)
+        (λ _ _ _ u u'. plain (mark-near m.RightParenthesis u u') (λ _ _ _ _. yields refl))))
 
     prefixed-near : (op : PrefixOperator) → Twins b 1 Level (prefixed inner smaller room op) (prefixed inner smaller room op)
     unfolding prefixed
     prefixed-near op s s' = under (nat_lt 0 room) (skipped (tall _ _ (h 7 _ _) (λ _ _ _ _ _. yields refl)))
 
-    operand_by-near : (kind : Kind) (s s' : List Token) → 1 ≤ length s → 1 ≤ length s' → Near b 1 Level s s' (operand_by inner smaller room kind s) (operand_by inner smaller room kind s')
+    operand_by-near : (kind : Kind) (s s' : List Token) → 1 ≤ length s → 1 ≤ length s'
+        → Near b 1 Level s s' (operand_by inner smaller room kind s) (operand_by inner smaller room kind s')
     operand_by-near k.Number s s' l l' = taken l l' refl
     operand_by-near (k.Truth v) s s' l l' = taken l l' refl
     operand_by-near k.Name s s' l l' = named-near s s'
@@ -87,8 +92,10 @@ module _ {b : ℕ} where
     unfolding indexed
     indexed-near x y z s s' = skipped (tall _ _ (h 1 _ _) (λ _ _ _ u u'. plain (mark-near m.RightBracket u u') (λ _ _ _ _. yields refl)))
 
-    member_by-near : (x y : Expr) (z : ℕ) (dot dot' : Place) (f f' : Identifier) → Twins b 0 Level (member_by inner smaller room (x, z) dot f) (member_by inner smaller room (y, z) dot' f')
-    member_by-near x y z dot dot' f f' s s' = by_test (is_mark m.LeftParenthesis) (loose (tall _ _ (arguments-near s s') (λ _ _ _ _ _. yields refl))) (yields refl)
+    member_by-near : (x y : Expr) (z : ℕ) (dot dot' : Place) (f f' : Identifier)
+        → Twins b 0 Level (member_by inner smaller room (x, z) dot f) (member_by inner smaller room (y, z) dot' f')
+    member_by-near x y z dot dot' f f' s s' = by_test (is_mark m.LeftParenthesis)
+        (loose (tall _ _ (arguments-near s s') (λ _ _ _ _ _. yields refl))) (yields refl)
 
     dotted-near : (x y : Expr) (z : ℕ) → Twins b 1 Level (dotted inner smaller room (x, z)) (dotted inner smaller room (y, z))
     unfolding dotted
@@ -98,10 +105,12 @@ module _ {b : ℕ} where
     unfolding pointed
     pointed-near x y z s s' = skipped (plain (identifier-near _ _) (λ _ _ _ _. yields refl))
 
-    postfixed-near : (x y : Expr) (z : ℕ) (op : PostfixOperator) → Twins b 0 Level (postfixed inner smaller room (x, z) op) (postfixed inner smaller room (y, z) op)
+    postfixed-near : (x y : Expr) (z : ℕ) (op : PostfixOperator)
+        → Twins b 0 Level (postfixed inner smaller room (x, z) op) (postfixed inner smaller room (y, z) op)
     postfixed-near x y z op s s' = skipped (yields refl)
 
-    piece_by-near : (x y : Expr) (z : ℕ) (kind : Kind) → Twins b 0 Level (piece_by inner smaller room (x, z) kind) (piece_by inner smaller room (y, z) kind)
+    piece_by-near : (x y : Expr) (z : ℕ) (kind : Kind) → Twins b 0 Level (piece_by inner smaller room (x, z) kind)
+        (piece_by inner smaller room (y, z) kind)
     piece_by-near x y z (k.Mark m.PlusPlus) s s' = postfixed-near x y z q.Increment s s'
     piece_by-near x y z (k.Mark m.MinusMinus) s s' = postfixed-near x y z q.Decrement s s'
     piece_by-near x y z (k.Mark m.LeftBracket) s s' = loose (indexed-near x y z s s')
@@ -113,29 +122,35 @@ module _ {b : ℕ} where
     unfolding piece
     piece-near x y z s s' = chosen (piece_by inner smaller room (x, z)) (piece_by inner smaller room (y, z)) (piece_by-near x y z) s s'
 
-    combined-near : (x y : Expr) (z : ℕ) (op : BinaryOperator) → Twins b 1 Level (combined inner smaller room (x, z) op) (combined inner smaller room (y, z) op)
+    combined-near : (x y : Expr) (z : ℕ) (op : BinaryOperator)
+        → Twins b 1 Level (combined inner smaller room (x, z) op) (combined inner smaller room (y, z) op)
     unfolding combined
     combined-near x y z op s s' = skipped (tall _ _ (h (binary_level op + 1) _ _) (λ _ _ _ _ _. yields refl))
 
-    operation_by-near : (x y : Expr) (z : ℕ) (op : Option BinaryOperator) → Twins b 0 Level (operation_by inner smaller room (x, z) op) (operation_by inner smaller room (y, z) op)
+    operation_by-near : (x y : Expr) (z : ℕ) (op : Option BinaryOperator)
+        → Twins b 0 Level (operation_by inner smaller room (x, z) op) (operation_by inner smaller room (y, z) op)
     operation_by-near x y z (Some op) s s' = loose (combined-near x y z op s s')
     operation_by-near x y z None s s' = piece-near x y z s s'
 
     operation-near : (x y : Expr) (z : ℕ) → Twins b 0 Level (operation inner smaller room (x, z)) (operation inner smaller room (y, z))
     unfolding operation
-    operation-near x y z s s' = chosen (λ v. operation_by inner smaller room (x, z) (infix_of v)) (λ v. operation_by inner smaller room (y, z) (infix_of v)) (λ v. operation_by-near x y z (infix_of v)) s s'
+    operation-near x y z s s' = chosen (λ v. operation_by inner smaller room (x, z) (infix_of v))
+        (λ v. operation_by inner smaller room (y, z) (infix_of v)) (λ v. operation_by-near x y z (infix_of v)) s s'
 
-    climb-near : (least n : ℕ) (x y : Expr) (z : ℕ) → Twins b 0 Level (climb inner smaller room least n (x, z)) (climb inner smaller room least n (y, z))
+    climb-near : (least n : ℕ) (x y : Expr) (z : ℕ) → Twins b 0 Level (climb inner smaller room least n (x, z))
+        (climb inner smaller room least n (y, z))
     unfolding climb
     climb-near least zero x y z s s' = by_test (λ v. nat_lt (goes_on v) least) (yields refl) refuses
-    climb-near least (suc n) x y z s s' = by_test (λ v. nat_lt (goes_on v) least) (yields refl) (under (nat_lt z room) (tall _ _ (operation-near x y z s s') (climb-near least n)))
+    climb-near least (suc n) x y z s s' = by_test (λ v. nat_lt (goes_on v) least) (yields refl)
+        (under (nat_lt z room) (tall _ _ (operation-near x y z s s') (climb-near least n)))
 
     from_operand-near : (least : ℕ) → Twins b 1 Level (from_operand inner smaller room least) (from_operand inner smaller room least)
     unfolding from_operand
     from_operand-near least s s' = tall _ _ (operand-near s s') (climb-near least room)
 
     -- what begins with `!` ends where what stands behind that ends, or behind it
-    behind-not : (least : ℕ) (x : Token) (ts : List Token) → nat_lt 0 room ≡ true → kind_of x.word ≡ k.Mark m.Not → left_over (from_operand inner smaller room least (x ∷ ts)) ≤ left_over (inner 7 ts)
+    behind-not : (least : ℕ) (x : Token) (ts : List Token) → nat_lt 0 room ≡ true → kind_of x.word ≡ k.Mark m.Not
+        → left_over (from_operand inner smaller room least (x ∷ ts)) ≤ left_over (inner 7 ts)
     unfolding from_operand operand prefixed
     behind-not least x ts q e =
         let over : Tall Expr → Reader (Tall Expr) = λ y. pure (t.prefix p.Not x.place y.0, y.1 + 1) in
@@ -146,11 +161,13 @@ module _ {b : ℕ} where
         ))
 
     -- what begins with `(` takes that
-    behind-parenthesis : (least : ℕ) (x : Token) (ts : List Token) → nat_lt 0 room ≡ true → kind_of x.word ≡ k.Mark m.LeftParenthesis → left_over (from_operand inner smaller room least (x ∷ ts)) ≤ length ts
+    behind-parenthesis : (least : ℕ) (x : Token) (ts : List Token) → nat_lt 0 room ≡ true → kind_of x.word ≡ k.Mark m.LeftParenthesis
+        → left_over (from_operand inner smaller room least (x ∷ ts)) ≤ length ts
     unfolding from_operand operand parentheses
     behind-parenthesis least x ts q e =
         let close : Tall Expr → Reader (Tall Expr) = λ y. mark m.RightParenthesis >> pure (t.parentheses x.place y.0, y.1 + 1) in
-        let closed : (y : Tall Expr) (u : List Token) → Near b 1 Level u u (close y u) (close y u) = λ y u. plain (mark-near m.RightParenthesis u u) (λ _ _ _ _. yields refl) in
+        let closed : (y : Tall Expr) (u : List Token) → Near b 1 Level u u (close y u) (close y u) = λ y u. plain (mark-near m.RightParenthesis u u)
+        (λ _ _ _ _. yields refl) in
         rw (e, q) (omega (
           arith,
           left-within 1 (length ts) (inner 1 ts) (h 1 ts ts).within,
@@ -164,10 +181,14 @@ module _ {b : ℕ} where
   expr-near (suc zero) least s s' = from_operand-near (expr zero) (expr zero) zero (expr-near zero) (expr-near zero) least s s'
   expr-near (suc (suc n)) least s s' = from_operand-near (expr (suc n)) (expr n) (suc n) (expr-near (suc n)) (expr-near n) least s s'
 
-pub expr-behind-not : (r least : ℕ) (x : Token) (ts : List Token) → kind_of x.word ≡ k.Mark m.Not → left_over (expr (suc (suc (suc r))) least (x ∷ ts)) ≤ left_over (expr (suc (suc r)) 7 ts)
+pub expr-behind-not : (r least : ℕ) (x : Token) (ts : List Token) → kind_of x.word ≡ k.Mark m.Not
+    → left_over (expr (suc (suc (suc r))) least (x ∷ ts)) ≤ left_over (expr (suc (suc r)) 7 ts)
 unfolding expr
-expr-behind-not r least x ts e = behind-not {b = 0} (expr (suc (suc r))) (expr (suc r)) (suc (suc r)) (expr-near (suc (suc r))) (expr-near (suc r)) least x ts (lt-ltb 0 (suc (suc r)) (omega arith)) e
+expr-behind-not r least x ts e = behind-not {b = 0} (expr (suc (suc r))) (expr (suc r)) (suc (suc r)) (expr-near (suc (suc r)))
+    (expr-near (suc r)) least x ts (lt-ltb 0 (suc (suc r)) (omega arith)) e
 
-pub expr-behind-parenthesis : (r least : ℕ) (x : Token) (ts : List Token) → kind_of x.word ≡ k.Mark m.LeftParenthesis → left_over (expr (suc (suc r)) least (x ∷ ts)) ≤ length ts
+pub expr-behind-parenthesis : (r least : ℕ) (x : Token) (ts : List Token) → kind_of x.word ≡ k.Mark m.LeftParenthesis
+    → left_over (expr (suc (suc r)) least (x ∷ ts)) ≤ length ts
 unfolding expr
-expr-behind-parenthesis r least x ts e = behind-parenthesis {b = 0} (expr (suc r)) (expr r) (suc r) (expr-near (suc r)) (expr-near r) least x ts (lt-ltb 0 (suc r) (omega arith)) e
+expr-behind-parenthesis r least x ts e = behind-parenthesis {b = 0} (expr (suc r)) (expr r) (suc r) (expr-near (suc r)) (expr-near r) least x ts
+    (lt-ltb 0 (suc r) (omega arith)) e

@@ -40,9 +40,11 @@ module _ {b : ℕ} where
 
     module _ (stmt : Reader (Tall Stmt)) (h : Twins b 1 Level stmt stmt) where
       item_by-near : (kind : Kind) → Twins b 1 Level (item_by room stmt kind) (item_by room stmt kind)
-      item_by-near (k.Scalar c) s s' = under (nat_lt 1 room) (declared-near (scalar_declaration (room - 2) c) (scalar_declaration-near (room - 2) c) s s')
+      item_by-near (k.Scalar c) s s' = under (nat_lt 1 room) (declared-near (scalar_declaration (room - 2) c)
+          (scalar_declaration-near (room - 2) c) s s')
       item_by-near k.Auto s s' = under (nat_lt 1 room) (declared-near (auto_declaration (room - 2)) (auto_declaration-near (room - 2)) s s')
-      item_by-near (k.Container f) s s' = under (nat_lt 1 room) (declared-near (container_declaration (room - 2) f) (container_declaration-near (room - 2) f) s s')
+      item_by-near (k.Container f) s s' = under (nat_lt 1 room) (declared-near (container_declaration (room - 2) f)
+          (container_declaration-near (room - 2) f) s s')
       item_by-near _ s s' = tall _ _ (h s s') (λ _ _ _ _ _. yields refl)
 
       item-near : Twins b 1 Level (item room stmt) (item room stmt)
@@ -52,7 +54,8 @@ module _ {b : ℕ} where
   module _ (inner : Reader (Tall Stmt)) (room : ℕ) (h : Twins b 1 Level inner inner) where
     braced-near : Twins b 1 Level (braced inner room) (braced inner room)
     unfolding braced
-    braced-near s s' = plain (mark-near m.LeftBrace s s') (λ _ _ s s'. tall _ _ (repeat-near is_item (item room inner) (item-near room inner h) [] [] 0 s s')
+    braced-near s s' = plain (mark-near m.LeftBrace s s') (λ _ _ s s'. tall _ _
+        (repeat-near is_item (item room inner) (item-near room inner h) [] [] 0 s s')
         (λ _ _ _ s s'. plain (mark-near m.RightBrace s s') (λ _ _ _ _. yields refl)))
 
     block-near : Twins b 1 Level (block inner room) (block inner room)
@@ -60,9 +63,11 @@ module _ {b : ℕ} where
 
     condition-near : Twins b 1 Level (condition inner room) (condition inner room)
     unfolding condition
-    condition-near s s' = plain (mark-near m.LeftParenthesis s s') (λ _ _ s s'. tall _ _ (cond-near room s s') (λ _ _ _ s s'. plain (mark-near m.RightParenthesis s s') (λ _ _ _ _. yields refl)))
+    condition-near s s' = plain (mark-near m.LeftParenthesis s s') (λ _ _ s s'. tall _ _ (cond-near room s s')
+        (λ _ _ _ s s'. plain (mark-near m.RightParenthesis s s') (λ _ _ _ _. yields refl)))
 
-    otherwise-near : (place place' : Place) (c c' : Cond) (i : ℕ) (x x' : Stmt) (j : ℕ) → Twins b 0 Level (otherwise inner room place (c, i) (x, j)) (otherwise inner room place' (c', i) (x', j))
+    otherwise-near : (place place' : Place) (c c' : Cond) (i : ℕ) (x x' : Stmt) (j : ℕ)
+        → Twins b 0 Level (otherwise inner room place (c, i) (x, j)) (otherwise inner room place' (c', i) (x', j))
     unfolding otherwise
     otherwise-near place place' c c' i x x' j s s' = by_test is_else (skipped (loose (tall _ _ (h _ _) (λ _ _ _ _ _. yields refl)))) (yields refl)
 
@@ -80,40 +85,51 @@ module _ {b : ℕ} where
 
     optional_effect-near : Twins b 0 Level (optional_effect inner room) (optional_effect inner room)
     unfolding optional_effect
-    optional_effect-near s s' = by_test (is_mark m.RightParenthesis) (yields refl) (loose (tall _ _ (effect-near room s s') (λ _ _ _ _ _. yields refl)))
+    optional_effect-near s s' = by_test (is_mark m.RightParenthesis) (yields refl)
+        (loose (tall _ _ (effect-near room s s') (λ _ _ _ _ _. yields refl)))
 
-    for_behind-near : (place place' : Place) (x y : Option First) (z : ℕ) → Twins b 1 Level (for_behind inner room place (x, z)) (for_behind inner room place' (y, z))
+    for_behind-near : (place place' : Place) (x y : Option First) (z : ℕ)
+        → Twins b 1 Level (for_behind inner room place (x, z)) (for_behind inner room place' (y, z))
     unfolding for_behind
     for_behind-near place place' x y z s s' = plain (mark-near m.Semicolon s s') (λ _ _ s s'. tall _ _ (optional_cond-near s s')
         (λ _ _ _ s s'. plain (mark-near m.Semicolon s s') (λ _ _ s s'. tall _ _ (optional_effect-near s s')
         (λ _ _ _ s s'. plain (mark-near m.RightParenthesis s s') (λ _ _ s s'. tall _ _ (h s s') (λ _ _ _ _ _. yields refl))))))
 
-    range_behind-near : (place place' : Place) (auto : Bool) (x y : Identifier) → Twins b 1 Level (range_behind inner room place auto x) (range_behind inner room place' auto y)
+    range_behind-near : (place place' : Place) (auto : Bool) (x y : Identifier)
+        → Twins b 1 Level (range_behind inner room place auto x) (range_behind inner room place' auto y)
     unfolding range_behind
     range_behind-near place place' auto x y s s' = plain (mark-near m.Colon s s') (λ _ _ s s'. plain (identifier-near s s')
         (λ _ _ s s'. plain (mark-near m.RightParenthesis s s') (λ _ _ s s'. tall _ _ (h s s') (λ _ _ _ _ _. yields refl))))
 
-    valued_first-near : (place place' at at' : Place) (type : Option Scalar) (x y : Identifier) → Twins b 1 Level (valued_first inner room place at type x) (valued_first inner room place' at' type y)
+    valued_first-near : (place place' at at' : Place) (type : Option Scalar) (x y : Identifier)
+        → Twins b 1 Level (valued_first inner room place at type x) (valued_first inner room place' at' type y)
     unfolding valued_first
-    valued_first-near place place' at at' type x y s s' = plain (mark-near m.Equal s s') (λ _ _ s s'. tall _ _ (expr-near room 1 s s') (λ _ _ z s s'. for_behind-near place place' _ _ (z + 1) s s'))
+    valued_first-near place place' at at' type x y s s' = plain (mark-near m.Equal s s')
+        (λ _ _ s s'. tall _ _ (expr-near room 1 s s') (λ _ _ z s s'. for_behind-near place place' _ _ (z + 1) s s'))
 
-    variable_behind-near : (place place' at at' : Place) (type : Option Scalar) (x y : Identifier) → Twins b 1 Level (variable_behind inner room place at type x) (variable_behind inner room place' at' type y)
+    variable_behind-near : (place place' at at' : Place) (type : Option Scalar) (x y : Identifier)
+        → Twins b 1 Level (variable_behind inner room place at type x) (variable_behind inner room place' at' type y)
     unfolding variable_behind
-    variable_behind-near place place' at at' type x y s s' = by_test (λ v. ranges type && is_mark m.Colon v) (range_behind-near place place' (is_auto type) x y s s') (valued_first-near place place' at at' type x y s s')
+    variable_behind-near place place' at at' type x y s s' = by_test (λ v. ranges type && is_mark m.Colon v)
+        (range_behind-near place place' (is_auto type) x y s s') (valued_first-near place place' at at' type x y s s')
 
-    declared_first-near : (place place' : Place) (type : Option Scalar) → Twins b 1 Level (declared_first inner room place type) (declared_first inner room place' type)
+    declared_first-near : (place place' : Place) (type : Option Scalar)
+        → Twins b 1 Level (declared_first inner room place type) (declared_first inner room place' type)
     unfolding declared_first
-    declared_first-near place place' type s s' = skipped (plain (identifier-near _ _) (λ x y s s'. loose (variable_behind-near place place' _ _ type x y s s')))
+    declared_first-near place place' type s s' = skipped (plain (identifier-near _ _)
+        (λ x y s s'. loose (variable_behind-near place place' _ _ type x y s s')))
 
     for_by-near : (place place' : Place) (kind : Kind) → Twins b 1 Level (for_by inner room place kind) (for_by inner room place' kind)
     for_by-near place place' (k.Scalar c) s s' = declared_first-near place place' (Some c) s s'
     for_by-near place place' k.Auto s s' = declared_first-near place place' None s s'
     for_by-near place place' (k.Mark m.Semicolon) s s' = for_behind-near place place' None None 0 s s'
-    for_by-near place place' _ s s' = tall _ _ (effect-near room s s') (λ x y z s s'. for_behind-near place place' (Some (t.first_effect x)) (Some (t.first_effect y)) z s s')
+    for_by-near place place' _ s s' = tall _ _ (effect-near room s s') (λ x y z s s'. for_behind-near place place' (Some (t.first_effect x))
+        (Some (t.first_effect y)) z s s')
 
     for_loop-near : Twins b 1 Level (for_loop inner room) (for_loop inner room)
     unfolding for_loop
-    for_loop-near s s' = under (nat_lt 0 room) (skipped (plain (mark-near m.LeftParenthesis _ _) (λ _ _ u u'. chosen (for_by inner room (here s)) (for_by inner room (here s')) (for_by-near (here s) (here s')) u u')))
+    for_loop-near s s' = under (nat_lt 0 room) (skipped (plain (mark-near m.LeftParenthesis _ _)
+        (λ _ _ u u'. chosen (for_by inner room (here s)) (for_by inner room (here s')) (for_by-near (here s) (here s')) u u')))
 
     valued-near : (place place' : Place) → Twins b 1 Level (valued room place) (valued room place')
     valued-near place place' s s' = tall _ _ (expr-near (room + 1) 1 s s') (λ _ _ _ s s'. plain (mark-near m.Semicolon s s') (λ _ _ _ _. yields refl))
@@ -151,8 +167,10 @@ module _ {b : ℕ} where
 
   function_behind-near : (result : ResultType) → Twins b 1 Level (function_behind result) (function_behind result)
   unfolding function_behind
-  function_behind-near result s s' = skipped (plain (identifier-near _ _) (λ _ _ s s'. plain (mark-near m.LeftParenthesis s s') (λ _ _ s s'. tall _ _ (params-near s s')
-      (λ _ _ _ s s'. plain (mark-near m.RightParenthesis s s') (λ _ _ s s'. tall _ _ (braced-near (stmt (TREE_DEPTH - 2)) (TREE_DEPTH - 2) (stmt-near (TREE_DEPTH - 2)) s s') (λ _ _ _ _ _. yields refl))))))
+  function_behind-near result s s' = skipped (plain (identifier-near _ _) (λ _ _ s s'. plain (mark-near m.LeftParenthesis s s')
+      (λ _ _ s s'. tall _ _ (params-near s s')
+      (λ _ _ _ s s'. plain (mark-near m.RightParenthesis s s') (λ _ _ s s'. tall _ _
+      (braced-near (stmt (TREE_DEPTH - 2)) (TREE_DEPTH - 2) (stmt-near (TREE_DEPTH - 2)) s s') (λ _ _ _ _ _. yields refl))))))
 
   function_by-near : (kind : Kind) → Twins b 1 Level (function_by kind) (function_by kind)
   function_by-near k.Void s s' = function_behind-near z.Void s s'
