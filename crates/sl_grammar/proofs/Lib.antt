@@ -9,3 +9,8 @@ pub mod CompleteBegins
 pub mod CompleteBlocks
 pub mod CompleteStatements
 pub mod CompletePrograms
+pub mod NearSteps
+pub mod NearExpressions
+pub mod NearDeclarations
+pub mod NearEffects
+pub mod NearStatements

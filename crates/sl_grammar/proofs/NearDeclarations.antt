@@ -1,0 +1,119 @@
+-- The readers of types, declarations and parameters do the same up to a point.
+use Rattle.std.proofs.Common.{ℕ, ◌+◌, nat_lt, Bool, true, false, [], ◌∷◌, drop, refl}
+use Rattle.sl_base.specs.declared.form.Form.{Form}
+use Rattle.sl_base.specs.declared.mark.Mark.TheVariants as m
+use Rattle.sl_base.specs.declared.place.Place.{Place}
+use Rattle.sl_base.specs.declared.scalar.Scalar.{Scalar}
+use Rattle.sl_base.specs.declared.scalar.Scalar.TheVariants as c
+use Rattle.sl_syntax.specs.declared.kind.Kind.{Kind}
+use Rattle.sl_syntax.specs.declared.kind.Kind.TheVariants as k
+use Rattle.sl_syntax.specs.Written.{is_map}
+use Rattle.sl_grammar.specs.Declarations.{int_by, int, elements_by, container_type, optional_value, scalar_declaration, auto_declaration, braces, behind_equal_by, constructed, initializer_by, initializer, container_declaration, scalar_param, container_param, container_by, const_param, param_by, param, comma_param, params}
+use Rattle.sl_grammar.specs.Expressions.{expr}
+use Rattle.sl_grammar.specs.Steps.{is_mark}
+use Rattle.sl_grammar.proofs.NearExpressions.{list-near, list_before-near, expr-near}
+use Rattle.sl_grammar.proofs.NearSteps.{Twins, Level, Any, plain, tall, yields, refuses, loose, skipped, chosen, by_test, under, mark-near, identifier-near, repeat-near}
+
+module _ {b : ℕ} where
+  int_by-near : (kind : Kind) → Twins b 0 Any (int_by kind) (int_by kind)
+  int_by-near (k.Scalar c.Int) s s' = skipped (yields tt)
+  int_by-near _ s s' = refuses
+
+  int-near : Twins b 0 Any int int
+  unfolding int
+  int-near s s' = chosen int_by int_by int_by-near s s'
+
+  elements_by-near : (map : Bool) → Twins b 1 Any (elements_by map) (elements_by map)
+  elements_by-near false s s' = plain (mark-near m.Less s s') (λ _ _ s s'. plain (int-near s s')
+      (λ _ _ s s'. plain (mark-near m.Greater s s') (λ _ _ _ _. yields tt)))
+  elements_by-near true s s' = plain (mark-near m.Less s s') (λ _ _ s s'. plain (int-near s s') (λ _ _ s s'. plain (mark-near m.Comma s s')
+      (λ _ _ s s'. plain (int-near s s') (λ _ _ s s'. plain (mark-near m.Greater s s') (λ _ _ _ _. yields tt)))))
+
+  container_type-near : (form : Form) → Twins b 1 Any (container_type form) (container_type form)
+  unfolding container_type
+  container_type-near form s s' = skipped (plain (elements_by-near (is_map form) _ _) (λ _ _ _ _. yields tt))
+
+  module _ (room : ℕ) where
+    optional_value-near : Twins b 0 Level (optional_value room) (optional_value room)
+    unfolding optional_value
+    optional_value-near s s' = by_test (is_mark m.Equal) (skipped (loose (tall _ _ (expr-near (room + 1) 1 _ _) (λ _ _ _ _ _. yields refl))))
+        (yields refl)
+
+    pub scalar_declaration-near : (scalar : Scalar) → Twins b 1 Level (scalar_declaration room scalar) (scalar_declaration room scalar)
+    unfolding scalar_declaration
+    scalar_declaration-near scalar s s' = skipped (plain (identifier-near _ _)
+        (λ _ _ s s'. tall _ _ (optional_value-near s s') (λ _ _ _ _ _. yields refl)))
+
+    pub auto_declaration-near : Twins b 1 Level (auto_declaration room) (auto_declaration room)
+    unfolding auto_declaration
+    auto_declaration-near s s' = skipped (plain (identifier-near _ _) (λ _ _ s s'. plain (mark-near m.Equal s s')
+        (λ _ _ s s'. tall _ _ (expr-near (room + 1) 1 s s') (λ _ _ _ _ _. yields refl))))
+
+    braces-near : (equal : Bool) → Twins b 1 Level (braces room equal) (braces room equal)
+    unfolding braces
+    braces-near equal s s' = tall _ _ (list_before-near (expr (room + 1) 1) (expr room 1) room (expr-near (room + 1) 1)
+        (expr-near room 1) m.RightBrace s s')
+        (λ _ _ _ s s'. plain (mark-near m.RightBrace s s') (λ _ _ _ _. yields refl))
+
+    behind_equal_by-near : (kind : Kind) → Twins b 1 Level (behind_equal_by room kind) (behind_equal_by room kind)
+    behind_equal_by-near k.Name s s' = plain (identifier-near s s') (λ _ _ _ _. yields refl)
+    behind_equal_by-near (k.Mark m.LeftBrace) s s' = skipped (braces-near true _ _)
+    behind_equal_by-near _ s s' = refuses
+
+    constructed-near : Twins b 1 Level (constructed room) (constructed room)
+    unfolding constructed
+    constructed-near s s' = skipped (tall _ _ (list-near (expr (room + 1) 1) (expr room 1) room (expr-near (room + 1) 1) (expr-near room 1) _ _)
+        (λ _ _ _ s s'. plain (mark-near m.RightParenthesis s s') (λ _ _ _ _. yields refl)))
+
+    initializer_by-near : (kind : Kind) → Twins b 0 Level (initializer_by room kind) (initializer_by room kind)
+    initializer_by-near (k.Mark m.Equal) s s' = skipped (loose (chosen (behind_equal_by room) (behind_equal_by room) behind_equal_by-near (drop 1 s)
+        (drop 1 s')))
+    initializer_by-near (k.Mark m.LeftBrace) s s' = skipped (loose (braces-near false _ _))
+    initializer_by-near (k.Mark m.LeftParenthesis) s s' = loose (constructed-near s s')
+    initializer_by-near _ s s' = yields refl
+
+    initializer-near : Twins b 0 Level (initializer room) (initializer room)
+    unfolding initializer
+    initializer-near s s' = chosen (initializer_by room) (initializer_by room) initializer_by-near s s'
+
+    pub container_declaration-near : (form : Form) → Twins b 1 Level (container_declaration room form) (container_declaration room form)
+    unfolding container_declaration
+    container_declaration-near form s s' = under (nat_lt 0 room) (plain (container_type-near form s s') (λ _ _ s s'. plain (identifier-near s s')
+        (λ _ _ s s'. tall _ _ (initializer-near s s') (λ _ _ _ _ _. yields refl))))
+
+  scalar_param-near : (place place' : Place) (scalar : Scalar) → Twins b 1 Level (scalar_param place scalar) (scalar_param place' scalar)
+  unfolding scalar_param
+  scalar_param-near place place' scalar s s' = by_test (is_mark m.And) (skipped (plain (identifier-near _ _) (λ _ _ _ _. yields refl)))
+      (plain (identifier-near s s') (λ _ _ _ _. yields refl))
+
+  container_param-near : (form : Form) → Twins b 1 Level (container_param form) (container_param form)
+  unfolding container_param
+  container_param-near form s s' = plain (container_type-near form s s') (λ _ _ s s'. plain (mark-near m.And s s')
+      (λ _ _ s s'. plain (identifier-near s s') (λ _ _ _ _. yields refl)))
+
+  container_by-near : (kind : Kind) → Twins b 1 Any (container_by kind) (container_by kind)
+  container_by-near (k.Container form) s s' = container_type-near form s s'
+  container_by-near _ s s' = refuses
+
+  const_param-near : Twins b 1 Level const_param const_param
+  unfolding const_param
+  const_param-near s s' = skipped (plain (chosen container_by container_by container_by-near (drop 1 s) (drop 1 s'))
+      (λ _ _ s s'. plain (mark-near m.And s s') (λ _ _ s s'. plain (identifier-near s s') (λ _ _ _ _. yields refl))))
+
+  param_by-near : (kind : Kind) → Twins b 1 Level (param_by kind) (param_by kind)
+  param_by-near (k.Scalar scalar) s s' = skipped (scalar_param-near _ _ scalar _ _)
+  param_by-near (k.Container form) s s' = container_param-near form s s'
+  param_by-near k.Const s s' = const_param-near s s'
+  param_by-near _ s s' = refuses
+
+  param-near : Twins b 1 Level param param
+  unfolding param
+  param-near s s' = chosen param_by param_by param_by-near s s'
+
+  comma_param-near : Twins b 1 Level comma_param comma_param
+  comma_param-near s s' = plain (mark-near m.Comma s s') (λ _ _ u u'. param-near u u')
+
+  pub params-near : Twins b 0 Level params params
+  unfolding params
+  params-near s s' = by_test (is_mark m.RightParenthesis) (yields refl)
+      (loose (tall _ _ (param-near s s') (λ x y z u u'. repeat-near (is_mark m.Comma) comma_param comma_param-near (x ∷ []) (y ∷ []) z u u')))
