@@ -1,2 +1,6 @@
-pub mod StepEquations
 pub mod NameLaws
+pub mod Views
+pub mod Fuel
+pub mod RepeatLaws
+pub mod ListLaws
+pub mod CallLaws

@@ -1,11 +1,11 @@
 -- A function value that reads expressions to a depth.
-use Rattle.std.specs.Prelude.{ℕ, ◌<◌, ◌≤◌, Result, IfOk, List}
+use Rattle.std.specs.Prelude.{ℕ, ◌<◌, ◌≤◌, Result, IfOk, List, map, Vec}
 use Rattle.std.specs.declared.alloc.Global.{Global}
 use denote.Ref.{MutBor}
 use Rattle.sl_base.specs.declared.token.Token.{Token}
 use Rattle.sl_syntax.specs.declared.tree.expr.Expr.{Expr as ExprCode}
-use Rattle.sl_syntax.specs.Tree.{Expr}
-use Rattle.sl_syntax.specs.TreeView.{expr_of}
+use Rattle.sl_syntax.specs.Tree.{Expr, Exprs}
+use Rattle.sl_syntax.specs.TreeView.{expr_of, exprs_of}
 use Rattle.sl_grammar.specs.declared.fault.Fault.{Fault}
 use Rattle.sl_grammar.specs.Expressions.{expr}
 use Rattle.sl_grammar.specs.Steps.{Reads, Tall}
@@ -20,3 +20,10 @@ pub record Nests (room : ℕ) (pre : Global → MutBor (List Token) → ℕ → 
       → Reads tall_expr (expr depth least old.now) r new.now
   pub low : (alloc : Global) (old new : MutBor (List Token)) (depth least : ℕ) (r : Result (ExprCode × ℕ) Fault) → depth ≤ room → post alloc old depth least r new
       → IfOk r (λ x. x.1 < depth)
+
+-- expressions with their height, as the tree has them and as a list
+abbrev pub tall_exprs : Vec ExprCode Global × ℕ → Tall Exprs
+tall_exprs x = (exprs_of x.0.items, x.1)
+
+abbrev pub tall_list : Vec ExprCode Global × ℕ → Tall (List Expr)
+tall_list x = (map expr_of x.0.items, x.1)

@@ -96,7 +96,7 @@ impl<'a> Tokens<'a> {
     }
 
     /// Takes this mark, and gives its place.
-    #[tactic(auto, using(crate::proofs::StepEquations::mark_is))]
+    #[tactic(auto, unfolding(crate::specs::Reader::mark))]
     pub fn mark(&mut self, mark: Mark) -> Result<Place, Fault>
         ensures { Reads (λ p. p) (spec.mark mark self.old) result self.new }
     {
@@ -106,6 +106,26 @@ impl<'a> Tokens<'a> {
             Ok(place)
         } else {
             Err(self.refuse())
+        }
+    }
+
+    /// The number that stands next, and 0 where none does.
+    pub fn number(&self) -> u32
+        ensures { result ≡ spec.number_at self.now }
+    {
+        match self.rest {
+            [token, ..] => number_of(&token.word),
+            [] => 0,
+        }
+    }
+
+    /// The bytes of the text that stands next, and none where none does.
+    pub fn text(&self, alloc: Global) -> Result<Items<u8>, AllocError>
+        ensures { IfOk result (λ text. text ≡ spec.text_at self.now) }
+    {
+        match self.rest {
+            [token, ..] => text_of(alloc, &token.word),
+            [] => Ok(Items::new(alloc)),
         }
     }
 
@@ -187,4 +207,32 @@ fn library_named(place: Place, name: &Name, kind: Kind) -> Option<Identifier>
         }),
         _ => None,
     }
+}
+
+fn number_of(word: &Word) -> u32
+    ensures { result ≡ spec.number_in word.now }
+{
+    match word {
+        Word::Number(number) => *number,
+        _ => 0,
+    }
+}
+
+fn text_of(alloc: Global, word: &Word) -> Result<Items<u8>, AllocError>
+    ensures { IfOk result (λ text. text ≡ spec.text_in word.now) }
+{
+    match word {
+        Word::Text(text) => copy_of(alloc, text.as_slice()),
+        _ => Ok(Items::new(alloc)),
+    }
+}
+
+fn copy_of(alloc: Global, bytes: &[u8]) -> Result<Items<u8>, AllocError>
+    ensures { IfOk result (λ copy. copy ≡ bytes.now) }
+{
+    let mut copy = Items::new(alloc);
+    for byte in bytes {
+        copy.push(*byte)?;
+    }
+    Ok(copy)
 }
