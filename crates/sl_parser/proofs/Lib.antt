@@ -4,3 +4,4 @@ pub mod Fuel
 pub mod RepeatLaws
 pub mod ListLaws
 pub mod CallLaws
+pub mod ExprLaws

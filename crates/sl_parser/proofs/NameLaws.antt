@@ -1,5 +1,5 @@
 -- A name and a function of the library are told by the kinds of words.
-use Rattle.std.proofs.Common.{◌≡◌, refl, ℕ, Bool, true, false, List, [], ◌∷◌, drop, Option, Some, None, option_map, find, cond, Result, Ok, Err}
+use Rattle.std.proofs.Common.{◌≡◌, refl, ℕ, true, false, List, [], ◌∷◌, drop, Option, Some, None, option_map, find, cond, Ok, Err}
 use Rattle.std.specs.Str.{bytes_eq}
 use Rattle.sl_base.specs.declared.token.Token.{Token}
 use Rattle.sl_base.specs.declared.word.Word.TheVariants as w
@@ -10,7 +10,7 @@ use Rattle.sl_syntax.specs.declared.kind.Kind.TheVariants as k
 use Rattle.sl_syntax.specs.declared.tree.identifier.Identifier.{Identifier}
 use Rattle.sl_syntax.specs.Kinds.{kind_of, kind_in, kind_or, keys, libs}
 use Rattle.sl_syntax.specs.Shaped.{Each}
-use Rattle.sl_grammar.specs.Steps.{Outcome, kind_at, refusal, name_in, identifier_at, identifier, identifier_by, library, library_by as library_of_kind}
+use Rattle.sl_grammar.specs.Steps.{Outcome, refusal, name_in, identifier_at, identifier, identifier_by, library, library_by as library_of_kind}
 use Rattle.sl_parser.specs.Names.{named_at, named_by, library_at, library_by, library_named}
 
 -- what holds of each row's kind and of the other holds of the kind that is found

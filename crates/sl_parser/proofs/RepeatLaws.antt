@@ -1,5 +1,5 @@
 -- A turn of a repetition.
-use Rattle.std.proofs.Common.{◌≡◌, refl, sym, ◌∙◌, ◌≤◌, ℕ, zero, suc, ◌+◌, ◌-◌, ◌<◌, max, Bool, true, false, List, [], ◌∷◌, ◌++◌, Result, Ok, Err, cond, append_assoc, arith}
+use Rattle.std.proofs.Common.{◌≡◌, refl, ◌∙◌, ◌≤◌, ℕ, zero, suc, ◌+◌, ◌-◌, ◌<◌, max, Bool, true, false, List, [], ◌∷◌, ◌++◌, Ok, Err, cond, append_assoc, arith}
 use Rattle.sl_base.specs.declared.token.Token.{Token}
 use Rattle.sl_syntax.specs.declared.kind.Kind.{Kind}
 use Rattle.sl_grammar.specs.declared.fault.Fault.{Fault}
