@@ -1,0 +1,7 @@
+pub mod NameLaws
+pub mod Views
+pub mod Fuel
+pub mod RepeatLaws
+pub mod ListLaws
+pub mod CallLaws
+pub mod ExprLaws

@@ -1,0 +1,183 @@
+ghost use Rattle.std.specs.Prelude.{◌≡◌, ◌≤◌, ◌<◌, ◌-◌, drop, IfOk};
+ghost use Rattle.sl_grammar.specs.Steps.{Reads, here, number_at};
+ghost use Rattle.sl_syntax.specs.Tree.{number, truth};
+ghost use Rattle.sl_syntax.specs.TreeView.{expr_of};
+ghost use Rattle.sl_grammar.specs.Expressions.{call, operand_by};
+ghost use Rattle.sl_parser.specs.Nests.{Nests, tall_expr, tall_exprs};
+ghost use Rattle.sl_parser.specs.Reader as spec;
+
+use crate::expression::nested::Nested;
+use crate::tokens::Tokens;
+use sl_base::Mark;
+use sl_grammar::Fault;
+use sl_syntax::{Expr, Identifier, Kind, PrefixOperator};
+use std::alloc::Global;
+
+impl<F: Fn(Global, &mut Tokens<'_>, usize, u8) -> Result<(Expr, usize), Fault>> Nested<F> {
+    /// What begins an expression: an operand with the operators before it.
+    #[tactic(auto, unfolding(crate::specs::Reader::operand))]
+    pub fn operand(&self, tokens: &mut Tokens<'_>) -> Result<(Expr, usize), Fault>
+        requires { Nests self.now.room (F.pre self.now.inner) (F.post self.now.inner) }
+        ensures reads { Reads tall_expr (spec.operand (spec.expr self.now.room) (spec.expr (self.now.room - 1)) self.now.room tokens.old) result tokens.new }
+        ensures low { IfOk result (λ x. x.1 ≤ self.now.room) }
+    {
+        match tokens.kind() {
+            Kind::Number => Ok((number(tokens), 0)),
+            Kind::Truth(value) => Ok((truth(tokens, value), 0)),
+            Kind::Name => self.named(tokens),
+            Kind::Library => self.library_call(tokens),
+            Kind::Mark(mark) => self.marked(tokens, mark),
+            _ => Err(tokens.refuse()),
+        }
+    }
+
+    // An expression that begins with this mark.
+    fn marked(&self, tokens: &mut Tokens<'_>, mark: Mark) -> Result<(Expr, usize), Fault>
+        requires { Nests self.now.room (F.pre self.now.inner) (F.post self.now.inner) }
+        ensures reads { Reads tall_expr (operand_by (spec.expr self.now.room) (spec.expr (self.now.room - 1)) self.now.room (Kind.Mark mark) tokens.old) result tokens.new }
+        ensures low { IfOk result (λ x. x.1 ≤ self.now.room) }
+    {
+        match mark {
+            Mark::LeftParenthesis => self.parentheses(tokens),
+            Mark::Not => self.prefixed(tokens, PrefixOperator::Not),
+            Mark::Minus => self.prefixed(tokens, PrefixOperator::Negate),
+            Mark::Star => self.prefixed(tokens, PrefixOperator::Dereference),
+            Mark::PlusPlus => self.prefixed(tokens, PrefixOperator::Increment),
+            Mark::MinusMinus => self.prefixed(tokens, PrefixOperator::Decrement),
+            _ => Err(tokens.refuse()),
+        }
+    }
+
+    #[tactic(auto, using(crate::proofs::Views::expr_views), unfolding(crate::specs::Reader::parentheses))]
+    fn parentheses(&self, tokens: &mut Tokens<'_>) -> Result<(Expr, usize), Fault>
+        requires { Nests self.now.room (F.pre self.now.inner) (F.post self.now.inner) }
+        ensures reads { Reads tall_expr (spec.parentheses (spec.expr self.now.room) (spec.expr (self.now.room - 1)) self.now.room tokens.old) result tokens.new }
+        ensures low { IfOk result (λ x. x.1 ≤ self.now.room) }
+    {
+        if self.room == 0 {
+            return Err(tokens.refuse());
+        }
+        let place = tokens.place();
+        tokens.skip();
+        let (tree, height) = self.inner(tokens, self.room, 1)?;
+        tokens.mark(Mark::RightParenthesis)?;
+        let inner = Box::new(self.alloc, tree)?;
+        Ok((Expr::Parentheses { place, inner }, height + 1))
+    }
+
+    #[tactic(auto, using(crate::proofs::Views::expr_views), unfolding(crate::specs::Reader::prefixed))]
+    fn prefixed(
+        &self,
+        tokens: &mut Tokens<'_>,
+        operator: PrefixOperator,
+    ) -> Result<(Expr, usize), Fault>
+        requires { Nests self.now.room (F.pre self.now.inner) (F.post self.now.inner) }
+        ensures reads { Reads tall_expr (spec.prefixed (spec.expr self.now.room) (spec.expr (self.now.room - 1)) self.now.room operator tokens.old) result tokens.new }
+        ensures low { IfOk result (λ x. x.1 ≤ self.now.room) }
+    {
+        if self.room == 0 {
+            return Err(tokens.refuse());
+        }
+        let place = tokens.place();
+        tokens.skip();
+        let (tree, height) = self.inner(tokens, self.room, 7)?;
+        let operand = Box::new(self.alloc, tree)?;
+        Ok((
+            Expr::Prefix {
+                operator,
+                place,
+                operand,
+            },
+            height + 1,
+        ))
+    }
+
+    // A name, or a call of a function of the program.
+    #[tactic(auto, unfolding(crate::specs::Reader::named))]
+    fn named(&self, tokens: &mut Tokens<'_>) -> Result<(Expr, usize), Fault>
+        requires { Nests self.now.room (F.pre self.now.inner) (F.post self.now.inner) }
+        ensures reads { Reads tall_expr (spec.named (spec.expr self.now.room) (spec.expr (self.now.room - 1)) self.now.room tokens.old) result tokens.new }
+        ensures low { IfOk result (λ x. x.1 ≤ self.now.room) }
+    {
+        let name = tokens.identifier()?;
+        if tokens.sees(Mark::LeftParenthesis) {
+            self.call(tokens, name)
+        } else {
+            Ok((Expr::Name(name), 0))
+        }
+    }
+
+    #[tactic(auto, using(crate::proofs::Views::expr_views))]
+    fn call(&self, tokens: &mut Tokens<'_>, function: Identifier) -> Result<(Expr, usize), Fault>
+        requires { Nests self.now.room (F.pre self.now.inner) (F.post self.now.inner) }
+        ensures reads { Reads tall_expr (call (spec.expr self.now.room) (spec.expr (self.now.room - 1)) self.now.room function tokens.old) result tokens.new }
+        ensures low { IfOk result (λ x. x.1 ≤ self.now.room) }
+    {
+        if self.room == 0 {
+            return Err(tokens.refuse());
+        }
+        let (arguments, height) = self.arguments(tokens)?;
+        Ok((
+            Expr::Call {
+                function,
+                arguments,
+            },
+            height + 1,
+        ))
+    }
+
+    #[tactic(auto, using(crate::proofs::Views::expr_views), unfolding(crate::specs::Reader::library_call))]
+    fn library_call(&self, tokens: &mut Tokens<'_>) -> Result<(Expr, usize), Fault>
+        requires { Nests self.now.room (F.pre self.now.inner) (F.post self.now.inner) }
+        ensures reads { Reads tall_expr (spec.library_call (spec.expr self.now.room) (spec.expr (self.now.room - 1)) self.now.room tokens.old) result tokens.new }
+        ensures low { IfOk result (λ x. x.1 ≤ self.now.room) }
+    {
+        if self.room == 0 {
+            return Err(tokens.refuse());
+        }
+        let function = tokens.library()?;
+        let (arguments, height) = self.arguments(tokens)?;
+        Ok((
+            Expr::LibraryCall {
+                function,
+                arguments,
+            },
+            height + 1,
+        ))
+    }
+
+    /// What stands in parentheses behind the name of a function, with them.
+    #[tactic(auto, unfolding(crate::specs::Reader::arguments))]
+    pub fn arguments(&self, tokens: &mut Tokens<'_>) -> Result<(Vec<Expr>, usize), Fault>
+        requires reader { Nests self.now.room (F.pre self.now.inner) (F.post self.now.inner) }
+        requires some { 0 < self.now.room }
+        ensures reads { Reads tall_exprs (spec.arguments (spec.expr self.now.room) (spec.expr (self.now.room - 1)) self.now.room tokens.old) result tokens.new }
+        ensures low { IfOk result (λ x. x.1 < self.now.room) }
+    {
+        tokens.mark(Mark::LeftParenthesis)?;
+        let list = self.list_before(tokens, Mark::RightParenthesis)?;
+        tokens.mark(Mark::RightParenthesis)?;
+        Ok(list)
+    }
+}
+
+// The number that stands next.
+fn number(tokens: &mut Tokens<'_>) -> Expr
+    ensures tree { expr_of result ≡ number (here tokens.old) (number_at tokens.old) }
+    ensures rest { tokens.new ≡ drop 1 tokens.old }
+{
+    let place = tokens.place();
+    let value = tokens.number();
+    tokens.skip();
+    Expr::Number { place, value }
+}
+
+// The truth value that stands next.
+fn truth(tokens: &mut Tokens<'_>, value: bool) -> Expr
+    ensures tree { expr_of result ≡ truth (here tokens.old) value }
+    ensures rest { tokens.new ≡ drop 1 tokens.old }
+{
+    let place = tokens.place();
+    tokens.skip();
+    Expr::Truth { place, value }
+}

@@ -1,0 +1,5 @@
+//! Reads tokens as a program.
+#![tactic(auto)]
+
+mod expression;
+mod tokens;
