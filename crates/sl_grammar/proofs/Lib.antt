@@ -1,2 +1,6 @@
 mod Examples
 pub mod KindLaws
+pub mod SoundSteps
+pub mod SoundLists
+pub mod SoundOperands
+pub mod SoundExpressions
