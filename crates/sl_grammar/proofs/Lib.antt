@@ -4,3 +4,4 @@ pub mod SoundSteps
 pub mod SoundLists
 pub mod SoundOperands
 pub mod SoundExpressions
+pub mod SoundEffects

@@ -114,6 +114,13 @@ untold x place (t ∷ ts) rest a = ((a.0.0, tt), a.1)
 pub mark_plain : (x : Mark) (ts : List Token) (y : Place × List Token) → mark x ts ≡ Ok y → Spelled (s.mark x ∷ []) ts y.1
 mark_plain x ts y h = record { spells = untold (w.Mark x) y.0 ts y.1 (mark_took x ts y h).spells }
 
+-- the tokens behind a mark
+pub mark_rest : (x : Mark) (ts : List Token) (y : Place × List Token) → mark x ts ≡ Ok y → y.1 ≡ drop 1 ts
+unfolding mark
+mark_rest x ts y h =
+    let P : Place × List Token → Type 0 = λ z. z.1 ≡ drop 1 ts in
+    guarded (is_mark x (kind_at ts)) _ _ y P h (λ sees h1. answered _ y P h1 refl)
+
 name_took : (kind : Kind) (ts : List Token) (y : Identifier × List Token) → kind_at ts ≡ kind → identifier_by kind ts ≡ Ok y → Spelled (named y.0 ∷ []) ts y.1
 name_took k.Name ts y e h = answered _ y (λ z. Spelled (named z.0 ∷ []) ts z.1) h (one_name ts e)
 name_took _ ts y e h = absurd cc
