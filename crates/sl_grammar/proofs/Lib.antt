@@ -5,3 +5,4 @@ pub mod SoundLists
 pub mod SoundOperands
 pub mod SoundExpressions
 pub mod SoundEffects
+pub mod SoundDeclarations
