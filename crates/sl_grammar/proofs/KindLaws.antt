@@ -145,6 +145,27 @@ library_word (w.Number n) h = absurd cc
 library_word (w.Text bytes) h = absurd cc
 library_word (w.Mark m) h = absurd cc
 
+abbrev no_end : Kind → Bool
+no_end k.End = false
+no_end _ = true
+
+key_no_end : (bytes : List ℕ) → no_end (kind_in keys k.Other bytes) ≡ true
+key_no_end bytes = in_rows (λ _ kind. no_end kind ≡ true) bytes k.Other refl keys
+    (refl, (refl, (refl, (refl, (refl, (refl, (refl, (refl, (refl, (refl, (refl, (refl, (refl, (refl, tt))))))))))))))
+
+lib_no_end : (bytes : List ℕ) → no_end (kind_in libs k.Library bytes) ≡ true
+lib_no_end bytes = in_rows (λ _ kind. no_end kind ≡ true) bytes k.Library refl libs
+    (refl, (refl, (refl, (refl, (refl, (refl, (refl, (refl, (refl, (refl, (refl, (refl, tt))))))))))))
+
+-- a word is no end
+pub not_end : (y : Word) → kind_of y ≡ k.End → ⊥
+not_end (w.Name name) h = absurd cc
+not_end (w.Lib name) h = apart no_end _ _ (lib_no_end name) refl h
+not_end (w.Key name) h = apart no_end _ _ (key_no_end name) refl h
+not_end (w.Number n) h = absurd cc
+not_end (w.Text bytes) h = absurd cc
+not_end (w.Mark m) h = absurd cc
+
 -- a kind that is seen to be this mark
 pub is_mark_kind : (x : Mark) (kind : Kind) → is_mark x kind ≡ true → kind ≡ k.Mark x
 is_mark_kind x (k.Mark y) h = ap k.Mark (same_true the_type (search rules) y x h)

@@ -6,3 +6,5 @@ pub mod SoundOperands
 pub mod SoundExpressions
 pub mod SoundEffects
 pub mod SoundDeclarations
+pub mod SoundBlocks
+pub mod SoundFors

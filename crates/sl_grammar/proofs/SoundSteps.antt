@@ -107,6 +107,14 @@ mark_took x ts y h =
     guarded (is_mark x (kind_at ts)) _ _ y P h (λ sees h1.
     answered _ y P h1 (one_word ts (k.Mark x) (w.Mark x) (is_mark_kind x (kind_at ts) sees) refl))
 
+-- a mark that was read stood at the first place
+pub mark_here : (x : Mark) (ts : List Token) (y : Place × List Token) → mark x ts ≡ Ok y → Spelled (at (here ts) (w.Mark x) ∷ []) ts y.1
+unfolding mark
+mark_here x ts y h =
+    let P : Place × List Token → Type 0 = λ z. Spelled (at (here ts) (w.Mark x) ∷ []) ts z.1 in
+    guarded (is_mark x (kind_at ts)) _ _ y P h (λ sees h1.
+    answered _ y P h1 (one_word ts (k.Mark x) (w.Mark x) (is_mark_kind x (kind_at ts) sees) refl))
+
 untold : (x : Word) (place : Place) (ts rest : List Token) → Spells (at place x ∷ []) ts rest → Spells (plain x ∷ []) ts rest
 untold x place [] rest a = a
 untold x place (t ∷ ts) rest a = ((a.0.0, tt), a.1)
