@@ -8,3 +8,5 @@ pub mod SoundEffects
 pub mod SoundDeclarations
 pub mod SoundBlocks
 pub mod SoundFors
+pub mod SoundStatements
+pub mod SoundPrograms
