@@ -62,15 +62,65 @@ none_fixed make bytes kind h x e = absurd cc
 
 key_fixed : (bytes : List ℕ) → Only w.Key bytes (kind_in keys k.Other bytes)
 key_fixed bytes =
-    in_rows (Only w.Key) bytes k.Other (none_fixed w.Key bytes k.Other refl) keys
-    (λ x e. cc, (λ x e. cc, (λ x e. cc, (λ x e. cc, (λ x e. cc, (λ x e. cc, (λ x e. cc, (λ x e. cc, (λ x e. cc,
-    (λ x e. cc, (λ x e. cc, (λ x e. cc, (λ x e. cc, (λ x e. cc, tt))))))))))))))
+    in_rows (Only w.Key) bytes k.Other (none_fixed w.Key bytes k.Other refl) keys (
+      λ x e. cc,
+      (
+        λ x e. cc,
+        (
+          λ x e. cc,
+          (
+            λ x e. cc,
+            (
+              λ x e. cc,
+              (
+                λ x e. cc,
+                (
+                  λ x e. cc,
+                  (
+                    λ x e. cc,
+                    (
+                      λ x e. cc,
+                      (λ x e. cc, (λ x e. cc, (λ x e. cc, (λ x e. cc, (λ x e. cc, tt))))),
+                    ),
+                  ),
+                ),
+              ),
+            ),
+          ),
+        ),
+      ),
+    )
 
 lib_fixed : (bytes : List ℕ) → Only w.Lib bytes (kind_in libs k.Library bytes)
 lib_fixed bytes =
-    in_rows (Only w.Lib) bytes k.Library (none_fixed w.Lib bytes k.Library refl) libs
-    (λ x e. cc, (λ x e. cc, (λ x e. cc, (λ x e. cc, (λ x e. cc, (λ x e. cc, (λ x e. cc, (λ x e. cc, (λ x e. cc,
-    (λ x e. cc, (λ x e. cc, (λ x e. cc, tt))))))))))))
+    in_rows (Only w.Lib) bytes k.Library (none_fixed w.Lib bytes k.Library refl) libs (
+      λ x e. cc,
+      (
+        λ x e. cc,
+        (
+          λ x e. cc,
+          (
+            λ x e. cc,
+            (
+              λ x e. cc,
+              (
+                λ x e. cc,
+                (
+                  λ x e. cc,
+                  (
+                    λ x e. cc,
+                    (
+                      λ x e. cc,
+                      (λ x e. cc, (λ x e. cc, (λ x e. cc, tt))),
+                    ),
+                  ),
+                ),
+              ),
+            ),
+          ),
+        ),
+      ),
+    )
 
 -- a word of a kind that has one word is that word
 pub fixed_word : (y x : Word) → fixed (kind_of y) ≡ Some x → y ≡ x

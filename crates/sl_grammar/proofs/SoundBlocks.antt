@@ -1,41 +1,26 @@
 -- What is read as a block is the words of items that follow the grammar.
-use Rattle.std.proofs.Common.{◌≡◌, ℕ, zero, suc, ◌+◌, ◌-◌, ◌<◌, ◌≤◌, max, Bool, true, false, cond, List, [], ◌∷◌, ◌++◌, length, Option, Some, None, Result, Ok, Err, refl, sym, ap, subst, ◌∙◌, rules, arith, drop, append_assoc}
-use Rattle.std.specs.Prelude.{flat_map, nat_lt, ◌&&◌, not, codes, ⊤}
-use Rattle.std.proofs.lemmas.Bool.{ltb-true, ltb-false, false≢true}
-use Rattle.sl_base.specs.declared.form.Form.{Form}
-use Rattle.sl_base.specs.declared.limits.TheConstants.{TREE_DEPTH}
-use Rattle.sl_base.specs.declared.mark.Mark.{Mark}
+use Rattle.std.proofs.Common.{◌≡◌, ℕ, ◌+◌, ◌-◌, ◌<◌, max, true, false, List, [], ◌∷◌, ◌++◌, Ok, refl, ap, arith, append_assoc}
+use Rattle.std.specs.Prelude.{flat_map, nat_lt}
+use Rattle.std.proofs.lemmas.Bool.{ltb-true}
 use Rattle.sl_base.specs.declared.mark.Mark.TheVariants as m
 use Rattle.sl_base.specs.declared.place.Place.{Place}
-use Rattle.sl_base.specs.declared.scalar.Scalar.{Scalar}
-use Rattle.sl_base.specs.declared.scalar.Scalar.TheVariants as c
 use Rattle.sl_base.specs.declared.token.Token.{Token}
-use Rattle.sl_base.specs.declared.word.Word.{Word}
-use Rattle.sl_base.specs.declared.word.Word.TheVariants as w
 use Rattle.sl_syntax.specs.declared.kind.Kind.{Kind}
 use Rattle.sl_syntax.specs.declared.kind.Kind.TheVariants as k
-use Rattle.sl_syntax.specs.declared.tree.function.Param.{Param}
-use Rattle.sl_syntax.specs.declared.tree.function.ResultType.{ResultType}
-use Rattle.sl_syntax.specs.declared.tree.function.ResultType.TheVariants as z
-use Rattle.sl_syntax.specs.declared.tree.identifier.Identifier.{Identifier}
-use Rattle.sl_syntax.specs.Depth.{height, highest, option_height, declaration_height, effect_height, cond_height, first_height, stmt_height, item_height, items_height, param_height, function_height, depth}
-use Rattle.sl_syntax.specs.Placed.{Spells, Placed}
-use Rattle.sl_syntax.specs.Shaped.{IsExpr, IfThere, IsDeclaration, IsEffect, IsCond, IsFirst, IsStmt, IsItem, AreItems, IsFunction, ends_open, Each, AreSome, Shaped}
+use Rattle.sl_syntax.specs.Depth.{highest, declaration_height, cond_height, stmt_height, item_height, items_height}
+use Rattle.sl_syntax.specs.Shaped.{IsDeclaration, IsCond, IsStmt, IsItem, AreItems, ends_open, Each}
 use Rattle.sl_syntax.specs.Tree as t
 use Rattle.sl_syntax.specs.Tree.{Expr, Declaration, Effect, Cond, First, Stmt, Item, Items, items_from, Function, Program}
 use Rattle.sl_syntax.specs.Written as s
 use Rattle.sl_syntax.specs.Written.{Written, at, plain, scalar_word, element_word, result_word, written, value_written, declaration_written, option_written, effect_written, cond_written, first_written, tested, stmt_written, item_written, items_written, params_written, function_written, program_written}
-use Rattle.sl_grammar.specs.Declarations.{scalar_declaration, auto_declaration, container_declaration, params}
+use Rattle.sl_grammar.specs.Declarations.{scalar_declaration, auto_declaration, container_declaration}
 use Rattle.sl_grammar.specs.Effects.{effect}
 use Rattle.sl_grammar.specs.Effects as effects
-use Rattle.sl_grammar.specs.Expressions.{expr}
-use Rattle.sl_grammar.specs.Statements.{is_else, is_end, is_item, is_more, ranges, is_auto, first_of, declared, item_by, item, braced, block, condition, otherwise, choice, loop, optional_cond, optional_effect, for_behind, range_behind, valued_first, variable_behind, declared_first, for_by, for_loop, returned, return_stmt, effect_stmt, word_stmt, stmt_by, stmt, function_behind, function_by, function, program}
-use Rattle.sl_grammar.specs.Steps.{Outcome, Reader, Tall, kind_at, here, is_mark, mark, identifier, all_behind}
-use Rattle.sl_grammar.proofs.KindLaws.{fixed, not_end}
-use Rattle.sl_grammar.proofs.SoundDeclarations.{scalar-part, auto-part, container-part, AnyParams, params-part}
-use Rattle.sl_grammar.proofs.SoundEffects.{effect-part, cond-part}
-use Rattle.sl_grammar.proofs.SoundExpressions.{sound, expr-part}
-use Rattle.sl_grammar.proofs.SoundSteps.{bound, chosen, guarded, answered, Spelled, ◌⨾◌, no_words, none_taken, respelled, one_word, one_plain, seen, mark_took, mark_plain, mark_here, mark_rest, identifier_took, begun, Part, Parts, More, behind}
+use Rattle.sl_grammar.specs.Statements.{is_else, is_item, declared, item_by, item, braced, condition}
+use Rattle.sl_grammar.specs.Steps.{Reader, Tall, kind_at, mark, all_behind}
+use Rattle.sl_grammar.proofs.SoundDeclarations.{scalar-part, auto-part, container-part}
+use Rattle.sl_grammar.proofs.SoundEffects.{cond-part}
+use Rattle.sl_grammar.proofs.SoundSteps.{bound, guarded, answered, ◌⨾◌, respelled, mark_took, mark_plain, mark_here, Part, Parts, behind}
 
 -- What is read as a statement: where it ends in an `if` that has no `else`, none follows.
 pub record FoundStmt (room : ℕ) (ts : List Token) (p : Tall Stmt) (rest : List Token) : Type 0 where

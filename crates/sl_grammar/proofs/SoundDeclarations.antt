@@ -1,34 +1,31 @@
 -- What is read as a type, a declaration or parameters is the words of such that follow the grammar.
-use Rattle.std.proofs.Common.{◌≡◌, ℕ, zero, suc, ◌+◌, ◌-◌, ◌<◌, ◌≤◌, max, Bool, true, false, cond, List, [], ◌∷◌, ◌++◌, length, Option, Some, None, Result, Ok, Err, refl, sym, ap, subst, ◌∙◌, rules, arith, drop}
-use Rattle.std.specs.Prelude.{flat_map, nat_lt, ◌&&◌, codes, ⊤}
-use Rattle.std.proofs.lemmas.Bool.{ltb-true, ltb-false, false≢true}
+use Rattle.std.proofs.Common.{◌≡◌, ℕ, ◌+◌, ◌-◌, ◌<◌, Bool, true, false, List, [], ◌∷◌, ◌++◌, Option, Some, None, Ok, refl, arith, drop}
+use Rattle.std.specs.Prelude.{nat_lt, codes, ⊤}
+use Rattle.std.proofs.lemmas.Bool.{ltb-true}
 use Rattle.sl_base.specs.declared.form.Form.{Form}
-use Rattle.sl_base.specs.declared.mark.Mark.{Mark}
 use Rattle.sl_base.specs.declared.mark.Mark.TheVariants as m
 use Rattle.sl_base.specs.declared.place.Place.{Place}
 use Rattle.sl_base.specs.declared.scalar.Scalar.{Scalar}
 use Rattle.sl_base.specs.declared.scalar.Scalar.TheVariants as c
 use Rattle.sl_base.specs.declared.token.Token.{Token}
-use Rattle.sl_base.specs.declared.word.Word.{Word}
 use Rattle.sl_base.specs.declared.word.Word.TheVariants as w
 use Rattle.sl_syntax.specs.declared.kind.Kind.{Kind}
 use Rattle.sl_syntax.specs.declared.kind.Kind.TheVariants as k
 use Rattle.sl_syntax.specs.declared.tree.declaration.ContainerType.{ContainerType}
 use Rattle.sl_syntax.specs.declared.tree.function.Param.{Param}
-use Rattle.sl_syntax.specs.declared.tree.function.Param.TheVariants as r
 use Rattle.sl_syntax.specs.declared.tree.identifier.Identifier.{Identifier}
-use Rattle.sl_syntax.specs.Depth.{height, list_height, highest, option_height, initializer_height, declaration_height, param_height}
-use Rattle.sl_syntax.specs.Shaped.{IsExpr, AreExprs, IfThere, IsSomeList, IsInitializer, IsDeclaration, Each, AreSome}
+use Rattle.sl_syntax.specs.Depth.{height, highest, option_height, initializer_height, declaration_height, param_height}
+use Rattle.sl_syntax.specs.Shaped.{IsExpr, IfThere, IsInitializer, IsDeclaration}
 use Rattle.sl_syntax.specs.Tree as t
 use Rattle.sl_syntax.specs.Tree.{Expr, Exprs, Initializer, Declaration}
 use Rattle.sl_syntax.specs.Written as s
 use Rattle.sl_syntax.specs.Written.{Written, at, plain, is_map, scalar_word, form_word, elements_written, container_written, written, list_written, initializer_written, value_written, declaration_written, option_written, param_written, params_written}
 use Rattle.sl_grammar.specs.Declarations.{int_by, int, elements_by, container_type, optional_value, scalar_declaration, auto_declaration, braces, behind_equal_by, constructed, initializer_by, initializer, container_declaration, scalar_param, container_param, container_by, const_param, param_by, param, comma_param, params}
 use Rattle.sl_grammar.specs.Expressions.{expr, list, list_before}
-use Rattle.sl_grammar.specs.Steps.{Outcome, Reader, Tall, kind_at, here, is_mark, mark, identifier, all_behind}
+use Rattle.sl_grammar.specs.Steps.{Tall, kind_at, here, is_mark, mark, identifier}
 use Rattle.sl_grammar.proofs.SoundExpressions.{sound, expr-part}
-use Rattle.sl_grammar.proofs.SoundLists.{SomeExprs, list-part, list-before-part}
-use Rattle.sl_grammar.proofs.SoundSteps.{bound, chosen, guarded, answered, Spelled, ◌⨾◌, no_words, respelled, one_word, one_plain, seen, mark_took, mark_plain, mark_rest, identifier_took, Part, Parts, More, behind}
+use Rattle.sl_grammar.proofs.SoundLists.{list-part, list-before-part}
+use Rattle.sl_grammar.proofs.SoundSteps.{bound, chosen, guarded, answered, Spelled, ◌⨾◌, no_words, respelled, one_word, one_plain, seen, mark_plain, identifier_took, Part, Parts, behind}
 
 int-by : (kind : Kind) (ts : List Token) (y : Unit {0} × List Token) → kind_at ts ≡ kind → int_by kind ts ≡ Ok y → Spelled (plain (scalar_word c.Int) ∷ []) ts y.1
 int-by (k.Scalar c.Int) ts y e h = answered _ y (λ z. Spelled (plain (scalar_word c.Int) ∷ []) ts z.1) h (one_plain ts (k.Scalar c.Int) (scalar_word c.Int) e refl)

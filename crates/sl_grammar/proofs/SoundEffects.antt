@@ -1,20 +1,17 @@
 -- What is read as an effect or a condition is the words of one that follows the grammar.
-use Rattle.std.proofs.Common.{◌≡◌, ℕ, zero, suc, ◌+◌, ◌-◌, ◌<◌, ◌≤◌, max, Bool, true, false, cond, List, [], ◌∷◌, ◌++◌, length, Option, Some, None, Result, Ok, Err, refl, sym, ap, subst, ◌∙◌, rules, arith, drop}
-use Rattle.std.specs.Prelude.{flat_map, nat_lt, ◌&&◌, codes, ⊤}
-use Rattle.std.proofs.lemmas.Bool.{ltb-true, ltb-false, false≢true}
-use Rattle.sl_base.specs.declared.mark.Mark.{Mark}
+use Rattle.std.proofs.Common.{◌≡◌, ℕ, ◌+◌, ◌-◌, ◌<◌, true, List, [], ◌∷◌, Option, Some, None, Ok, refl, sym, ap, ◌∙◌, arith, drop}
+use Rattle.std.specs.Prelude.{nat_lt, ◌&&◌, codes, ⊤}
+use Rattle.std.proofs.lemmas.Bool.{ltb-true, false≢true}
 use Rattle.sl_base.specs.declared.mark.Mark.TheVariants as m
-use Rattle.sl_base.specs.declared.place.Place.{Place}
 use Rattle.sl_base.specs.declared.token.Token.{Token}
-use Rattle.sl_base.specs.declared.word.Word.{Word}
 use Rattle.sl_base.specs.declared.word.Word.TheVariants as w
 use Rattle.sl_syntax.specs.declared.kind.Kind.{Kind}
 use Rattle.sl_syntax.specs.declared.kind.Kind.TheVariants as k
 use Rattle.sl_syntax.specs.declared.operator.Assignment.{Assignment}
 use Rattle.sl_syntax.specs.declared.tree.effect.Read.{Read}
 use Rattle.sl_syntax.specs.declared.tree.identifier.Identifier.{Identifier}
-use Rattle.sl_syntax.specs.Depth.{height, out_height, effect_height, cond_height, highest}
-use Rattle.sl_syntax.specs.Shaped.{level, IsExpr, IsRead, IsOut, IsEffect, IsCond, Each, AreSome}
+use Rattle.sl_syntax.specs.Depth.{height, out_height, effect_height, cond_height}
+use Rattle.sl_syntax.specs.Shaped.{IsExpr, IsRead, IsOut, IsEffect, IsCond}
 use Rattle.sl_syntax.specs.Tree as t
 use Rattle.sl_syntax.specs.Tree.{Expr, Out, Effect, Cond}
 use Rattle.sl_syntax.specs.Written as s
@@ -22,10 +19,10 @@ use Rattle.sl_syntax.specs.Written.{Written, at, assignment_mark, written, out_w
 use Rattle.sl_grammar.specs.Effects.{shifted_name, read, is_input, out_by, shifted_out, print, assignment_of, assigned_by, assigned, effect_by, effect, begins_no_read, no_read, cond_by}
 use Rattle.sl_grammar.specs.Effects as effects
 use Rattle.sl_grammar.specs.Expressions.{expr}
-use Rattle.sl_grammar.specs.Steps.{Outcome, Reader, Tall, kind_at, here, is_mark, mark, identifier, all_behind}
+use Rattle.sl_grammar.specs.Steps.{Tall, kind_at, is_mark, mark, identifier, all_behind}
 use Rattle.sl_grammar.proofs.KindLaws.{is_mark_kind}
 use Rattle.sl_grammar.proofs.SoundExpressions.{sound, expr-part}
-use Rattle.sl_grammar.proofs.SoundSteps.{bound, chosen, guarded, answered, Spelled, ◌⨾◌, one_word, one_plain, one_text, mark_took, mark_plain, mark_rest, identifier_took, Part, Parts, More, behind}
+use Rattle.sl_grammar.proofs.SoundSteps.{bound, some_one, both, chosen, guarded, answered, ◌⨾◌, one_word, one_text, mark_plain, mark_rest, identifier_took, Part, Parts, behind}
 
 -- `>> x`
 abbrev name_written : Identifier → List Written
@@ -113,9 +110,6 @@ module _ (room : ℕ) where
         low = omega (arith, above, first.size, first.low, others.size, others.low);
       }))))
 
-  some_one : {A : Type 0} {a b : A} → Some a ≡ Some b → a ≡ b
-  some_one h = cc
-
   assignment-mark : (kind : Kind) (op : Assignment) → assignment_of room kind ≡ Some op → kind ≡ k.Mark (assignment_mark op)
   assignment-mark (k.Mark m.Equal) op h = ap (λ (o : Assignment). k.Mark (assignment_mark o)) (some_one h)
   assignment-mark (k.Mark m.PlusEqual) op h = ap (λ (o : Assignment). k.Mark (assignment_mark o)) (some_one h)
@@ -162,10 +156,6 @@ module _ (room : ℕ) where
   pub effect-part : Parts effect_written IsEffect effect_height room (effect room)
   unfolding effect
   effect-part ts y h = effect-by (kind_at ts) ts y refl h
-
-  both : (a b : Bool) → a && b ≡ true → (a ≡ true) × (b ≡ true)
-  both true b h = (refl, h)
-  both false b h = absurd (false≢true h)
 
   is_input_kind : (kind : Kind) → is_input kind ≡ true → kind ≡ k.Input
   is_input_kind k.Input h = refl

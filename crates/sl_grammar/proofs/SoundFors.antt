@@ -1,10 +1,7 @@
 -- What is read as a `for` is the words of one that follows the grammar.
-use Rattle.std.proofs.Common.{◌≡◌, ℕ, zero, suc, ◌+◌, ◌-◌, ◌<◌, ◌≤◌, max, Bool, true, false, cond, List, [], ◌∷◌, ◌++◌, length, Option, Some, None, Result, Ok, Err, refl, sym, ap, subst, ◌∙◌, rules, arith, drop, append_assoc}
-use Rattle.std.specs.Prelude.{flat_map, nat_lt, ◌&&◌, not, codes, ⊤}
-use Rattle.std.proofs.lemmas.Bool.{ltb-true, ltb-false, false≢true}
-use Rattle.sl_base.specs.declared.form.Form.{Form}
-use Rattle.sl_base.specs.declared.limits.TheConstants.{TREE_DEPTH}
-use Rattle.sl_base.specs.declared.mark.Mark.{Mark}
+use Rattle.std.proofs.Common.{◌≡◌, ℕ, ◌+◌, true, List, [], ◌∷◌, Option, Some, None, Ok, refl, ap, ◌∙◌, arith, drop}
+use Rattle.std.specs.Prelude.{nat_lt, ◌&&◌, codes}
+use Rattle.std.proofs.lemmas.Bool.{false≢true}
 use Rattle.sl_base.specs.declared.mark.Mark.TheVariants as m
 use Rattle.sl_base.specs.declared.place.Place.{Place}
 use Rattle.sl_base.specs.declared.scalar.Scalar.{Scalar}
@@ -14,28 +11,22 @@ use Rattle.sl_base.specs.declared.word.Word.{Word}
 use Rattle.sl_base.specs.declared.word.Word.TheVariants as w
 use Rattle.sl_syntax.specs.declared.kind.Kind.{Kind}
 use Rattle.sl_syntax.specs.declared.kind.Kind.TheVariants as k
-use Rattle.sl_syntax.specs.declared.tree.function.Param.{Param}
-use Rattle.sl_syntax.specs.declared.tree.function.ResultType.{ResultType}
-use Rattle.sl_syntax.specs.declared.tree.function.ResultType.TheVariants as z
 use Rattle.sl_syntax.specs.declared.tree.identifier.Identifier.{Identifier}
-use Rattle.sl_syntax.specs.Depth.{height, highest, option_height, declaration_height, effect_height, cond_height, first_height, stmt_height, item_height, items_height, param_height, function_height, depth}
-use Rattle.sl_syntax.specs.Placed.{Spells, Placed}
-use Rattle.sl_syntax.specs.Shaped.{IsExpr, IfThere, IsDeclaration, IsEffect, IsCond, IsFirst, IsStmt, IsItem, AreItems, IsFunction, ends_open, Each, AreSome, Shaped}
+use Rattle.sl_syntax.specs.Depth.{height, option_height, effect_height, cond_height, first_height}
+use Rattle.sl_syntax.specs.Shaped.{IsExpr, IfThere, IsEffect, IsCond, IsFirst}
 use Rattle.sl_syntax.specs.Tree as t
 use Rattle.sl_syntax.specs.Tree.{Expr, Declaration, Effect, Cond, First, Stmt, Item, Items, items_from, Function, Program}
 use Rattle.sl_syntax.specs.Written as s
 use Rattle.sl_syntax.specs.Written.{Written, at, plain, scalar_word, element_word, result_word, written, value_written, declaration_written, option_written, effect_written, cond_written, first_written, tested, stmt_written, item_written, items_written, params_written, function_written, program_written}
-use Rattle.sl_grammar.specs.Declarations.{scalar_declaration, auto_declaration, container_declaration, params}
 use Rattle.sl_grammar.specs.Effects.{effect}
 use Rattle.sl_grammar.specs.Effects as effects
 use Rattle.sl_grammar.specs.Expressions.{expr}
-use Rattle.sl_grammar.specs.Statements.{is_else, is_end, is_item, is_more, ranges, is_auto, first_of, declared, item_by, item, braced, block, condition, otherwise, choice, loop, optional_cond, optional_effect, for_behind, range_behind, valued_first, variable_behind, declared_first, for_by, for_loop, returned, return_stmt, effect_stmt, word_stmt, stmt_by, stmt, function_behind, function_by, function, program}
-use Rattle.sl_grammar.specs.Steps.{Outcome, Reader, Tall, kind_at, here, is_mark, mark, identifier, all_behind}
-use Rattle.sl_grammar.proofs.KindLaws.{fixed, not_end}
-use Rattle.sl_grammar.proofs.SoundDeclarations.{scalar-part, auto-part, container-part, AnyParams, params-part}
+use Rattle.sl_grammar.specs.Statements.{ranges, is_auto, first_of, optional_cond, optional_effect, for_behind, range_behind, valued_first, variable_behind, declared_first, for_by, for_loop}
+use Rattle.sl_grammar.specs.Steps.{Reader, Tall, kind_at, here, is_mark, mark, identifier}
+use Rattle.sl_grammar.proofs.KindLaws.{fixed}
 use Rattle.sl_grammar.proofs.SoundEffects.{effect-part, cond-part}
-use Rattle.sl_grammar.proofs.SoundExpressions.{sound, expr-part}
-use Rattle.sl_grammar.proofs.SoundSteps.{bound, chosen, guarded, answered, Spelled, ◌⨾◌, no_words, none_taken, respelled, one_word, one_plain, seen, mark_took, mark_plain, mark_here, mark_rest, identifier_took, begun, Part, Parts, More, behind}
+use Rattle.sl_grammar.proofs.SoundExpressions.{sound}
+use Rattle.sl_grammar.proofs.SoundSteps.{bound, both, chosen, guarded, answered, Spelled, ◌⨾◌, no_words, respelled, one_word, one_plain, mark_plain, identifier_took, Part, Parts}
 use Rattle.sl_grammar.proofs.SoundBlocks.{FoundStmt, Finds}
 
 -- what stands before the first `;` of a `for`
@@ -73,10 +64,6 @@ first-fits (Some scalar) place x v h = h
 first-height : (type : Option Scalar) (place : Place) (x : Identifier) (v : Expr) → first_height (first_of type place x v) ≡ height v + 1
 first-height None place x v = refl
 first-height (Some scalar) place x v = refl
-
-both : (a b : Bool) → a && b ≡ true → (a ≡ true) × (b ≡ true)
-both true b h = (refl, h)
-both false b h = absurd (false≢true h)
 
 module _ (inner : Reader (Tall Stmt)) (room : ℕ) (f : Finds inner room) where
   cond-option : Parts (option_written cond_written) (IfThere IsCond) (option_height cond_height) room (optional_cond inner room)
@@ -163,7 +150,7 @@ module _ (inner : Reader (Tall Stmt)) (room : ℕ) (f : Finds inner room) where
       let found = sound room 1 u.1 v (omega arith) (omega arith) read in
       let first : First = first_of type (here us) x.0 v.0.0 in
       let declares : Spelled (first_written first) us v.1 = respelled (first-written type (here us) x.0 v.0.0)
-          (one_word us (type_kind type) (type_word type) e (type-fixed type) ⨾ (identifier_took (drop 1 us) x name ⨾ (mark_plain m.Equal x.1 u equal ⨾ found.1.part.spelled))) in
+      (one_word us (type_kind type) (type_word type) e (type-fixed type) ⨾ (identifier_took (drop 1 us) x name ⨾ (mark_plain m.Equal x.1 u equal ⨾ found.1.part.spelled))) in
       for_behind-found ts v.1 (Some first, v.0.1 + 1) y (record {
         spelled = opened ⨾ declares;
         fits = first-fits type (here us) x.0 v.0.0 found.1.part.fits;

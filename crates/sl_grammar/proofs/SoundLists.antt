@@ -1,36 +1,19 @@
 -- What is read as a list of expressions is the words of one, where the readers of its expressions read such.
-use Rattle.std.proofs.Common.{◌≡◌, ℕ, zero, suc, ◌+◌, ◌-◌, ◌<◌, ◌≤◌, max, Bool, true, false, cond, List, [], ◌∷◌, ◌++◌, Option, Some, None, Result, Ok, Err, refl, sym, ap, subst, ◌∙◌, rules, arith, drop}
+use Rattle.std.proofs.Common.{◌≡◌, ℕ, ◌+◌, ◌-◌, ◌<◌, max, List, [], ◌∷◌, ◌++◌, Ok, refl, ap, arith}
 use Rattle.std.specs.Prelude.{flat_map, nat_lt}
-use Rattle.std.proofs.lemmas.Bool.{ltb-true, ltb-false, false≢true}
+use Rattle.std.proofs.lemmas.Bool.{ltb-true}
 use Rattle.sl_base.specs.declared.mark.Mark.{Mark}
 use Rattle.sl_base.specs.declared.mark.Mark.TheVariants as m
-use Rattle.sl_base.specs.declared.place.Place.{Place}
 use Rattle.sl_base.specs.declared.token.Token.{Token}
-use Rattle.sl_base.specs.declared.word.Word.{Word}
-use Rattle.sl_base.specs.declared.word.Word.TheVariants as w
-use Rattle.sl_syntax.specs.declared.kind.Kind.{Kind}
-use Rattle.sl_syntax.specs.declared.kind.Kind.TheVariants as k
-use Rattle.sl_syntax.specs.declared.operator.Arithmetic.{Arithmetic}
-use Rattle.sl_syntax.specs.declared.operator.Arithmetic.TheVariants as arithmetic
-use Rattle.sl_syntax.specs.declared.operator.BinaryOperator.{BinaryOperator}
-use Rattle.sl_syntax.specs.declared.operator.BinaryOperator.TheVariants as binary
-use Rattle.sl_syntax.specs.declared.operator.Comparison.{Comparison}
-use Rattle.sl_syntax.specs.declared.operator.Comparison.TheVariants as comparison
-use Rattle.sl_syntax.specs.declared.operator.PostfixOperator.{PostfixOperator}
-use Rattle.sl_syntax.specs.declared.operator.PostfixOperator.TheVariants as postfix
-use Rattle.sl_syntax.specs.declared.operator.PrefixOperator.{PrefixOperator}
-use Rattle.sl_syntax.specs.declared.operator.PrefixOperator.TheVariants as prefix
-use Rattle.sl_syntax.specs.declared.operator.Selector.TheVariants as selector
-use Rattle.sl_syntax.specs.declared.tree.identifier.Identifier.{Identifier}
 use Rattle.sl_syntax.specs.Depth.{height, list_height, rest_height, highest}
-use Rattle.sl_syntax.specs.Shaped.{binary_level, arithmetic_level, comparison_level, level, IsExpr, AreExprs, IsSomeList, Each, AreSome}
+use Rattle.sl_syntax.specs.Shaped.{IsExpr, AreExprs, IsSomeList, Each, AreSome}
 use Rattle.sl_syntax.specs.Tree as t
 use Rattle.sl_syntax.specs.Tree.{Expr, Exprs, exprs_from}
 use Rattle.sl_syntax.specs.Written as s
 use Rattle.sl_syntax.specs.Written.{Written, at, binary_mark, prefix_mark, postfix_mark, written, list_written, rest_written}
-use Rattle.sl_grammar.specs.Expressions.{infix_of, binds_or, piece_level, goes_on, comma_expr, list_behind, list, list_before, arguments, call, name_or_call, named, library_call, parentheses, prefixed, operand_by, operand, indexed, member_by, dotted, pointed, postfixed, piece_by, piece, combined, operation_by, operation, climb, from_operand, expr}
-use Rattle.sl_grammar.specs.Steps.{Outcome, Reader, Tall, kind_at, here, is_mark, mark, identifier, library, number_at, all_behind}
-use Rattle.sl_grammar.proofs.SoundSteps.{bound, chosen, guarded, answered, Spelled, ◌⨾◌, no_words, respelled, one_word, one_number, seen, mark_took, mark_plain, identifier_took, library_took, Part, Parts, More, behind, some_items}
+use Rattle.sl_grammar.specs.Expressions.{comma_expr, list_behind, list, list_before}
+use Rattle.sl_grammar.specs.Steps.{Reader, Tall, kind_at, is_mark, mark, all_behind}
+use Rattle.sl_grammar.proofs.SoundSteps.{bound, chosen, guarded, answered, ◌⨾◌, no_words, respelled, mark_plain, Part, Parts, behind, some_items}
 
 -- a list behind its first expression
 abbrev comma_written : Expr → List Written

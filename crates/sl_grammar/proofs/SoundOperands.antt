@@ -1,37 +1,27 @@
 -- What is read as an operand is the words of one that follows the grammar.
-use Rattle.std.proofs.Common.{◌≡◌, ℕ, zero, suc, ◌+◌, ◌-◌, ◌<◌, ◌≤◌, max, Bool, true, false, cond, List, [], ◌∷◌, ◌++◌, Option, Some, None, Result, Ok, Err, refl, sym, ap, subst, ◌∙◌, rules, arith, drop}
-use Rattle.std.specs.Prelude.{flat_map, nat_lt}
-use Rattle.std.proofs.lemmas.Bool.{ltb-true, ltb-false, false≢true}
-use Rattle.sl_base.specs.declared.mark.Mark.{Mark}
+use Rattle.std.proofs.Common.{◌≡◌, ℕ, ◌-◌, ◌<◌, ◌≤◌, List, [], ◌∷◌, ◌++◌, Option, Some, None, Ok, refl, ap, arith, drop}
+use Rattle.std.specs.Prelude.{nat_lt}
+use Rattle.std.proofs.lemmas.Bool.{ltb-true}
 use Rattle.sl_base.specs.declared.mark.Mark.TheVariants as m
-use Rattle.sl_base.specs.declared.place.Place.{Place}
 use Rattle.sl_base.specs.declared.token.Token.{Token}
-use Rattle.sl_base.specs.declared.word.Word.{Word}
 use Rattle.sl_base.specs.declared.word.Word.TheVariants as w
 use Rattle.sl_syntax.specs.declared.kind.Kind.{Kind}
 use Rattle.sl_syntax.specs.declared.kind.Kind.TheVariants as k
-use Rattle.sl_syntax.specs.declared.operator.Arithmetic.{Arithmetic}
 use Rattle.sl_syntax.specs.declared.operator.Arithmetic.TheVariants as arithmetic
 use Rattle.sl_syntax.specs.declared.operator.BinaryOperator.{BinaryOperator}
 use Rattle.sl_syntax.specs.declared.operator.BinaryOperator.TheVariants as binary
-use Rattle.sl_syntax.specs.declared.operator.Comparison.{Comparison}
 use Rattle.sl_syntax.specs.declared.operator.Comparison.TheVariants as comparison
-use Rattle.sl_syntax.specs.declared.operator.PostfixOperator.{PostfixOperator}
-use Rattle.sl_syntax.specs.declared.operator.PostfixOperator.TheVariants as postfix
 use Rattle.sl_syntax.specs.declared.operator.PrefixOperator.{PrefixOperator}
 use Rattle.sl_syntax.specs.declared.operator.PrefixOperator.TheVariants as prefix
-use Rattle.sl_syntax.specs.declared.operator.Selector.TheVariants as selector
-use Rattle.sl_syntax.specs.declared.tree.identifier.Identifier.{Identifier}
-use Rattle.sl_syntax.specs.Depth.{height, list_height, rest_height, highest}
-use Rattle.sl_syntax.specs.Shaped.{binary_level, arithmetic_level, comparison_level, level, IsExpr, AreExprs, IsSomeList, Each, AreSome}
-use Rattle.sl_syntax.specs.Tree as t
-use Rattle.sl_syntax.specs.Tree.{Expr, Exprs, exprs_from}
+use Rattle.sl_syntax.specs.Depth.{height, list_height}
+use Rattle.sl_syntax.specs.Shaped.{binary_level, level, IsExpr, AreExprs}
+use Rattle.sl_syntax.specs.Tree.{Expr, Exprs}
 use Rattle.sl_syntax.specs.Written as s
 use Rattle.sl_syntax.specs.Written.{Written, at, binary_mark, prefix_mark, postfix_mark, written, list_written, rest_written}
-use Rattle.sl_grammar.specs.Expressions.{infix_of, binds_or, piece_level, goes_on, comma_expr, list_behind, list, list_before, arguments, call, name_or_call, named, library_call, parentheses, prefixed, operand_by, operand, indexed, member_by, dotted, pointed, postfixed, piece_by, piece, combined, operation_by, operation, climb, from_operand, expr}
-use Rattle.sl_grammar.specs.Steps.{Outcome, Reader, Tall, kind_at, here, is_mark, mark, identifier, library, number_at, all_behind}
-use Rattle.sl_grammar.proofs.SoundLists.{SomeExprs, list-before-part}
-use Rattle.sl_grammar.proofs.SoundSteps.{bound, chosen, guarded, answered, Spelled, ◌⨾◌, no_words, respelled, one_word, one_number, seen, mark_took, mark_plain, identifier_took, library_took, Part, Parts, More, behind, some_items}
+use Rattle.sl_grammar.specs.Expressions.{infix_of, binds_or, piece_level, goes_on, list_before, arguments, named, library_call, parentheses, prefixed, operand_by, operand}
+use Rattle.sl_grammar.specs.Steps.{Reader, Tall, kind_at, is_mark, mark, identifier, library}
+use Rattle.sl_grammar.proofs.SoundLists.{list-before-part}
+use Rattle.sl_grammar.proofs.SoundSteps.{bound, some_one, chosen, guarded, answered, ◌⨾◌, one_word, one_number, mark_plain, identifier_took, library_took, Part, Parts}
 
 -- what is read, where it stops, and how tightly it binds
 pub record Found (room least : ℕ) (ts : List Token) (p : Tall Expr) (rest : List Token) : Type 0 where
@@ -40,16 +30,6 @@ pub record Found (room least : ℕ) (ts : List Token) (p : Tall Expr) (rest : Li
   pub stops : goes_on (kind_at rest) < least
 
 -- how tightly operators bind
-pub binary-high : (op : BinaryOperator) → 1 ≤ binary_level op
-binary-high binary.Or = omega arith
-binary-high binary.And = omega arith
-binary-high (binary.Comparison comparison.Equal) = omega arith
-binary-high (binary.Comparison comparison.NotEqual) = omega arith
-binary-high (binary.Comparison _) = omega arith
-binary-high (binary.Arithmetic arithmetic.Add) = omega arith
-binary-high (binary.Arithmetic arithmetic.Subtract) = omega arith
-binary-high (binary.Arithmetic _) = omega arith
-
 pub binary-low : (op : BinaryOperator) → binary_level op ≤ 6
 binary-low binary.Or = omega arith
 binary-low binary.And = omega arith
@@ -74,9 +54,6 @@ binds-low other (Some op) h = omega (arith, binary-low op)
 
 pub goes-low : (kind : Kind) → goes_on kind ≤ 8
 goes-low kind = binds-low (piece_level kind) (infix_of kind) (piece-low kind)
-
-some_one : {A : Type 0} {a b : A} → Some a ≡ Some b → a ≡ b
-some_one h = cc
 
 -- an operator between two operands is the mark that it is written with
 pub infix-mark : (kind : Kind) (op : BinaryOperator) → infix_of kind ≡ Some op → kind ≡ k.Mark (binary_mark op)
@@ -118,7 +95,7 @@ module _ (inner smaller : ℕ → Reader (Tall Expr)) (room : ℕ) (f : Finds in
       bound (list_before (inner 1) (smaller 1) (room - 1) m.RightParenthesis u.1) _ y P h1 (λ xs read h2.
       bound (mark m.RightParenthesis xs.1) _ y P h2 (λ v closed h3.
       let found = list-before-part (inner 1) (smaller 1) (room - 1) (λ us z e. (f 1 us z (omega arith) (omega arith) e).1.part)
-          (λ us z e. ((g 1 us z (omega arith) (omega arith) e).0, (g 1 us z (omega arith) (omega arith) e).1.part)) m.RightParenthesis u.1 xs read in
+      (λ us z e. ((g 1 us z (omega arith) (omega arith) e).0, (g 1 us z (omega arith) (omega arith) e).1.part)) m.RightParenthesis u.1 xs read in
       answered _ y P h3 (record {
         spelled = mark_plain m.LeftParenthesis ts u opened ⨾ (found.spelled ⨾ mark_plain m.RightParenthesis xs.1 v closed);
         fits = found.fits;

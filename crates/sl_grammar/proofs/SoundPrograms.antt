@@ -1,43 +1,26 @@
 -- What is read as a program is the words of one that follows the grammar, with their places, and no token is left.
-use Rattle.std.proofs.Common.{◌≡◌, ℕ, zero, suc, ◌+◌, ◌-◌, ◌<◌, ◌≤◌, max, Bool, true, false, cond, List, [], ◌∷◌, ◌++◌, length, Option, Some, None, Result, Ok, Err, refl, sym, ap, subst, ◌∙◌, rules, arith, drop, append_assoc}
-use Rattle.std.specs.Prelude.{flat_map, nat_lt, ◌&&◌, not, codes, ⊤}
-use Rattle.std.proofs.lemmas.Bool.{ltb-true, ltb-false, false≢true}
-use Rattle.sl_base.specs.declared.form.Form.{Form}
+use Rattle.std.proofs.Common.{◌≡◌, ℕ, ◌-◌, false, List, [], ◌∷◌, Some, Ok, refl, sym, subst, arith, drop}
+use Rattle.std.proofs.lemmas.Bool.{false≢true}
 use Rattle.sl_base.specs.declared.limits.TheConstants.{TREE_DEPTH}
-use Rattle.sl_base.specs.declared.mark.Mark.{Mark}
 use Rattle.sl_base.specs.declared.mark.Mark.TheVariants as m
-use Rattle.sl_base.specs.declared.place.Place.{Place}
-use Rattle.sl_base.specs.declared.scalar.Scalar.{Scalar}
-use Rattle.sl_base.specs.declared.scalar.Scalar.TheVariants as c
 use Rattle.sl_base.specs.declared.token.Token.{Token}
-use Rattle.sl_base.specs.declared.word.Word.{Word}
-use Rattle.sl_base.specs.declared.word.Word.TheVariants as w
 use Rattle.sl_syntax.specs.declared.kind.Kind.{Kind}
 use Rattle.sl_syntax.specs.declared.kind.Kind.TheVariants as k
-use Rattle.sl_syntax.specs.declared.tree.function.Param.{Param}
 use Rattle.sl_syntax.specs.declared.tree.function.ResultType.{ResultType}
 use Rattle.sl_syntax.specs.declared.tree.function.ResultType.TheVariants as z
-use Rattle.sl_syntax.specs.declared.tree.identifier.Identifier.{Identifier}
-use Rattle.sl_syntax.specs.Depth.{height, highest, option_height, declaration_height, effect_height, cond_height, first_height, stmt_height, item_height, items_height, param_height, function_height, depth}
+use Rattle.sl_syntax.specs.Depth.{function_height}
 use Rattle.sl_syntax.specs.Kinds.{kind_of}
 use Rattle.sl_syntax.specs.Placed.{Spells, Placed}
-use Rattle.sl_syntax.specs.Shaped.{IsExpr, IfThere, IsDeclaration, IsEffect, IsCond, IsFirst, IsStmt, IsItem, AreItems, IsFunction, ends_open, Each, AreSome, Shaped}
-use Rattle.sl_syntax.specs.Tree as t
-use Rattle.sl_syntax.specs.Tree.{Expr, Declaration, Effect, Cond, First, Stmt, Item, Items, items_from, Function, Program}
-use Rattle.sl_syntax.specs.Written as s
-use Rattle.sl_syntax.specs.Written.{Written, at, plain, scalar_word, element_word, result_word, written, value_written, declaration_written, option_written, effect_written, cond_written, first_written, tested, stmt_written, item_written, items_written, params_written, function_written, program_written}
-use Rattle.sl_grammar.specs.Declarations.{scalar_declaration, auto_declaration, container_declaration, params}
-use Rattle.sl_grammar.specs.Effects.{effect}
-use Rattle.sl_grammar.specs.Effects as effects
-use Rattle.sl_grammar.specs.Expressions.{expr}
-use Rattle.sl_grammar.specs.Statements.{is_else, is_end, is_item, is_more, ranges, is_auto, first_of, declared, item_by, item, braced, block, condition, otherwise, choice, loop, optional_cond, optional_effect, for_behind, range_behind, valued_first, variable_behind, declared_first, for_by, for_loop, returned, return_stmt, effect_stmt, word_stmt, stmt_by, stmt, function_behind, function_by, function, program}
-use Rattle.sl_grammar.specs.Steps.{Outcome, Reader, Tall, kind_at, here, is_mark, mark, identifier, all_behind}
+use Rattle.sl_syntax.specs.Shaped.{IsFunction, Shaped}
+use Rattle.sl_syntax.specs.Tree.{Function, Program}
+use Rattle.sl_syntax.specs.Written.{result_word, function_written, program_written}
+use Rattle.sl_grammar.specs.Declarations.{params}
+use Rattle.sl_grammar.specs.Statements.{is_more, braced, stmt, function_behind, function_by, function, program}
+use Rattle.sl_grammar.specs.Steps.{Tall, kind_at, mark, identifier}
 use Rattle.sl_grammar.proofs.KindLaws.{fixed, not_end}
-use Rattle.sl_grammar.proofs.SoundDeclarations.{scalar-part, auto-part, container-part, AnyParams, params-part}
-use Rattle.sl_grammar.proofs.SoundEffects.{effect-part, cond-part}
-use Rattle.sl_grammar.proofs.SoundExpressions.{sound, expr-part}
-use Rattle.sl_grammar.proofs.SoundSteps.{bound, chosen, guarded, answered, Spelled, ◌⨾◌, no_words, none_taken, respelled, one_word, one_plain, seen, mark_took, mark_plain, mark_here, mark_rest, identifier_took, begun, Part, Parts, More, behind}
-use Rattle.sl_grammar.proofs.SoundBlocks.{FoundStmt, Finds, block_written, block_height, braced-part}
+use Rattle.sl_grammar.proofs.SoundDeclarations.{params-part}
+use Rattle.sl_grammar.proofs.SoundSteps.{bound, answered, Spelled, ◌⨾◌, one_word, mark_plain, identifier_took, Part, Parts, behind}
+use Rattle.sl_grammar.proofs.SoundBlocks.{braced-part}
 use Rattle.sl_grammar.proofs.SoundStatements.{stmt-sound}
 
 result_kind : ResultType → Kind
@@ -98,6 +81,8 @@ read_program ts p h rest read =
     let first = function-part ts x one in
     let others = behind function_written IsFunction function_height TREE_DEPTH is_more function function-part (x.0.0 ∷ [], x.0.1) x.1 ((p, h), rest) h1 in
     let ends : rest ≡ [] = no_token rest others.stops in
-    let all : Spelled (program_written (x.0.0 ∷ others.items)) ts rest = first.spelled ⨾ others.spelled in
-    (ends, rw others.all (record { some = omega arith; each = (first.fits, others.each); depth = omega (arith, first.size, first.low, others.low) }),
-        rw others.all (subst (λ (us : List Token). Spells (program_written (x.0.0 ∷ others.items)) ts us) ends all.spells)))
+    let all : Spelled (program_written (x.0.0 ∷ others.items)) ts rest = first.spelled ⨾ others.spelled in (
+      ends,
+      rw others.all (record { some = omega arith; each = (first.fits, others.each); depth = omega (arith, first.size, first.low, others.low) }),
+      rw others.all (subst (λ (us : List Token). Spells (program_written (x.0.0 ∷ others.items)) ts us) ends all.spells),
+    ))

@@ -1,6 +1,6 @@
 -- What follows from the answer of a step: which words it took.
-use Rattle.std.proofs.Common.{drop, length, ◌≡◌, ℕ, zero, suc, ◌+◌, ◌<◌, ◌≤◌, max, Bool, true, false, cond, List, [], ◌∷◌, ◌++◌, Option, Some, None, Result, Ok, Err, refl, sym, ap, subst, ◌∙◌, rules, arith, append_assoc}
-use Rattle.std.specs.Prelude.{flat_map}
+use Rattle.std.proofs.Common.{drop, length, ◌≡◌, ℕ, zero, suc, ◌≤◌, max, Bool, true, false, cond, List, [], ◌∷◌, ◌++◌, Some, Result, Ok, Err, refl, sym, ap, subst, ◌∙◌, arith, append_assoc}
+use Rattle.std.specs.Prelude.{flat_map, ◌&&◌}
 use Rattle.std.proofs.lemmas.Bool.{false≢true}
 use Rattle.std.proofs.lemmas.List.{append-nil}
 use Rattle.sl_base.specs.declared.mark.Mark.{Mark}
@@ -13,12 +13,12 @@ use Rattle.sl_syntax.specs.declared.kind.Kind.TheVariants as k
 use Rattle.sl_syntax.specs.declared.tree.identifier.Identifier.{Identifier}
 use Rattle.sl_syntax.specs.Depth.{highest}
 use Rattle.sl_syntax.specs.Kinds.{kind_of}
-use Rattle.sl_syntax.specs.Placed.{IsToken, Spells}
+use Rattle.sl_syntax.specs.Placed.{Spells}
 use Rattle.sl_syntax.specs.Shaped.{Each, AreSome}
 use Rattle.sl_syntax.specs.Written.{Written, at, plain, named, from_place}
 use Rattle.sl_syntax.specs.Written as s
 use Rattle.sl_grammar.specs.declared.fault.Fault.{Fault}
-use Rattle.sl_grammar.specs.Steps.{Outcome, Reader, Tall, and_then, refusal, kind_at, here, is_mark, mark, name_in, number_at, text_at, identifier_at, identifier_by, identifier, library_by, library, repeat, all_behind}
+use Rattle.sl_grammar.specs.Steps.{Outcome, Reader, Tall, and_then, kind_at, here, is_mark, mark, number_at, text_at, identifier_at, identifier_by, identifier, library_by, library, repeat, all_behind}
 use Rattle.sl_grammar.proofs.KindLaws.{fixed, word_of_kind, name_word, number_word, text_word, library_word, is_mark_kind}
 
 -- Eliminations of a step that answered Ok, each with a name for what it bound.
@@ -43,6 +43,14 @@ ok_one h = cc
 
 pub answered : {A : Type 0} (a y : A × List Token) (P : A × List Token → Type 0) → ◌≡◌ {A = Outcome A} (Ok a) (Ok y) → P a → P y
 answered a y P h p = subst P (ok_one h) p
+
+pub some_one : {A : Type 0} {a b : A} → Some a ≡ Some b → a ≡ b
+some_one h = cc
+
+-- both of two tests
+pub both : (a b : Bool) → a && b ≡ true → (a ≡ true) × (b ≡ true)
+both true b h = (refl, h)
+both false b h = absurd (false≢true h)
 
 -- the tokens begin with these words
 pub record Spelled (xs : List Written) (ts rest : List Token) : Type 0 where
@@ -153,10 +161,10 @@ library_took ts y h = lib_took (kind_at ts) ts y refl h
 pub begun : {xs : List Written} {ts rest : List Token} → Spelled xs ts rest → Spelled (from_place (here ts) xs) ts rest
 begun a = record { spells = spells-begun _ _ _ a.spells }
   where
-  spells-begun : (xs : List Written) (ts rest : List Token) → Spells xs ts rest → Spells (from_place (here ts) xs) ts rest
-  spells-begun [] ts rest a = a
-  spells-begun (x ∷ xs) [] rest a = a
-  spells-begun (x ∷ xs) (t ∷ ts) rest a = ((a.0.0, (refl, a.0.1)), a.1)
+    spells-begun : (xs : List Written) (ts rest : List Token) → Spells xs ts rest → Spells (from_place (here ts) xs) ts rest
+    spells-begun [] ts rest a = a
+    spells-begun (x ∷ xs) [] rest a = a
+    spells-begun (x ∷ xs) (t ∷ ts) rest a = ((a.0.0, (refl, a.0.1)), a.1)
 
 -- What is read: its words, that it fits, and its height, which is at most the room.
 pub record Part {A : Type 0} (written : A → List Written) (Fits : A → Type 0) (height : A → ℕ) (room : ℕ) (ts : List Token) (p : Tall A) (rest : List Token) : Type 0 where
