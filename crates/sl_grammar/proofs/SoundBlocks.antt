@@ -20,7 +20,7 @@ use Rattle.sl_grammar.specs.Statements.{is_else, is_item, declared, item_by, ite
 use Rattle.sl_grammar.specs.Steps.{Reader, Tall, kind_at, mark, all_behind}
 use Rattle.sl_grammar.proofs.SoundDeclarations.{scalar-part, auto-part, container-part}
 use Rattle.sl_grammar.proofs.SoundEffects.{cond-part}
-use Rattle.sl_grammar.proofs.SoundSteps.{bound, guarded, answered, ◌⨾◌, respelled, mark_took, mark_plain, mark_here, Part, Parts, behind}
+use Rattle.sl_grammar.proofs.SoundSteps.{Took, bound, guarded, answered, ◌⨾◌, respelled, mark_took, mark_plain, mark_here, Part, Parts, behind}
 
 -- What is read as a statement: where it ends in an `if` that has no `else`, none follows.
 pub record FoundStmt (room : ℕ) (ts : List Token) (p : Tall Stmt) (rest : List Token) : Type 0 where
@@ -29,7 +29,7 @@ pub record FoundStmt (room : ℕ) (ts : List Token) (p : Tall Stmt) (rest : List
 
 -- what a reader of statements answers is such
 abbrev pub Finds : Reader (Tall Stmt) → ℕ → Type 0
-Finds inner room = (ts : List Token) (y : Tall Stmt × List Token) → inner ts ≡ Ok y → FoundStmt room ts y.0 y.1
+Finds inner room = (ts : List Token) (y : Took Stmt) → inner ts ≡ Ok y → FoundStmt room ts y.0 y.1
 
 -- items in their order
 items-written : (xs : List Item) → flat_map item_written xs ≡ items_written (items_from xs)
@@ -61,12 +61,16 @@ condition_written c = s.mark m.LeftParenthesis ∷ (cond_written c ++ s.mark m.R
 pub tested-written : (c : Cond) (rest : List Written) → condition_written c ++ rest ≡ tested c rest
 tested-written c rest = ap (λ (l : List Written). s.mark m.LeftParenthesis ∷ l) (append_assoc (cond_written c) (s.mark m.RightParenthesis ∷ []) rest)
 
+-- what is read from these tokens
+abbrev pub ItemAt : ℕ → List Token → Took Item → Type 0
+ItemAt room ts y = Part item_written IsItem item_height room ts y.0 y.1
+
 module _ (inner : Reader (Tall Stmt)) (room : ℕ) (f : Finds inner room) where
-  declared-part : (declaration : Reader (Tall Declaration)) (ts : List Token) (y : Tall Item × List Token) → 1 < room
-      → ((x : Tall Declaration × List Token) → declaration ts ≡ Ok x → Part declaration_written IsDeclaration declaration_height (room - 2 + 1) ts x.0 x.1)
-      → declared room declaration ts ≡ Ok y → Part item_written IsItem item_height room ts y.0 y.1
+  declared-part : (declaration : Reader (Tall Declaration)) (ts : List Token) (y : Took Item) → 1 < room
+      → ((x : Took Declaration) → declaration ts ≡ Ok x → Part declaration_written IsDeclaration declaration_height (room - 2 + 1) ts x.0 x.1)
+      → declared room declaration ts ≡ Ok y → ItemAt room ts y
   declared-part declaration ts y high part h =
-      let P : Tall Item × List Token → Type 0 = λ z. Part item_written IsItem item_height room ts z.0 z.1 in
+      let P : Took Item → Type 0 = ItemAt room ts in
       bound (declaration ts) _ y P h (λ x read h1.
       bound (mark m.Semicolon x.1) _ y P h1 (λ v closed h2.
       let found = part x read in
@@ -77,22 +81,22 @@ module _ (inner : Reader (Tall Stmt)) (room : ℕ) (f : Finds inner room) where
         low = omega (arith, found.low, high);
       })))
 
-  states-part : (ts : List Token) (y : Tall Item × List Token) → item_by room inner k.End ts ≡ Ok y → Part item_written IsItem item_height room ts y.0 y.1
+  states-part : (ts : List Token) (y : Took Item) → item_by room inner k.End ts ≡ Ok y → ItemAt room ts y
   states-part ts y h =
-      let P : Tall Item × List Token → Type 0 = λ z. Part item_written IsItem item_height room ts z.0 z.1 in
+      let P : Took Item → Type 0 = ItemAt room ts in
       bound (inner ts) _ y P h (λ x read h1.
       let found = f ts x read in
       answered _ y P h1 (record { spelled = found.part.spelled; fits = found.part.fits; size = found.part.size; low = found.part.low }))
 
-  item-by : (kind : Kind) (ts : List Token) (y : Tall Item × List Token) → kind_at ts ≡ kind → item_by room inner kind ts ≡ Ok y → Part item_written IsItem item_height room ts y.0 y.1
+  item-by : (kind : Kind) (ts : List Token) (y : Took Item) → kind_at ts ≡ kind → item_by room inner kind ts ≡ Ok y → ItemAt room ts y
   item-by (k.Scalar scalar) ts y e h =
-      guarded (nat_lt 1 room) _ _ y (λ z. Part item_written IsItem item_height room ts z.0 z.1) h (λ high h1.
+      guarded (nat_lt 1 room) _ _ y (ItemAt room ts) h (λ high h1.
       declared-part (scalar_declaration (room - 2) scalar) ts y (ltb-true 1 room high) (λ x read. scalar-part (room - 2) scalar ts x e read) h1)
   item-by k.Auto ts y e h =
-      guarded (nat_lt 1 room) _ _ y (λ z. Part item_written IsItem item_height room ts z.0 z.1) h (λ high h1.
+      guarded (nat_lt 1 room) _ _ y (ItemAt room ts) h (λ high h1.
       declared-part (auto_declaration (room - 2)) ts y (ltb-true 1 room high) (λ x read. auto-part (room - 2) ts x e read) h1)
   item-by (k.Container form) ts y e h =
-      guarded (nat_lt 1 room) _ _ y (λ z. Part item_written IsItem item_height room ts z.0 z.1) h (λ high h1.
+      guarded (nat_lt 1 room) _ _ y (ItemAt room ts) h (λ high h1.
       declared-part (container_declaration (room - 2) form) ts y (ltb-true 1 room high) (λ x read. container-part (room - 2) form ts x e read) h1)
   item-by _ ts y e h = states-part ts y h
 
@@ -103,7 +107,7 @@ module _ (inner : Reader (Tall Stmt)) (room : ℕ) (f : Finds inner room) where
   pub braced-part : Parts block_written IsBlock block_height (room + 1) (braced inner room)
   unfolding braced
   braced-part ts y h =
-      let P : Tall (Place × Items × Place) × List Token → Type 0 = λ z. Part block_written IsBlock block_height (room + 1) ts z.0 z.1 in
+      let P : Took (Place × Items × Place) → Type 0 = λ z. Part block_written IsBlock block_height (room + 1) ts z.0 z.1 in
       bound (mark m.LeftBrace ts) _ y P h (λ u opened h1.
       bound (all_behind is_item (item room inner) ([], 0) u.1) _ y P h1 (λ xs read h2.
       bound (mark m.RightBrace xs.1) _ y P h2 (λ v closed h3.
@@ -118,7 +122,7 @@ module _ (inner : Reader (Tall Stmt)) (room : ℕ) (f : Finds inner room) where
   pub condition-part : Parts condition_written IsCond cond_height room (condition inner room)
   unfolding condition
   condition-part ts y h =
-      let P : Tall Cond × List Token → Type 0 = λ z. Part condition_written IsCond cond_height room ts z.0 z.1 in
+      let P : Took Cond → Type 0 = λ z. Part condition_written IsCond cond_height room ts z.0 z.1 in
       bound (mark m.LeftParenthesis ts) _ y P h (λ u opened h1.
       bound (effects.cond room u.1) _ y P h1 (λ x read h2.
       bound (mark m.RightParenthesis x.1) _ y P h2 (λ v closed h3.

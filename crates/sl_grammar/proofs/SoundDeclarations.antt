@@ -25,7 +25,21 @@ use Rattle.sl_grammar.specs.Expressions.{expr, list, list_before}
 use Rattle.sl_grammar.specs.Steps.{Tall, kind_at, here, is_mark, mark, identifier}
 use Rattle.sl_grammar.proofs.SoundExpressions.{sound, expr-part}
 use Rattle.sl_grammar.proofs.SoundLists.{list-part, list-before-part}
-use Rattle.sl_grammar.proofs.SoundSteps.{bound, chosen, guarded, answered, Spelled, ◌⨾◌, no_words, respelled, one_word, one_plain, seen, mark_plain, identifier_took, Part, Parts, behind}
+use Rattle.sl_grammar.proofs.SoundSteps.{Took, bound, chosen, guarded, answered, Spelled, ◌⨾◌, no_words, respelled, one_word, one_plain, seen, mark_plain, identifier_took, Part, Parts, behind}
+
+-- of a parameter nothing more is asked
+abbrev pub AnyParam : Param → Type 0
+AnyParam x = ⊤
+
+-- what is read from these tokens
+abbrev pub DeclarationAt : ℕ → List Token → Took Declaration → Type 0
+DeclarationAt room ts y = Part declaration_written IsDeclaration declaration_height room ts y.0 y.1
+
+abbrev pub InitializerAt : ℕ → List Token → Took Initializer → Type 0
+InitializerAt room ts y = Part initializer_written IsInitializer initializer_height room ts y.0 y.1
+
+abbrev pub ParamAt : ℕ → List Token → Took Param → Type 0
+ParamAt room ts y = Part param_written AnyParam param_height room ts y.0 y.1
 
 int-by : (kind : Kind) (ts : List Token) (y : Unit {0} × List Token) → kind_at ts ≡ kind → int_by kind ts ≡ Ok y → Spelled (plain (scalar_word c.Int) ∷ []) ts y.1
 int-by (k.Scalar c.Int) ts y e h = answered _ y (λ z. Spelled (plain (scalar_word c.Int) ∷ []) ts z.1) h (one_plain ts (k.Scalar c.Int) (scalar_word c.Int) e refl)
@@ -64,7 +78,7 @@ module _ (room : ℕ) where
   value-part : Parts (option_written value_written) (IfThere IsExpr) (option_height height) room (optional_value room)
   unfolding optional_value
   value-part ts y h =
-      let P : Tall (Option Expr) × List Token → Type 0 = λ z. Part (option_written value_written) (IfThere IsExpr) (option_height height) room ts z.0 z.1 in
+      let P : Took (Option Expr) → Type 0 = λ z. Part (option_written value_written) (IfThere IsExpr) (option_height height) room ts z.0 z.1 in
       chosen (is_mark m.Equal (kind_at ts)) _ _ y P h
       (λ equal h1.
       bound (expr (room + 1) 1 (drop 1 ts)) _ y P h1 (λ x read h2.
@@ -77,11 +91,11 @@ module _ (room : ℕ) where
   scalar-written place scalar x None = refl
   scalar-written place scalar x (Some v) = refl
 
-  pub scalar-part : (scalar : Scalar) (ts : List Token) (y : Tall Declaration × List Token) → kind_at ts ≡ k.Scalar scalar → scalar_declaration room scalar ts ≡ Ok y
-      → Part declaration_written IsDeclaration declaration_height (room + 1) ts y.0 y.1
+  pub scalar-part : (scalar : Scalar) (ts : List Token) (y : Took Declaration) → kind_at ts ≡ k.Scalar scalar → scalar_declaration room scalar ts ≡ Ok y
+      → DeclarationAt (room + 1) ts y
   unfolding scalar_declaration
   scalar-part scalar ts y e h =
-      let P : Tall Declaration × List Token → Type 0 = λ z. Part declaration_written IsDeclaration declaration_height (room + 1) ts z.0 z.1 in
+      let P : Took Declaration → Type 0 = DeclarationAt (room + 1) ts in
       bound (identifier (drop 1 ts)) _ y P h (λ x name h1.
       bound (optional_value room x.1) _ y P h1 (λ v read h2.
       let found = value-part x.1 v read in
@@ -93,11 +107,11 @@ module _ (room : ℕ) where
         low = omega (arith, found.low);
       })))
 
-  pub auto-part : (ts : List Token) (y : Tall Declaration × List Token) → kind_at ts ≡ k.Auto → auto_declaration room ts ≡ Ok y
-      → Part declaration_written IsDeclaration declaration_height (room + 1) ts y.0 y.1
+  pub auto-part : (ts : List Token) (y : Took Declaration) → kind_at ts ≡ k.Auto → auto_declaration room ts ≡ Ok y
+      → DeclarationAt (room + 1) ts y
   unfolding auto_declaration
   auto-part ts y e h =
-      let P : Tall Declaration × List Token → Type 0 = λ z. Part declaration_written IsDeclaration declaration_height (room + 1) ts z.0 z.1 in
+      let P : Took Declaration → Type 0 = DeclarationAt (room + 1) ts in
       bound (identifier (drop 1 ts)) _ y P h (λ x name h1.
       bound (mark m.Equal x.1) _ y P h1 (λ u equal h2.
       bound (expr (room + 1) 1 u.1) _ y P h2 (λ v read h3.
@@ -109,7 +123,7 @@ module _ (room : ℕ) where
         low = omega (arith, found.low);
       }))))
 
-  inner-part : (ts : List Token) (y : Tall Expr × List Token) → expr room 1 ts ≡ Ok y → (0 < room) × Part written IsExpr height (room - 1) ts y.0 y.1
+  inner-part : (ts : List Token) (y : Took Expr) → expr room 1 ts ≡ Ok y → (0 < room) × Part written IsExpr height (room - 1) ts y.0 y.1
   inner-part ts y h =
       let found = sound room 1 ts y (omega arith) (omega arith) h in
       (found.0, found.1.part)
@@ -123,11 +137,11 @@ module _ (room : ℕ) where
   braces-written true xs = refl
   braces-written false xs = refl
 
-  braces-part : (equal : Bool) (ts us : List Token) (y : Tall Initializer × List Token) → Spelled (opening equal) ts us → braces room equal us ≡ Ok y
-      → Part initializer_written IsInitializer initializer_height room ts y.0 y.1
+  braces-part : (equal : Bool) (ts us : List Token) (y : Took Initializer) → Spelled (opening equal) ts us → braces room equal us ≡ Ok y
+      → InitializerAt room ts y
   unfolding braces
   braces-part equal ts us y opened h =
-      let P : Tall Initializer × List Token → Type 0 = λ z. Part initializer_written IsInitializer initializer_height room ts z.0 z.1 in
+      let P : Took Initializer → Type 0 = InitializerAt room ts in
       bound (list_before (expr (room + 1) 1) (expr room 1) room m.RightBrace us) _ y P h (λ xs read h1.
       bound (mark m.RightBrace xs.1) _ y P h1 (λ v closed h2.
       let found = list-before-part (expr (room + 1) 1) (expr room 1) room (expr-part room 1 (omega arith) (omega arith)) inner-part m.RightBrace us xs read in
@@ -138,20 +152,20 @@ module _ (room : ℕ) where
         low = found.low;
       })))
 
-  behind-equal : (kind : Kind) (ts us : List Token) (y : Tall Initializer × List Token) → Spelled (s.mark m.Equal ∷ []) ts us → kind_at us ≡ kind → behind_equal_by room kind us ≡ Ok y
-      → Part initializer_written IsInitializer initializer_height room ts y.0 y.1
+  behind-equal : (kind : Kind) (ts us : List Token) (y : Took Initializer) → Spelled (s.mark m.Equal ∷ []) ts us → kind_at us ≡ kind → behind_equal_by room kind us ≡ Ok y
+      → InitializerAt room ts y
   behind-equal k.Name ts us y equal e h =
-      let P : Tall Initializer × List Token → Type 0 = λ z. Part initializer_written IsInitializer initializer_height room ts z.0 z.1 in
+      let P : Took Initializer → Type 0 = InitializerAt room ts in
       bound (identifier us) _ y P h (λ x name h1.
       answered _ y P h1 (record { spelled = equal ⨾ identifier_took us x name; fits = tt; size = refl; low = omega arith }))
   behind-equal (k.Mark m.LeftBrace) ts us y equal e h = braces-part true ts (drop 1 us) y (equal ⨾ one_plain us (k.Mark m.LeftBrace) (w.Mark m.LeftBrace) e refl) h
   behind-equal _ ts us y equal e h = absurd cc
 
-  constructed-part : (ts : List Token) (y : Tall Initializer × List Token) → kind_at ts ≡ k.Mark m.LeftParenthesis → constructed room ts ≡ Ok y
-      → Part initializer_written IsInitializer initializer_height room ts y.0 y.1
+  constructed-part : (ts : List Token) (y : Took Initializer) → kind_at ts ≡ k.Mark m.LeftParenthesis → constructed room ts ≡ Ok y
+      → InitializerAt room ts y
   unfolding constructed
   constructed-part ts y e h =
-      let P : Tall Initializer × List Token → Type 0 = λ z. Part initializer_written IsInitializer initializer_height room ts z.0 z.1 in
+      let P : Took Initializer → Type 0 = InitializerAt room ts in
       bound (list (expr (room + 1) 1) (expr room 1) room (drop 1 ts)) _ y P h (λ xs read h1.
       bound (mark m.RightParenthesis xs.1) _ y P h1 (λ v closed h2.
       let found = list-part (expr (room + 1) 1) (expr room 1) room (expr-part room 1 (omega arith) (omega arith)) inner-part (drop 1 ts) xs read in
@@ -162,12 +176,12 @@ module _ (room : ℕ) where
         low = found.low;
       })))
 
-  absent-part : (ts : List Token) (y : Tall Initializer × List Token) → initializer_by room k.End ts ≡ Ok y → Part initializer_written IsInitializer initializer_height room ts y.0 y.1
-  absent-part ts y h = answered _ y (λ z. Part initializer_written IsInitializer initializer_height room ts z.0 z.1) h
+  absent-part : (ts : List Token) (y : Took Initializer) → initializer_by room k.End ts ≡ Ok y → InitializerAt room ts y
+  absent-part ts y h = answered _ y (InitializerAt room ts) h
       (record { spelled = no_words ts; fits = tt; size = refl; low = omega arith })
 
-  initializer-by : (kind : Kind) (ts : List Token) (y : Tall Initializer × List Token) → kind_at ts ≡ kind → initializer_by room kind ts ≡ Ok y
-      → Part initializer_written IsInitializer initializer_height room ts y.0 y.1
+  initializer-by : (kind : Kind) (ts : List Token) (y : Took Initializer) → kind_at ts ≡ kind → initializer_by room kind ts ≡ Ok y
+      → InitializerAt room ts y
   initializer-by (k.Mark m.Equal) ts y e h = behind-equal (kind_at (drop 1 ts)) ts (drop 1 ts) y (one_plain ts (k.Mark m.Equal) (w.Mark m.Equal) e refl) refl h
   initializer-by (k.Mark m.LeftBrace) ts y e h = braces-part false ts (drop 1 ts) y (one_plain ts (k.Mark m.LeftBrace) (w.Mark m.LeftBrace) e refl) h
   initializer-by (k.Mark m.LeftParenthesis) ts y e h = constructed-part ts y e h
@@ -177,11 +191,11 @@ module _ (room : ℕ) where
   unfolding initializer
   initializer-part ts y h = initializer-by (kind_at ts) ts y refl h
 
-  pub container-part : (form : Form) (ts : List Token) (y : Tall Declaration × List Token) → kind_at ts ≡ k.Container form → container_declaration room form ts ≡ Ok y
-      → Part declaration_written IsDeclaration declaration_height (room + 1) ts y.0 y.1
+  pub container-part : (form : Form) (ts : List Token) (y : Took Declaration) → kind_at ts ≡ k.Container form → container_declaration room form ts ≡ Ok y
+      → DeclarationAt (room + 1) ts y
   unfolding container_declaration
   container-part form ts y e h =
-      let P : Tall Declaration × List Token → Type 0 = λ z. Part declaration_written IsDeclaration declaration_height (room + 1) ts z.0 z.1 in
+      let P : Took Declaration → Type 0 = DeclarationAt (room + 1) ts in
       guarded (nat_lt 0 room) _ _ y P h (λ high h1.
       bound (container_type form ts) _ y P h1 (λ type typed h2.
       bound (identifier type.1) _ y P h2 (λ x name h3.
@@ -195,15 +209,11 @@ module _ (room : ℕ) where
         low = omega (arith, above, found.low);
       })))))
 
--- of a parameter nothing more is asked
-abbrev pub AnyParam : Param → Type 0
-AnyParam x = ⊤
-
-scalar_param-part : (scalar : Scalar) (ts : List Token) (y : Tall Param × List Token) → kind_at ts ≡ k.Scalar scalar → scalar_param (here ts) scalar (drop 1 ts) ≡ Ok y
-    → Part param_written AnyParam param_height 2 ts y.0 y.1
+scalar_param-part : (scalar : Scalar) (ts : List Token) (y : Took Param) → kind_at ts ≡ k.Scalar scalar → scalar_param (here ts) scalar (drop 1 ts) ≡ Ok y
+    → ParamAt 2 ts y
 unfolding scalar_param
 scalar_param-part scalar ts y e h =
-    let P : Tall Param × List Token → Type 0 = λ z. Part param_written AnyParam param_height 2 ts z.0 z.1 in
+    let P : Took Param → Type 0 = ParamAt 2 ts in
     let first = one_word ts (k.Scalar scalar) (scalar_word scalar) e refl in
     chosen (is_mark m.And (kind_at (drop 1 ts))) _ _ y P h
     (λ sees h1.
@@ -213,11 +223,11 @@ scalar_param-part scalar ts y e h =
     bound (identifier (drop 1 ts)) _ y P h1 (λ x name h2.
     answered _ y P h2 (record { spelled = first ⨾ identifier_took (drop 1 ts) x name; fits = tt; size = refl; low = omega arith })))
 
-container_param-part : (form : Form) (ts : List Token) (y : Tall Param × List Token) → kind_at ts ≡ k.Container form → container_param form ts ≡ Ok y
-    → Part param_written AnyParam param_height 2 ts y.0 y.1
+container_param-part : (form : Form) (ts : List Token) (y : Took Param) → kind_at ts ≡ k.Container form → container_param form ts ≡ Ok y
+    → ParamAt 2 ts y
 unfolding container_param
 container_param-part form ts y e h =
-    let P : Tall Param × List Token → Type 0 = λ z. Part param_written AnyParam param_height 2 ts z.0 z.1 in
+    let P : Took Param → Type 0 = ParamAt 2 ts in
     bound (container_type form ts) _ y P h (λ type typed h1.
     bound (mark m.And type.1) _ y P h1 (λ u and h2.
     bound (identifier u.1) _ y P h2 (λ x name h3.
@@ -232,10 +242,10 @@ by-took : (kind : Kind) (ts : List Token) (y : ContainerType × List Token) → 
 by-took (k.Container form) ts y e h = type-took form ts y e h
 by-took _ ts y e h = absurd cc
 
-const_param-part : (ts : List Token) (y : Tall Param × List Token) → kind_at ts ≡ k.Const → const_param ts ≡ Ok y → Part param_written AnyParam param_height 2 ts y.0 y.1
+const_param-part : (ts : List Token) (y : Took Param) → kind_at ts ≡ k.Const → const_param ts ≡ Ok y → ParamAt 2 ts y
 unfolding const_param
 const_param-part ts y e h =
-    let P : Tall Param × List Token → Type 0 = λ z. Part param_written AnyParam param_height 2 ts z.0 z.1 in
+    let P : Took Param → Type 0 = ParamAt 2 ts in
     bound (container_by (kind_at (drop 1 ts)) (drop 1 ts)) _ y P h (λ type typed h1.
     bound (mark m.And type.1) _ y P h1 (λ u and h2.
     bound (identifier u.1) _ y P h2 (λ x name h3.
@@ -247,7 +257,7 @@ const_param-part ts y e h =
       low = omega arith;
     }))))
 
-param-by : (kind : Kind) (ts : List Token) (y : Tall Param × List Token) → kind_at ts ≡ kind → param_by kind ts ≡ Ok y → Part param_written AnyParam param_height 2 ts y.0 y.1
+param-by : (kind : Kind) (ts : List Token) (y : Took Param) → kind_at ts ≡ kind → param_by kind ts ≡ Ok y → ParamAt 2 ts y
 param-by (k.Scalar scalar) ts y e h = scalar_param-part scalar ts y e h
 param-by (k.Container form) ts y e h = container_param-part form ts y e h
 param-by k.Const ts y e h = const_param-part ts y e h
@@ -263,7 +273,7 @@ comma_written x = s.mark m.Comma ∷ param_written x
 
 comma-part : Parts comma_written AnyParam param_height 2 comma_param
 comma-part ts y h =
-    let P : Tall Param × List Token → Type 0 = λ z. Part comma_written AnyParam param_height 2 ts z.0 z.1 in
+    let P : Took Param → Type 0 = λ z. Part comma_written AnyParam param_height 2 ts z.0 z.1 in
     bound (mark m.Comma ts) _ y P h (λ u comma h1.
     let found = param-part u.1 y h1 in
     record { spelled = mark_plain m.Comma ts u comma ⨾ found.spelled; fits = tt; size = found.size; low = found.low })
@@ -274,7 +284,7 @@ AnyParams xs = ⊤
 pub params-part : Parts params_written AnyParams (highest param_height) 2 params
 unfolding params
 params-part ts y h =
-    let P : Tall (List Param) × List Token → Type 0 = λ z. Part params_written AnyParams (highest param_height) 2 ts z.0 z.1 in
+    let P : Took (List Param) → Type 0 = λ z. Part params_written AnyParams (highest param_height) 2 ts z.0 z.1 in
     chosen (is_mark m.RightParenthesis (kind_at ts)) _ _ y P h
     (λ closes h1. answered _ y P h1 (record { spelled = no_words ts; fits = tt; size = refl; low = omega arith }))
     (λ opens h1.

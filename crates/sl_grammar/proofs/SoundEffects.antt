@@ -22,7 +22,7 @@ use Rattle.sl_grammar.specs.Expressions.{expr}
 use Rattle.sl_grammar.specs.Steps.{Tall, kind_at, is_mark, mark, identifier, all_behind}
 use Rattle.sl_grammar.proofs.KindLaws.{is_mark_kind}
 use Rattle.sl_grammar.proofs.SoundExpressions.{sound, expr-part}
-use Rattle.sl_grammar.proofs.SoundSteps.{bound, some_one, both, chosen, guarded, answered, ◌⨾◌, one_word, one_text, mark_plain, mark_rest, identifier_took, Part, Parts, behind}
+use Rattle.sl_grammar.proofs.SoundSteps.{Took, bound, some_one, both, chosen, guarded, answered, ◌⨾◌, one_word, one_text, mark_plain, mark_rest, identifier_took, Part, Parts, behind}
 
 -- `>> x`
 abbrev name_written : Identifier → List Written
@@ -37,7 +37,7 @@ flat x = 0
 shifted_name-part : Parts name_written Anything flat 0 shifted_name
 unfolding shifted_name
 shifted_name-part ts y h =
-    let P : Tall Identifier × List Token → Type 0 = λ z. Part name_written Anything flat 0 ts z.0 z.1 in
+    let P : Took Identifier → Type 0 = λ z. Part name_written Anything flat 0 ts z.0 z.1 in
     bound (mark m.ShiftRight ts) _ y P h (λ u shift h1.
     bound (identifier u.1) _ y P h1 (λ x name h2.
     answered _ y P h2 (record { spelled = mark_plain m.ShiftRight ts u shift ⨾ identifier_took u.1 x name; fits = tt; size = refl; low = omega arith })))
@@ -46,10 +46,23 @@ shifted_name-part ts y h =
 abbrev pub read_height : Read → ℕ
 read_height r = 1
 
-pub read-part : (room : ℕ) (ts : List Token) (y : Tall Read × List Token) → kind_at ts ≡ k.Input → read room ts ≡ Ok y → Part read_written IsRead read_height room ts y.0 y.1
+-- what is read from these tokens
+abbrev pub ReadAt : ℕ → List Token → Took Read → Type 0
+ReadAt room ts y = Part read_written IsRead read_height room ts y.0 y.1
+
+abbrev pub OutAt : ℕ → List Token → Took Out → Type 0
+OutAt room ts y = Part out_written IsOut out_height room ts y.0 y.1
+
+abbrev pub EffectAt : ℕ → List Token → Took Effect → Type 0
+EffectAt room ts y = Part effect_written IsEffect effect_height room ts y.0 y.1
+
+abbrev pub CondAt : ℕ → List Token → Took Cond → Type 0
+CondAt room ts y = Part cond_written IsCond cond_height room ts y.0 y.1
+
+pub read-part : (room : ℕ) (ts : List Token) (y : Took Read) → kind_at ts ≡ k.Input → read room ts ≡ Ok y → ReadAt room ts y
 unfolding read
 read-part room ts y e h =
-    let P : Tall Read × List Token → Type 0 = λ z. Part read_written IsRead read_height room ts z.0 z.1 in
+    let P : Took Read → Type 0 = ReadAt room ts in
     guarded (nat_lt 0 room) _ _ y P h (λ high h1.
     bound (shifted_name (drop 1 ts)) _ y P h1 (λ x one h2.
     bound (all_behind (is_mark m.ShiftRight) shifted_name (x.0.0 ∷ [], 0) x.1) _ y P h2 (λ xs more h3.
@@ -64,20 +77,20 @@ read-part room ts y e h =
     }))))
 
 module _ (room : ℕ) where
-  value-out : (ts : List Token) (y : Tall Expr × List Token) → expr room 5 ts ≡ Ok y → Part out_written IsOut out_height (room - 1) ts (t.value y.0.0, y.0.1) y.1
+  value-out : (ts : List Token) (y : Took Expr) → expr room 5 ts ≡ Ok y → Part out_written IsOut out_height (room - 1) ts (t.value y.0.0, y.0.1) y.1
   value-out ts y h =
       let found = sound room 5 ts y (omega arith) (omega arith) h in
       record { spelled = found.1.part.spelled; fits = (found.1.tight, found.1.part.fits); size = found.1.part.size; low = found.1.part.low }
 
-  value-part : (ts : List Token) (y : Tall Out × List Token) → out_by room k.End ts ≡ Ok y → Part out_written IsOut out_height (room - 1) ts y.0 y.1
+  value-part : (ts : List Token) (y : Took Out) → out_by room k.End ts ≡ Ok y → OutAt (room - 1) ts y
   value-part ts y h =
-      let P : Tall Out × List Token → Type 0 = λ z. Part out_written IsOut out_height (room - 1) ts z.0 z.1 in
+      let P : Took Out → Type 0 = OutAt (room - 1) ts in
       bound (expr room 5 ts) _ y P h (λ x read h1. answered _ y P h1 (value-out ts x read))
 
-  out-by : (kind : Kind) (ts : List Token) (y : Tall Out × List Token) → kind_at ts ≡ kind → out_by room kind ts ≡ Ok y → Part out_written IsOut out_height (room - 1) ts y.0 y.1
-  out-by k.Text ts y e h = answered _ y (λ z. Part out_written IsOut out_height (room - 1) ts z.0 z.1) h
+  out-by : (kind : Kind) (ts : List Token) (y : Took Out) → kind_at ts ≡ kind → out_by room kind ts ≡ Ok y → OutAt (room - 1) ts y
+  out-by k.Text ts y e h = answered _ y (OutAt (room - 1) ts) h
       (record { spelled = one_text ts e; fits = tt; size = refl; low = omega arith })
-  out-by k.EndLine ts y e h = answered _ y (λ z. Part out_written IsOut out_height (room - 1) ts z.0 z.1) h
+  out-by k.EndLine ts y e h = answered _ y (OutAt (room - 1) ts) h
       (record { spelled = one_word ts k.EndLine (w.Lib (codes "endl")) e refl; fits = tt; size = refl; low = omega arith })
   out-by _ ts y e h = value-part ts y h
 
@@ -88,15 +101,15 @@ module _ (room : ℕ) where
   shifted-part : Parts shifted_written IsOut out_height (room - 1) (shifted_out room)
   unfolding shifted_out
   shifted-part ts y h =
-      let P : Tall Out × List Token → Type 0 = λ z. Part shifted_written IsOut out_height (room - 1) ts z.0 z.1 in
+      let P : Took Out → Type 0 = λ z. Part shifted_written IsOut out_height (room - 1) ts z.0 z.1 in
       bound (mark m.ShiftLeft ts) _ y P h (λ u shift h1.
       let found = out-by (kind_at u.1) u.1 y refl h1 in
       record { spelled = mark_plain m.ShiftLeft ts u shift ⨾ found.spelled; fits = found.fits; size = found.size; low = found.low })
 
-  print-part : (ts : List Token) (y : Tall Effect × List Token) → kind_at ts ≡ k.Output → print room ts ≡ Ok y → Part effect_written IsEffect effect_height room ts y.0 y.1
+  print-part : (ts : List Token) (y : Took Effect) → kind_at ts ≡ k.Output → print room ts ≡ Ok y → EffectAt room ts y
   unfolding print
   print-part ts y e h =
-      let P : Tall Effect × List Token → Type 0 = λ z. Part effect_written IsEffect effect_height room ts z.0 z.1 in
+      let P : Took Effect → Type 0 = EffectAt room ts in
       guarded (nat_lt 0 room) _ _ y P h (λ high h1.
       bound (shifted_out room (drop 1 ts)) _ y P h1 (λ x one h2.
       bound (all_behind (is_mark m.ShiftLeft) (shifted_out room) (x.0.0 ∷ [], x.0.1) x.1) _ y P h2 (λ xs more h3.
@@ -119,10 +132,10 @@ module _ (room : ℕ) where
   assignment-mark (k.Mark m.PercentEqual) op h = ap (λ (o : Assignment). k.Mark (assignment_mark o)) (some_one h)
   assignment-mark _ op h = absurd cc
 
-  assigned-by : (op : Option Assignment) (ts us : List Token) (left : Tall Expr) (y : Tall Effect × List Token) → Part written IsExpr height room ts left us
-      → assignment_of room (kind_at us) ≡ op → assigned_by room left op us ≡ Ok y → Part effect_written IsEffect effect_height room ts y.0 y.1
+  assigned-by : (op : Option Assignment) (ts us : List Token) (left : Tall Expr) (y : Took Effect) → Part written IsExpr height room ts left us
+      → assignment_of room (kind_at us) ≡ op → assigned_by room left op us ≡ Ok y → EffectAt room ts y
   assigned-by (Some op) ts us left y first e h =
-      let P : Tall Effect × List Token → Type 0 = λ z. Part effect_written IsEffect effect_height room ts z.0 z.1 in
+      let P : Took Effect → Type 0 = EffectAt room ts in
       guarded (nat_lt left.1 room) _ _ y P h (λ below h1.
       bound (expr room 1 (drop 1 us)) _ y P h1 (λ x read h2.
       let found = sound room 1 (drop 1 us) x (omega arith) (omega arith) read in
@@ -134,19 +147,19 @@ module _ (room : ℕ) where
         low = omega (arith, lower, found.0, found.1.part.low);
       })))
   assigned-by None ts us left y first e h =
-      answered _ y (λ z. Part effect_written IsEffect effect_height room ts z.0 z.1) h
+      answered _ y (EffectAt room ts) h
       (record { spelled = first.spelled; fits = first.fits; size = first.size; low = first.low })
 
-  value-effect : (ts : List Token) (y : Tall Effect × List Token) → effect_by room k.End ts ≡ Ok y → Part effect_written IsEffect effect_height room ts y.0 y.1
+  value-effect : (ts : List Token) (y : Took Effect) → effect_by room k.End ts ≡ Ok y → EffectAt room ts y
   unfolding assigned
   value-effect ts y h =
-      let P : Tall Effect × List Token → Type 0 = λ z. Part effect_written IsEffect effect_height room ts z.0 z.1 in
+      let P : Took Effect → Type 0 = EffectAt room ts in
       bound (expr (room + 1) 1 ts) _ y P h (λ x read h1.
       assigned-by (assignment_of room (kind_at x.1)) ts x.1 x.0 y (expr-part room 1 (omega arith) (omega arith) ts x read) refl h1)
 
-  effect-by : (kind : Kind) (ts : List Token) (y : Tall Effect × List Token) → kind_at ts ≡ kind → effect_by room kind ts ≡ Ok y → Part effect_written IsEffect effect_height room ts y.0 y.1
+  effect-by : (kind : Kind) (ts : List Token) (y : Took Effect) → kind_at ts ≡ kind → effect_by room kind ts ≡ Ok y → EffectAt room ts y
   effect-by k.Input ts y e h =
-      let P : Tall Effect × List Token → Type 0 = λ z. Part effect_written IsEffect effect_height room ts z.0 z.1 in
+      let P : Took Effect → Type 0 = EffectAt room ts in
       bound (read room ts) _ y P h (λ r reads h1.
       let found = read-part room ts r e reads in
       answered _ y P h1 (record { spelled = found.spelled; fits = found.fits; size = found.size; low = found.low }))
@@ -165,11 +178,11 @@ module _ (room : ℕ) where
   drop_twice [] = refl
   drop_twice (x ∷ ts) = refl
 
-  no_read-part : (ts : List Token) (y : Tall Cond × List Token) → 1 < room → is_mark m.Not (kind_at ts) ≡ true → is_input (kind_at (drop 2 ts)) ≡ true → no_read room ts ≡ Ok y
-      → Part cond_written IsCond cond_height room ts y.0 y.1
+  no_read-part : (ts : List Token) (y : Took Cond) → 1 < room → is_mark m.Not (kind_at ts) ≡ true → is_input (kind_at (drop 2 ts)) ≡ true → no_read room ts ≡ Ok y
+      → CondAt room ts y
   unfolding no_read
   no_read-part ts y high sees input h =
-      let P : Tall Cond × List Token → Type 0 = λ z. Part cond_written IsCond cond_height room ts z.0 z.1 in
+      let P : Took Cond → Type 0 = CondAt room ts in
       bound (mark m.LeftParenthesis (drop 1 ts)) _ y P h (λ u opened h1.
       bound (read room u.1) _ y P h1 (λ r reads h2.
       bound (mark m.RightParenthesis r.1) _ y P h2 (λ v closed h3.
@@ -184,9 +197,9 @@ module _ (room : ℕ) where
         low = omega arith;
       }))))
 
-  value-cond : (ts : List Token) (y : Tall Cond × List Token) → cond_by room k.End ts ≡ Ok y → Part cond_written IsCond cond_height room ts y.0 y.1
+  value-cond : (ts : List Token) (y : Took Cond) → cond_by room k.End ts ≡ Ok y → CondAt room ts y
   value-cond ts y h =
-      let P : Tall Cond × List Token → Type 0 = λ z. Part cond_written IsCond cond_height room ts z.0 z.1 in
+      let P : Took Cond → Type 0 = CondAt room ts in
       chosen (nat_lt 1 room && begins_no_read room ts) _ _ y P h
       (λ begins h1.
       let high = both (nat_lt 1 room) (begins_no_read room ts) begins in
@@ -198,9 +211,9 @@ module _ (room : ℕ) where
       let found = expr-part room 1 (omega arith) (omega arith) ts x read in
       answered _ y P h2 (record { spelled = found.spelled; fits = found.fits; size = found.size; low = found.low })))
 
-  cond-by : (kind : Kind) (ts : List Token) (y : Tall Cond × List Token) → kind_at ts ≡ kind → cond_by room kind ts ≡ Ok y → Part cond_written IsCond cond_height room ts y.0 y.1
+  cond-by : (kind : Kind) (ts : List Token) (y : Took Cond) → kind_at ts ≡ kind → cond_by room kind ts ≡ Ok y → CondAt room ts y
   cond-by k.Input ts y e h =
-      let P : Tall Cond × List Token → Type 0 = λ z. Part cond_written IsCond cond_height room ts z.0 z.1 in
+      let P : Took Cond → Type 0 = CondAt room ts in
       bound (read room ts) _ y P h (λ r reads h1.
       let found = read-part room ts r e reads in
       answered _ y P h1 (record { spelled = found.spelled; fits = found.fits; size = found.size; low = found.low }))

@@ -17,18 +17,18 @@ use Rattle.sl_syntax.specs.Written.{binary_mark, postfix_mark, written}
 use Rattle.sl_grammar.specs.Expressions.{infix_of, binds_or, piece_level, goes_on, arguments, operand, indexed, dotted, pointed, postfixed, piece_by, piece, combined, operation_by, operation, climb, from_operand, expr}
 use Rattle.sl_grammar.specs.Steps.{Reader, Tall, kind_at, is_mark, mark, identifier}
 use Rattle.sl_grammar.proofs.SoundOperands.{Found, Left, Finds, goes-low, binary-low, infix-mark, arguments-part, operand-left}
-use Rattle.sl_grammar.proofs.SoundSteps.{bound, chosen, guarded, answered, ◌⨾◌, one_word, one_plain, mark_plain, identifier_took, Part, Parts}
+use Rattle.sl_grammar.proofs.SoundSteps.{Took, bound, chosen, guarded, answered, ◌⨾◌, one_word, one_plain, mark_plain, identifier_took, Part, Parts}
 
 module _ (inner smaller : ℕ → Reader (Tall Expr)) (room : ℕ) (f : Finds inner room) (g : Finds smaller (room - 1)) (ts : List Token) (left : Tall Expr) (us : List Token) where
   -- the left side with what was read behind it
-  abbrev Longer : ℕ → Tall Expr × List Token → Type 0
+  abbrev Longer : ℕ → Took Expr → Type 0
   Longer least z = Left room least ts z.0 z.1
 
-  binary-longer : (op : BinaryOperator) (y : Tall Expr × List Token) → Part written IsExpr height room ts left us → left.1 < room → goes_on (kind_at us) ≤ level left.0
+  binary-longer : (op : BinaryOperator) (y : Took Expr) → Part written IsExpr height room ts left us → left.1 < room → goes_on (kind_at us) ≤ level left.0
       → infix_of (kind_at us) ≡ Some op → combined inner smaller room left op us ≡ Ok y → Longer (goes_on (kind_at us)) y
   unfolding combined
   binary-longer op y first below goes e h =
-      let P : Tall Expr × List Token → Type 0 = Longer (goes_on (kind_at us)) in
+      let P : Took Expr → Type 0 = Longer (goes_on (kind_at us)) in
       let low : binary_level op ≤ 6 = binary-low op in
       let told : goes_on (kind_at us) ≡ binary_level op = ap (binds_or (piece_level (kind_at us))) e in
       bound (inner (binary_level op + 1) (drop 1 us)) _ y P h (λ x read h1.
@@ -44,11 +44,11 @@ module _ (inner smaller : ℕ → Reader (Tall Expr)) (room : ℕ) (f : Finds in
         goes = omega (arith, found.1.stops);
       }))
 
-  index-longer : (y : Tall Expr × List Token) → Part written IsExpr height room ts left us → left.1 < room → 8 ≤ level left.0
+  index-longer : (y : Took Expr) → Part written IsExpr height room ts left us → left.1 < room → 8 ≤ level left.0
       → kind_at us ≡ k.Mark m.LeftBracket → indexed inner smaller room left us ≡ Ok y → Longer 8 y
   unfolding indexed
   index-longer y first below tight e h =
-      let P : Tall Expr × List Token → Type 0 = Longer 8 in
+      let P : Took Expr → Type 0 = Longer 8 in
       bound (inner 1 (drop 1 us)) _ y P h (λ x read h1.
       bound (mark m.RightBracket x.1) _ y P h1 (λ v closed h2.
       let found = f 1 (drop 1 us) x (omega arith) (omega arith) read in
@@ -63,11 +63,11 @@ module _ (inner smaller : ℕ → Reader (Tall Expr)) (room : ℕ) (f : Finds in
         goes = omega (arith, goes-low (kind_at v.1));
       })))
 
-  dot-longer : (y : Tall Expr × List Token) → Part written IsExpr height room ts left us → left.1 < room → 8 ≤ level left.0
+  dot-longer : (y : Took Expr) → Part written IsExpr height room ts left us → left.1 < room → 8 ≤ level left.0
       → kind_at us ≡ k.Mark m.Dot → dotted inner smaller room left us ≡ Ok y → Longer 8 y
   unfolding dotted
   dot-longer y first below tight e h =
-      let P : Tall Expr × List Token → Type 0 = Longer 8 in
+      let P : Took Expr → Type 0 = Longer 8 in
       bound (identifier (drop 1 us)) _ y P h (λ x name h1.
       let member = identifier_took (drop 1 us) x name in
       chosen (is_mark m.LeftParenthesis (kind_at x.1)) _ _ y P h1
@@ -96,11 +96,11 @@ module _ (inner smaller : ℕ → Reader (Tall Expr)) (room : ℕ) (f : Finds in
         goes = omega (arith, goes-low (kind_at x.1));
       })))
 
-  arrow-longer : (y : Tall Expr × List Token) → Part written IsExpr height room ts left us → left.1 < room → 8 ≤ level left.0
+  arrow-longer : (y : Took Expr) → Part written IsExpr height room ts left us → left.1 < room → 8 ≤ level left.0
       → kind_at us ≡ k.Mark m.Arrow → pointed inner smaller room left us ≡ Ok y → Longer 8 y
   unfolding pointed
   arrow-longer y first below tight e h =
-      let P : Tall Expr × List Token → Type 0 = Longer 8 in
+      let P : Took Expr → Type 0 = Longer 8 in
       bound (identifier (drop 1 us)) _ y P h (λ x name h1.
       answered _ y P h1 (record {
         part = record {
@@ -113,7 +113,7 @@ module _ (inner smaller : ℕ → Reader (Tall Expr)) (room : ℕ) (f : Finds in
         goes = omega (arith, goes-low (kind_at x.1));
       }))
 
-  postfix-longer : (op : PostfixOperator) (y : Tall Expr × List Token) → Part written IsExpr height room ts left us → left.1 < room → 8 ≤ level left.0
+  postfix-longer : (op : PostfixOperator) (y : Took Expr) → Part written IsExpr height room ts left us → left.1 < room → 8 ≤ level left.0
       → kind_at us ≡ k.Mark (postfix_mark op) → postfixed inner smaller room left op us ≡ Ok y → Longer 8 y
   postfix-longer op y first below tight e h =
       answered _ y (Longer 8) h (record {
@@ -127,7 +127,7 @@ module _ (inner smaller : ℕ → Reader (Tall Expr)) (room : ℕ) (f : Finds in
         goes = omega (arith, goes-low (kind_at (drop 1 us)));
       })
 
-  piece-by : (kind : Kind) (y : Tall Expr × List Token) → Part written IsExpr height room ts left us → left.1 < room → goes_on kind ≤ level left.0
+  piece-by : (kind : Kind) (y : Took Expr) → Part written IsExpr height room ts left us → left.1 < room → goes_on kind ≤ level left.0
       → kind_at us ≡ kind → piece_by inner smaller room left kind us ≡ Ok y → Longer (goes_on kind) y
   piece-by (k.Mark m.PlusPlus) y first below goes e h = postfix-longer postfix.Increment y first below goes e h
   piece-by (k.Mark m.MinusMinus) y first below goes e h = postfix-longer postfix.Decrement y first below goes e h
@@ -136,26 +136,26 @@ module _ (inner smaller : ℕ → Reader (Tall Expr)) (room : ℕ) (f : Finds in
   piece-by (k.Mark m.Arrow) y first below goes e h = arrow-longer y first below goes e h
   piece-by _ y first below goes e h = absurd cc
 
-  operation-by : (op : Option BinaryOperator) (y : Tall Expr × List Token) → Part written IsExpr height room ts left us → left.1 < room → goes_on (kind_at us) ≤ level left.0
+  operation-by : (op : Option BinaryOperator) (y : Took Expr) → Part written IsExpr height room ts left us → left.1 < room → goes_on (kind_at us) ≤ level left.0
       → infix_of (kind_at us) ≡ op → operation_by inner smaller room left op us ≡ Ok y → Longer (goes_on (kind_at us)) y
   unfolding piece
   operation-by (Some op) y first below goes e h = binary-longer op y first below goes e h
   operation-by None y first below goes e h = piece-by (kind_at us) y first below goes refl h
 
-  operation-longer : (y : Tall Expr × List Token) → Left room 1 ts left us → left.1 < room → operation inner smaller room left us ≡ Ok y → Longer (goes_on (kind_at us)) y
+  operation-longer : (y : Took Expr) → Left room 1 ts left us → left.1 < room → operation inner smaller room left us ≡ Ok y → Longer (goes_on (kind_at us)) y
   unfolding operation
   operation-longer y first below h = operation-by (infix_of (kind_at us)) y first.part below first.goes refl h
 
 module _ (inner smaller : ℕ → Reader (Tall Expr)) (room : ℕ) (f : Finds inner room) (g : Finds smaller (room - 1)) where
-  climb-found : (turns least : ℕ) (ts : List Token) (left : Tall Expr) (us : List Token) (y : Tall Expr × List Token) → 1 ≤ least → Left room least ts left us
+  climb-found : (turns least : ℕ) (ts : List Token) (left : Tall Expr) (us : List Token) (y : Took Expr) → 1 ≤ least → Left room least ts left us
       → climb inner smaller room least turns left us ≡ Ok y → Found room least ts y.0 y.1
   unfolding climb
   climb-found zero least ts left us y one first h =
-      let P : Tall Expr × List Token → Type 0 = λ z. Found room least ts z.0 z.1 in
+      let P : Took Expr → Type 0 = λ z. Found room least ts z.0 z.1 in
       guarded (nat_lt (goes_on (kind_at us)) least) _ _ y P h (λ stop h1.
       answered _ y P h1 (record { part = first.part; tight = first.tight; stops = ltb-true (goes_on (kind_at us)) least stop }))
   climb-found (suc n) least ts left us y one first h =
-      let P : Tall Expr × List Token → Type 0 = λ z. Found room least ts z.0 z.1 in
+      let P : Took Expr → Type 0 = λ z. Found room least ts z.0 z.1 in
       chosen (nat_lt (goes_on (kind_at us)) least) _ _ y P h
       (λ stop h1. answered _ y P h1 (record { part = first.part; tight = first.tight; stops = ltb-true (goes_on (kind_at us)) least stop }))
       (λ on h1.
@@ -166,16 +166,16 @@ module _ (inner smaller : ℕ → Reader (Tall Expr)) (room : ℕ) (f : Finds in
       let longer = operation-longer inner smaller room f g ts left us x start (ltb-true left.1 room below) read in
       climb-found n least ts x.0 x.1 y one (record { part = longer.part; tight = omega (arith, longer.tight); goes = longer.goes }) h3)))
 
-  pub from_operand-found : (least : ℕ) (ts : List Token) (y : Tall Expr × List Token) → 1 ≤ least → least ≤ 7 → from_operand inner smaller room least ts ≡ Ok y → Found room least ts y.0 y.1
+  pub from_operand-found : (least : ℕ) (ts : List Token) (y : Took Expr) → 1 ≤ least → least ≤ 7 → from_operand inner smaller room least ts ≡ Ok y → Found room least ts y.0 y.1
   unfolding from_operand
   from_operand-found least ts y one low h =
-      let P : Tall Expr × List Token → Type 0 = λ z. Found room least ts z.0 z.1 in
+      let P : Took Expr → Type 0 = λ z. Found room least ts z.0 z.1 in
       bound (operand inner smaller room ts) _ y P h (λ x read h1.
       let left = operand-left inner smaller room f g ts x read in
       climb-found room least ts x.0 x.1 y one (record { part = left.part; tight = omega (arith, left.tight); goes = left.goes }) h1)
 
 -- What is read is the words of an expression with fewer nodes on each way than the depth, and what follows doesn't go on with it.
-pub sound : (d least : ℕ) (ts : List Token) (y : Tall Expr × List Token) → 1 ≤ least → least ≤ 7 → expr d least ts ≡ Ok y → (0 < d) × Found (d - 1) least ts y.0 y.1
+pub sound : (d least : ℕ) (ts : List Token) (y : Took Expr) → 1 ≤ least → least ≤ 7 → expr d least ts ≡ Ok y → (0 < d) × Found (d - 1) least ts y.0 y.1
 unfolding expr
 sound zero least ts y one low h = absurd cc
 sound (suc zero) least ts y one low h =

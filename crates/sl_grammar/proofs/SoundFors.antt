@@ -26,7 +26,7 @@ use Rattle.sl_grammar.specs.Steps.{Reader, Tall, kind_at, here, is_mark, mark, i
 use Rattle.sl_grammar.proofs.KindLaws.{fixed}
 use Rattle.sl_grammar.proofs.SoundEffects.{effect-part, cond-part}
 use Rattle.sl_grammar.proofs.SoundExpressions.{sound}
-use Rattle.sl_grammar.proofs.SoundSteps.{bound, both, chosen, guarded, answered, Spelled, ◌⨾◌, no_words, respelled, one_word, one_plain, mark_plain, identifier_took, Part, Parts}
+use Rattle.sl_grammar.proofs.SoundSteps.{Took, bound, both, chosen, guarded, answered, Spelled, ◌⨾◌, no_words, respelled, one_word, one_plain, mark_plain, identifier_took, Part, Parts}
 use Rattle.sl_grammar.proofs.SoundBlocks.{FoundStmt, Finds}
 
 -- what stands before the first `;` of a `for`
@@ -69,7 +69,7 @@ module _ (inner : Reader (Tall Stmt)) (room : ℕ) (f : Finds inner room) where
   cond-option : Parts (option_written cond_written) (IfThere IsCond) (option_height cond_height) room (optional_cond inner room)
   unfolding optional_cond
   cond-option ts y h =
-      let P : Tall (Option Cond) × List Token → Type 0 = λ z. Part (option_written cond_written) (IfThere IsCond) (option_height cond_height) room ts z.0 z.1 in
+      let P : Took (Option Cond) → Type 0 = λ z. Part (option_written cond_written) (IfThere IsCond) (option_height cond_height) room ts z.0 z.1 in
       chosen (is_mark m.Semicolon (kind_at ts)) _ _ y P h
       (λ left_out h1. answered _ y P h1 (record { spelled = no_words ts; fits = tt; size = refl; low = omega arith }))
       (λ there h1.
@@ -80,7 +80,7 @@ module _ (inner : Reader (Tall Stmt)) (room : ℕ) (f : Finds inner room) where
   effect-option : Parts (option_written effect_written) (IfThere IsEffect) (option_height effect_height) room (optional_effect inner room)
   unfolding optional_effect
   effect-option ts y h =
-      let P : Tall (Option Effect) × List Token → Type 0 = λ z. Part (option_written effect_written) (IfThere IsEffect) (option_height effect_height) room ts z.0 z.1 in
+      let P : Took (Option Effect) → Type 0 = λ z. Part (option_written effect_written) (IfThere IsEffect) (option_height effect_height) room ts z.0 z.1 in
       chosen (is_mark m.RightParenthesis (kind_at ts)) _ _ y P h
       (λ left_out h1. answered _ y P h1 (record { spelled = no_words ts; fits = tt; size = refl; low = omega arith }))
       (λ there h1.
@@ -88,12 +88,12 @@ module _ (inner : Reader (Tall Stmt)) (room : ℕ) (f : Finds inner room) where
       let found = effect-part room ts x read in
       answered _ y P h2 (record { spelled = found.spelled; fits = found.fits; size = found.size; low = found.low })))
 
-  for_behind-found : (ts us : List Token) (first : Tall (Option First)) (y : Tall Stmt × List Token)
+  for_behind-found : (ts us : List Token) (first : Tall (Option First)) (y : Took Stmt)
       → Part (head_written (here ts)) (IfThere IsFirst) (option_height first_height) room ts first us
       → for_behind inner room (here ts) first us ≡ Ok y → FoundStmt (room + 1) ts y.0 y.1
   unfolding for_behind
   for_behind-found ts us first y head h =
-      let P : Tall Stmt × List Token → Type 0 = λ z. FoundStmt (room + 1) ts z.0 z.1 in
+      let P : Took Stmt → Type 0 = λ z. FoundStmt (room + 1) ts z.0 z.1 in
       bound (mark m.Semicolon us) _ y P h (λ u one h1.
       bound (optional_cond inner room u.1) _ y P h1 (λ a test h2.
       bound (mark m.Semicolon a.1) _ y P h2 (λ v two h3.
@@ -118,11 +118,11 @@ module _ (inner : Reader (Tall Stmt)) (room : ℕ) (f : Finds inner room) where
   abbrev opened_written : Place → List Written
   opened_written place = at place (w.Key (codes "for")) ∷ s.mark m.LeftParenthesis ∷ []
 
-  range-found : (type : Option Scalar) (ts us : List Token) (x : Identifier × List Token) (y : Tall Stmt × List Token) → Spelled (opened_written (here ts)) ts us
+  range-found : (type : Option Scalar) (ts us : List Token) (x : Identifier × List Token) (y : Took Stmt) → Spelled (opened_written (here ts)) ts us
       → kind_at us ≡ type_kind type → identifier (drop 1 us) ≡ Ok x → ranges type ≡ true → range_behind inner room (here ts) (is_auto type) x.0 x.1 ≡ Ok y → FoundStmt (room + 1) ts y.0 y.1
   unfolding range_behind
   range-found type ts us x y opened e name may h =
-      let P : Tall Stmt × List Token → Type 0 = λ z. FoundStmt (room + 1) ts z.0 z.1 in
+      let P : Took Stmt → Type 0 = λ z. FoundStmt (room + 1) ts z.0 z.1 in
       bound (mark m.Colon x.1) _ y P h (λ u colon h1.
       bound (identifier u.1) _ y P h1 (λ v container h2.
       bound (mark m.RightParenthesis v.1) _ y P h2 (λ d close h3.
@@ -140,11 +140,11 @@ module _ (inner : Reader (Tall Stmt)) (room : ℕ) (f : Finds inner room) where
         closed = body.closed;
       })))))
 
-  valued-found : (type : Option Scalar) (ts us : List Token) (x : Identifier × List Token) (y : Tall Stmt × List Token) → Spelled (opened_written (here ts)) ts us
+  valued-found : (type : Option Scalar) (ts us : List Token) (x : Identifier × List Token) (y : Took Stmt) → Spelled (opened_written (here ts)) ts us
       → kind_at us ≡ type_kind type → identifier (drop 1 us) ≡ Ok x → valued_first inner room (here ts) (here us) type x.0 x.1 ≡ Ok y → FoundStmt (room + 1) ts y.0 y.1
   unfolding valued_first
   valued-found type ts us x y opened e name h =
-      let P : Tall Stmt × List Token → Type 0 = λ z. FoundStmt (room + 1) ts z.0 z.1 in
+      let P : Took Stmt → Type 0 = λ z. FoundStmt (room + 1) ts z.0 z.1 in
       bound (mark m.Equal x.1) _ y P h (λ u equal h1.
       bound (expr room 1 u.1) _ y P h1 (λ v read h2.
       let found = sound room 1 u.1 v (omega arith) (omega arith) read in
@@ -158,34 +158,34 @@ module _ (inner : Reader (Tall Stmt)) (room : ℕ) (f : Finds inner room) where
         low = omega (arith, found.0, found.1.part.low);
       }) h2))
 
-  declared-found : (type : Option Scalar) (ts us : List Token) (y : Tall Stmt × List Token) → Spelled (opened_written (here ts)) ts us
+  declared-found : (type : Option Scalar) (ts us : List Token) (y : Took Stmt) → Spelled (opened_written (here ts)) ts us
       → kind_at us ≡ type_kind type → declared_first inner room (here ts) type us ≡ Ok y → FoundStmt (room + 1) ts y.0 y.1
   unfolding declared_first variable_behind
   declared-found type ts us y opened e h =
-      let P : Tall Stmt × List Token → Type 0 = λ z. FoundStmt (room + 1) ts z.0 z.1 in
+      let P : Took Stmt → Type 0 = λ z. FoundStmt (room + 1) ts z.0 z.1 in
       bound (identifier (drop 1 us)) _ y P h (λ x name h1.
       chosen (ranges type && is_mark m.Colon (kind_at x.1)) _ _ y P h1
       (λ range h2. range-found type ts us x y opened e name (both (ranges type) (is_mark m.Colon (kind_at x.1)) range).0 h2)
       (λ other h2. valued-found type ts us x y opened e name h2))
 
-  effect-found : (ts us : List Token) (y : Tall Stmt × List Token) → Spelled (opened_written (here ts)) ts us → for_by inner room (here ts) k.End us ≡ Ok y → FoundStmt (room + 1) ts y.0 y.1
+  effect-found : (ts us : List Token) (y : Took Stmt) → Spelled (opened_written (here ts)) ts us → for_by inner room (here ts) k.End us ≡ Ok y → FoundStmt (room + 1) ts y.0 y.1
   effect-found ts us y opened h =
-      let P : Tall Stmt × List Token → Type 0 = λ z. FoundStmt (room + 1) ts z.0 z.1 in
+      let P : Took Stmt → Type 0 = λ z. FoundStmt (room + 1) ts z.0 z.1 in
       bound (effect room us) _ y P h (λ x read h1.
       let found = effect-part room us x read in
       for_behind-found ts x.1 (Some (t.first_effect x.0.0), x.0.1) y (record { spelled = opened ⨾ found.spelled; fits = found.fits; size = found.size; low = found.low }) h1)
 
-  for-by : (kind : Kind) (ts us : List Token) (y : Tall Stmt × List Token) → Spelled (opened_written (here ts)) ts us → kind_at us ≡ kind
+  for-by : (kind : Kind) (ts us : List Token) (y : Took Stmt) → Spelled (opened_written (here ts)) ts us → kind_at us ≡ kind
       → for_by inner room (here ts) kind us ≡ Ok y → FoundStmt (room + 1) ts y.0 y.1
   for-by (k.Scalar scalar) ts us y opened e h = declared-found (Some scalar) ts us y opened e h
   for-by k.Auto ts us y opened e h = declared-found None ts us y opened e h
   for-by (k.Mark m.Semicolon) ts us y opened e h = for_behind-found ts us (None, 0) y (record { spelled = opened; fits = tt; size = refl; low = omega arith }) h
   for-by _ ts us y opened e h = effect-found ts us y opened h
 
-  pub for-found : (ts : List Token) (y : Tall Stmt × List Token) → kind_at ts ≡ k.For → for_loop inner room ts ≡ Ok y → FoundStmt (room + 1) ts y.0 y.1
+  pub for-found : (ts : List Token) (y : Took Stmt) → kind_at ts ≡ k.For → for_loop inner room ts ≡ Ok y → FoundStmt (room + 1) ts y.0 y.1
   unfolding for_loop
   for-found ts y e h =
-      let P : Tall Stmt × List Token → Type 0 = λ z. FoundStmt (room + 1) ts z.0 z.1 in
+      let P : Took Stmt → Type 0 = λ z. FoundStmt (room + 1) ts z.0 z.1 in
       guarded (nat_lt 0 room) _ _ y P h (λ _ h1.
       bound (mark m.LeftParenthesis (drop 1 ts)) _ y P h1 (λ u opened h2.
       for-by (kind_at u.1) ts u.1 y (one_word ts k.For (w.Key (codes "for")) e refl ⨾ mark_plain m.LeftParenthesis (drop 1 ts) u opened) refl h2))

@@ -13,7 +13,7 @@ use Rattle.sl_syntax.specs.Written as s
 use Rattle.sl_syntax.specs.Written.{Written, at, binary_mark, prefix_mark, postfix_mark, written, list_written, rest_written}
 use Rattle.sl_grammar.specs.Expressions.{comma_expr, list_behind, list, list_before}
 use Rattle.sl_grammar.specs.Steps.{Reader, Tall, kind_at, is_mark, mark, all_behind}
-use Rattle.sl_grammar.proofs.SoundSteps.{bound, chosen, guarded, answered, ◌⨾◌, no_words, respelled, mark_plain, Part, Parts, behind, some_items}
+use Rattle.sl_grammar.proofs.SoundSteps.{Took, bound, chosen, guarded, answered, ◌⨾◌, no_words, respelled, mark_plain, Part, Parts, behind, some_items}
 
 -- a list behind its first expression
 abbrev comma_written : Expr → List Written
@@ -39,21 +39,28 @@ list-height x (y ∷ ys) h = ap (λ (n : ℕ). max (height x) (max (height y) n)
 abbrev pub SomeExprs : Exprs → Type 0
 SomeExprs xs = IsSomeList xs × AreExprs xs
 
+-- what is read from these tokens
+abbrev pub SomeListAt : ℕ → List Token → Took Exprs → Type 0
+SomeListAt room ts y = Part list_written SomeExprs list_height room ts y.0 y.1
+
+abbrev pub ListAt : ℕ → List Token → Took Exprs → Type 0
+ListAt room ts y = Part list_written AreExprs list_height room ts y.0 y.1
+
 -- expressions that are read by one, and by more behind a comma, one node deeper
 module _ (one more : Reader (Tall Expr)) (room : ℕ) (f : Parts written IsExpr height room one)
-    (g : (ts : List Token) (y : Tall Expr × List Token) → more ts ≡ Ok y → (0 < room) × Part written IsExpr height (room - 1) ts y.0 y.1) where
+    (g : (ts : List Token) (y : Took Expr) → more ts ≡ Ok y → (0 < room) × Part written IsExpr height (room - 1) ts y.0 y.1) where
   comma-part : Parts comma_written IsExpr height (room - 1) (comma_expr one more room)
   comma-part ts y h =
-      let P : Tall Expr × List Token → Type 0 = λ z. Part comma_written IsExpr height (room - 1) ts z.0 z.1 in
+      let P : Took Expr → Type 0 = λ z. Part comma_written IsExpr height (room - 1) ts z.0 z.1 in
       bound (mark m.Comma ts) _ y P h (λ u comma h1.
       let x = g u.1 y h1 in
       record { spelled = mark_plain m.Comma ts u comma ⨾ x.1.spelled; fits = x.1.fits; size = x.1.size; low = x.1.low })
 
-  behind-part : (ts us : List Token) (x : Tall Expr) (y : Tall Exprs × List Token) → Part written IsExpr height room ts x us → list_behind one more room x us ≡ Ok y
-      → Part list_written SomeExprs list_height room ts y.0 y.1
+  behind-part : (ts us : List Token) (x : Tall Expr) (y : Took Exprs) → Part written IsExpr height room ts x us → list_behind one more room x us ≡ Ok y
+      → SomeListAt room ts y
   unfolding list_behind
   behind-part ts us x y first h =
-      let P : Tall Exprs × List Token → Type 0 = λ z. Part list_written SomeExprs list_height room ts z.0 z.1 in
+      let P : Took Exprs → Type 0 = SomeListAt room ts in
       chosen (is_mark m.Comma (kind_at us)) _ _ y P h
       (λ comma h1.
       guarded (nat_lt x.1 room) _ _ y P h1 (λ below h2.
@@ -74,13 +81,13 @@ module _ (one more : Reader (Tall Expr)) (room : ℕ) (f : Parts written IsExpr 
   pub list-part : Parts list_written SomeExprs list_height room (list one more room)
   unfolding list
   list-part ts y h =
-      let P : Tall Exprs × List Token → Type 0 = λ z. Part list_written SomeExprs list_height room ts z.0 z.1 in
+      let P : Took Exprs → Type 0 = SomeListAt room ts in
       bound (one ts) _ y P h (λ x read h1. behind-part ts x.1 x.0 y (f ts x read) h1)
 
   pub list-before-part : (close : Mark) → Parts list_written AreExprs list_height room (list_before one more room close)
   unfolding list_before
   list-before-part close ts y h =
-      let P : Tall Exprs × List Token → Type 0 = λ z. Part list_written AreExprs list_height room ts z.0 z.1 in
+      let P : Took Exprs → Type 0 = ListAt room ts in
       chosen (is_mark close (kind_at ts)) _ _ y P h
       (λ closes h1. answered _ y P h1 (record { spelled = no_words ts; fits = tt; size = refl; low = omega arith }))
       (λ opens h1.

@@ -21,7 +21,7 @@ use Rattle.sl_syntax.specs.Written.{Written, at, binary_mark, prefix_mark, postf
 use Rattle.sl_grammar.specs.Expressions.{infix_of, binds_or, piece_level, goes_on, list_before, arguments, named, library_call, parentheses, prefixed, operand_by, operand}
 use Rattle.sl_grammar.specs.Steps.{Reader, Tall, kind_at, is_mark, mark, identifier, library}
 use Rattle.sl_grammar.proofs.SoundLists.{list-before-part}
-use Rattle.sl_grammar.proofs.SoundSteps.{bound, some_one, chosen, guarded, answered, ◌⨾◌, one_word, one_number, mark_plain, identifier_took, library_took, Part, Parts}
+use Rattle.sl_grammar.proofs.SoundSteps.{Took, bound, some_one, chosen, guarded, answered, ◌⨾◌, one_word, one_number, mark_plain, identifier_took, library_took, Part, Parts}
 
 -- what is read, where it stops, and how tightly it binds
 pub record Found (room least : ℕ) (ts : List Token) (p : Tall Expr) (rest : List Token) : Type 0 where
@@ -80,7 +80,7 @@ pub record Left (room least : ℕ) (ts : List Token) (p : Tall Expr) (rest : Lis
 
 -- the reader of inner expressions finds trees with one node less
 abbrev pub Finds : (ℕ → Reader (Tall Expr)) → ℕ → Type 0
-Finds inner room = (least : ℕ) (ts : List Token) (y : Tall Expr × List Token) → 1 ≤ least → least ≤ 7 → inner least ts ≡ Ok y → (0 < room) × Found (room - 1) least ts y.0 y.1
+Finds inner room = (least : ℕ) (ts : List Token) (y : Took Expr) → 1 ≤ least → least ≤ 7 → inner least ts ≡ Ok y → (0 < room) × Found (room - 1) least ts y.0 y.1
 
 -- what stands in parentheses behind a name, with them
 abbrev pub arguments_written : Exprs → List Written
@@ -90,7 +90,7 @@ module _ (inner smaller : ℕ → Reader (Tall Expr)) (room : ℕ) (f : Finds in
   pub arguments-part : 0 < room → Parts arguments_written AreExprs list_height (room - 1) (arguments inner smaller room)
   unfolding arguments
   arguments-part high ts y h =
-      let P : Tall Exprs × List Token → Type 0 = λ z. Part arguments_written AreExprs list_height (room - 1) ts z.0 z.1 in
+      let P : Took Exprs → Type 0 = λ z. Part arguments_written AreExprs list_height (room - 1) ts z.0 z.1 in
       bound (mark m.LeftParenthesis ts) _ y P h (λ u opened h1.
       bound (list_before (inner 1) (smaller 1) (room - 1) m.RightParenthesis u.1) _ y P h1 (λ xs read h2.
       bound (mark m.RightParenthesis xs.1) _ y P h2 (λ v closed h3.
@@ -103,10 +103,10 @@ module _ (inner smaller : ℕ → Reader (Tall Expr)) (room : ℕ) (f : Finds in
         low = found.low;
       }))))
 
-  named-left : (ts : List Token) (y : Tall Expr × List Token) → named inner smaller room ts ≡ Ok y → Left room 7 ts y.0 y.1
+  named-left : (ts : List Token) (y : Took Expr) → named inner smaller room ts ≡ Ok y → Left room 7 ts y.0 y.1
   unfolding named
   named-left ts y h =
-      let P : Tall Expr × List Token → Type 0 = λ z. Left room 7 ts z.0 z.1 in
+      let P : Took Expr → Type 0 = λ z. Left room 7 ts z.0 z.1 in
       bound (identifier ts) _ y P h (λ x name h1.
       let first = identifier_took ts x name in
       chosen (is_mark m.LeftParenthesis (kind_at x.1)) _ _ y P h1
@@ -127,10 +127,10 @@ module _ (inner smaller : ℕ → Reader (Tall Expr)) (room : ℕ) (f : Finds in
         goes = omega (arith, goes-low (kind_at x.1));
       })))
 
-  library-left : (ts : List Token) (y : Tall Expr × List Token) → library_call inner smaller room ts ≡ Ok y → Left room 7 ts y.0 y.1
+  library-left : (ts : List Token) (y : Took Expr) → library_call inner smaller room ts ≡ Ok y → Left room 7 ts y.0 y.1
   unfolding library_call
   library-left ts y h =
-      let P : Tall Expr × List Token → Type 0 = λ z. Left room 7 ts z.0 z.1 in
+      let P : Took Expr → Type 0 = λ z. Left room 7 ts z.0 z.1 in
       guarded (nat_lt 0 room) _ _ y P h (λ high h1.
       bound (library ts) _ y P h1 (λ x name h2.
       bound (arguments inner smaller room x.1) _ y P h2 (λ xs read h3.
@@ -143,10 +143,10 @@ module _ (inner smaller : ℕ → Reader (Tall Expr)) (room : ℕ) (f : Finds in
         goes = omega (arith, goes-low (kind_at xs.1));
       }))))
 
-  parentheses-left : (ts : List Token) (y : Tall Expr × List Token) → kind_at ts ≡ k.Mark m.LeftParenthesis → parentheses inner smaller room ts ≡ Ok y → Left room 7 ts y.0 y.1
+  parentheses-left : (ts : List Token) (y : Took Expr) → kind_at ts ≡ k.Mark m.LeftParenthesis → parentheses inner smaller room ts ≡ Ok y → Left room 7 ts y.0 y.1
   unfolding parentheses
   parentheses-left ts y e h =
-      let P : Tall Expr × List Token → Type 0 = λ z. Left room 7 ts z.0 z.1 in
+      let P : Took Expr → Type 0 = λ z. Left room 7 ts z.0 z.1 in
       guarded (nat_lt 0 room) _ _ y P h (λ _ h1.
       bound (inner 1 (drop 1 ts)) _ y P h1 (λ x read h2.
       bound (mark m.RightParenthesis x.1) _ y P h2 (λ v closed h3.
@@ -162,10 +162,10 @@ module _ (inner smaller : ℕ → Reader (Tall Expr)) (room : ℕ) (f : Finds in
         goes = omega (arith, goes-low (kind_at v.1));
       }))))
 
-  prefixed-left : (op : PrefixOperator) (ts : List Token) (y : Tall Expr × List Token) → kind_at ts ≡ k.Mark (prefix_mark op) → prefixed inner smaller room op ts ≡ Ok y → Left room 7 ts y.0 y.1
+  prefixed-left : (op : PrefixOperator) (ts : List Token) (y : Took Expr) → kind_at ts ≡ k.Mark (prefix_mark op) → prefixed inner smaller room op ts ≡ Ok y → Left room 7 ts y.0 y.1
   unfolding prefixed
   prefixed-left op ts y e h =
-      let P : Tall Expr × List Token → Type 0 = λ z. Left room 7 ts z.0 z.1 in
+      let P : Took Expr → Type 0 = λ z. Left room 7 ts z.0 z.1 in
       guarded (nat_lt 0 room) _ _ y P h (λ _ h1.
       bound (inner 7 (drop 1 ts)) _ y P h1 (λ x read h2.
       let found = f 7 (drop 1 ts) x (omega arith) (omega arith) read in
@@ -180,7 +180,7 @@ module _ (inner smaller : ℕ → Reader (Tall Expr)) (room : ℕ) (f : Finds in
         goes = omega (arith, found.1.stops);
       })))
 
-  operand-by : (kind : Kind) (ts : List Token) (y : Tall Expr × List Token) → kind_at ts ≡ kind → operand_by inner smaller room kind ts ≡ Ok y → Left room 7 ts y.0 y.1
+  operand-by : (kind : Kind) (ts : List Token) (y : Took Expr) → kind_at ts ≡ kind → operand_by inner smaller room kind ts ≡ Ok y → Left room 7 ts y.0 y.1
   operand-by k.Number ts y e h = answered _ y (λ z. Left room 7 ts z.0 z.1) h (record {
     part = record { spelled = one_number ts e; fits = tt; size = refl; low = omega arith };
     tight = omega arith;
@@ -201,6 +201,6 @@ module _ (inner smaller : ℕ → Reader (Tall Expr)) (room : ℕ) (f : Finds in
   operand-by (k.Mark m.MinusMinus) ts y e h = prefixed-left prefix.Decrement ts y e h
   operand-by _ ts y e h = absurd cc
 
-  pub operand-left : (ts : List Token) (y : Tall Expr × List Token) → operand inner smaller room ts ≡ Ok y → Left room 7 ts y.0 y.1
+  pub operand-left : (ts : List Token) (y : Took Expr) → operand inner smaller room ts ≡ Ok y → Left room 7 ts y.0 y.1
   unfolding operand
   operand-left ts y h = operand-by (kind_at ts) ts y refl h

@@ -19,9 +19,13 @@ use Rattle.sl_grammar.specs.Statements.{is_more, braced, stmt, function_behind, 
 use Rattle.sl_grammar.specs.Steps.{Tall, kind_at, mark, identifier}
 use Rattle.sl_grammar.proofs.KindLaws.{fixed, not_end}
 use Rattle.sl_grammar.proofs.SoundDeclarations.{params-part}
-use Rattle.sl_grammar.proofs.SoundSteps.{bound, answered, Spelled, ◌⨾◌, one_word, mark_plain, identifier_took, Part, Parts, behind}
+use Rattle.sl_grammar.proofs.SoundSteps.{Took, bound, answered, Spelled, ◌⨾◌, one_word, mark_plain, identifier_took, Part, Parts, behind}
 use Rattle.sl_grammar.proofs.SoundBlocks.{braced-part}
 use Rattle.sl_grammar.proofs.SoundStatements.{stmt-sound}
+
+-- what is read from these tokens
+abbrev pub FunctionAt : ℕ → List Token → Took Function → Type 0
+FunctionAt room ts y = Part function_written IsFunction function_height room ts y.0 y.1
 
 result_kind : ResultType → Kind
 result_kind z.Void = k.Void
@@ -32,11 +36,11 @@ unfolding result_kind
 result-fixed z.Void = refl
 result-fixed (z.Scalar scalar) = refl
 
-function-found : (result : ResultType) (ts : List Token) (y : Tall Function × List Token) → kind_at ts ≡ result_kind result → function_behind result ts ≡ Ok y
-    → Part function_written IsFunction function_height TREE_DEPTH ts y.0 y.1
+function-found : (result : ResultType) (ts : List Token) (y : Took Function) → kind_at ts ≡ result_kind result → function_behind result ts ≡ Ok y
+    → FunctionAt TREE_DEPTH ts y
 unfolding function_behind
 function-found result ts y e h =
-    let P : Tall Function × List Token → Type 0 = λ z. Part function_written IsFunction function_height TREE_DEPTH ts z.0 z.1 in
+    let P : Took Function → Type 0 = FunctionAt TREE_DEPTH ts in
     bound (identifier (drop 1 ts)) _ y P h (λ x name h1.
     bound (mark m.LeftParenthesis x.1) _ y P h1 (λ u opened h2.
     bound (params u.1) _ y P h2 (λ ps read h3.
@@ -52,8 +56,8 @@ function-found result ts y e h =
       low = omega (arith, given.low, does.low);
     }))))))
 
-function-by : (kind : Kind) (ts : List Token) (y : Tall Function × List Token) → kind_at ts ≡ kind → function_by kind ts ≡ Ok y
-    → Part function_written IsFunction function_height TREE_DEPTH ts y.0 y.1
+function-by : (kind : Kind) (ts : List Token) (y : Took Function) → kind_at ts ≡ kind → function_by kind ts ≡ Ok y
+    → FunctionAt TREE_DEPTH ts y
 unfolding result_kind
 function-by k.Void ts y e h = function-found z.Void ts y e h
 function-by (k.Scalar scalar) ts y e h = function-found (z.Scalar scalar) ts y e h
@@ -76,7 +80,7 @@ no_token (t ∷ ts) h = absurd (not_end t.word (is_end_kind (kind_of t.word) h))
 pub read_program : (ts : List Token) (p : Program) (h : ℕ) (rest : List Token) → program ts ≡ Ok ((p, h), rest) → (rest ≡ []) × Shaped p × Placed p ts
 unfolding program
 read_program ts p h rest read =
-    let P : Tall Program × List Token → Type 0 = λ y. (y.1 ≡ []) × Shaped y.0.0 × Placed y.0.0 ts in
+    let P : Took Program → Type 0 = λ y. (y.1 ≡ []) × Shaped y.0.0 × Placed y.0.0 ts in
     bound (function ts) _ ((p, h), rest) P read (λ x one h1.
     let first = function-part ts x one in
     let others = behind function_written IsFunction function_height TREE_DEPTH is_more function function-part (x.0.0 ∷ [], x.0.1) x.1 ((p, h), rest) h1 in

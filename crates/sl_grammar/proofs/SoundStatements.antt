@@ -17,7 +17,7 @@ use Rattle.sl_grammar.specs.Statements.{is_else, braced, block, condition, other
 use Rattle.sl_grammar.specs.Steps.{Reader, Tall, kind_at, is_mark, mark}
 use Rattle.sl_grammar.proofs.SoundEffects.{effect-part}
 use Rattle.sl_grammar.proofs.SoundExpressions.{expr-part}
-use Rattle.sl_grammar.proofs.SoundSteps.{bound, chosen, guarded, answered, ◌⨾◌, respelled, one_word, one_plain, seen, mark_plain, begun}
+use Rattle.sl_grammar.proofs.SoundSteps.{Took, bound, chosen, guarded, answered, ◌⨾◌, respelled, one_word, one_plain, seen, mark_plain, begun}
 use Rattle.sl_grammar.proofs.SoundBlocks.{FoundStmt, Finds, braced-part, condition-part, tested-written}
 use Rattle.sl_grammar.proofs.SoundFors.{for-found}
 
@@ -31,9 +31,9 @@ is_else_kind k.Else h = refl
 is_else_kind _ h = absurd (false≢true h)
 
 module _ (inner : Reader (Tall Stmt)) (room : ℕ) (f : Finds inner room) where
-  block-found : (ts : List Token) (y : Tall Stmt × List Token) → block inner room ts ≡ Ok y → FoundStmt (room + 1) ts y.0 y.1
+  block-found : (ts : List Token) (y : Took Stmt) → block inner room ts ≡ Ok y → FoundStmt (room + 1) ts y.0 y.1
   block-found ts y h =
-      let P : Tall Stmt × List Token → Type 0 = λ z. FoundStmt (room + 1) ts z.0 z.1 in
+      let P : Took Stmt → Type 0 = λ z. FoundStmt (room + 1) ts z.0 z.1 in
       bound (braced inner room ts) _ y P h (λ b read h1.
       let found = braced-part inner room f ts b read in
       answered _ y P h1 (record {
@@ -41,10 +41,10 @@ module _ (inner : Reader (Tall Stmt)) (room : ℕ) (f : Finds inner room) where
         closed = λ e. absurd (false≢true e);
       }))
 
-  choice-found : (ts : List Token) (y : Tall Stmt × List Token) → kind_at ts ≡ k.If → choice inner room ts ≡ Ok y → FoundStmt (room + 1) ts y.0 y.1
+  choice-found : (ts : List Token) (y : Took Stmt) → kind_at ts ≡ k.If → choice inner room ts ≡ Ok y → FoundStmt (room + 1) ts y.0 y.1
   unfolding choice otherwise
   choice-found ts y e h =
-      let P : Tall Stmt × List Token → Type 0 = λ z. FoundStmt (room + 1) ts z.0 z.1 in
+      let P : Took Stmt → Type 0 = λ z. FoundStmt (room + 1) ts z.0 z.1 in
       guarded (nat_lt 0 room) _ _ y P h (λ _ h1.
       bound (condition inner room (drop 1 ts)) _ y P h1 (λ c test h2.
       bound (inner c.1) _ y P h2 (λ a first_read h3.
@@ -77,10 +77,10 @@ module _ (inner : Reader (Tall Stmt)) (room : ℕ) (f : Finds inner room) where
         closed = λ _. none;
       })))))
 
-  loop-found : (ts : List Token) (y : Tall Stmt × List Token) → kind_at ts ≡ k.While → loop inner room ts ≡ Ok y → FoundStmt (room + 1) ts y.0 y.1
+  loop-found : (ts : List Token) (y : Took Stmt) → kind_at ts ≡ k.While → loop inner room ts ≡ Ok y → FoundStmt (room + 1) ts y.0 y.1
   unfolding loop
   loop-found ts y e h =
-      let P : Tall Stmt × List Token → Type 0 = λ z. FoundStmt (room + 1) ts z.0 z.1 in
+      let P : Took Stmt → Type 0 = λ z. FoundStmt (room + 1) ts z.0 z.1 in
       guarded (nat_lt 0 room) _ _ y P h (λ _ h1.
       bound (condition inner room (drop 1 ts)) _ y P h1 (λ c test h2.
       bound (inner c.1) _ y P h2 (λ a read h3.
@@ -96,10 +96,10 @@ module _ (inner : Reader (Tall Stmt)) (room : ℕ) (f : Finds inner room) where
         closed = body.closed;
       }))))
 
-  return-found : (ts : List Token) (y : Tall Stmt × List Token) → kind_at ts ≡ k.Return → return_stmt inner room ts ≡ Ok y → FoundStmt (room + 1) ts y.0 y.1
+  return-found : (ts : List Token) (y : Took Stmt) → kind_at ts ≡ k.Return → return_stmt inner room ts ≡ Ok y → FoundStmt (room + 1) ts y.0 y.1
   unfolding return_stmt
   return-found ts y e h =
-      let P : Tall Stmt × List Token → Type 0 = λ z. FoundStmt (room + 1) ts z.0 z.1 in
+      let P : Took Stmt → Type 0 = λ z. FoundStmt (room + 1) ts z.0 z.1 in
       let word = one_word ts k.Return (w.Key (codes "return")) e refl in
       chosen (is_mark m.Semicolon (kind_at (drop 1 ts))) _ _ y P h
       (λ ends h1.
@@ -121,10 +121,10 @@ module _ (inner : Reader (Tall Stmt)) (room : ℕ) (f : Finds inner room) where
         closed = λ e. absurd (false≢true e);
       }))))
 
-  effect-found : (ts : List Token) (y : Tall Stmt × List Token) → effect_stmt inner room ts ≡ Ok y → FoundStmt (room + 1) ts y.0 y.1
+  effect-found : (ts : List Token) (y : Took Stmt) → effect_stmt inner room ts ≡ Ok y → FoundStmt (room + 1) ts y.0 y.1
   unfolding effect_stmt
   effect-found ts y h =
-      let P : Tall Stmt × List Token → Type 0 = λ z. FoundStmt (room + 1) ts z.0 z.1 in
+      let P : Took Stmt → Type 0 = λ z. FoundStmt (room + 1) ts z.0 z.1 in
       bound (effect room ts) _ y P h (λ x read h1.
       bound (mark m.Semicolon x.1) _ y P h1 (λ u close h2.
       let found = effect-part room ts x read in
@@ -138,10 +138,10 @@ module _ (inner : Reader (Tall Stmt)) (room : ℕ) (f : Finds inner room) where
         closed = λ e. absurd (false≢true e);
       })))
 
-  break-found : (ts : List Token) (y : Tall Stmt × List Token) → kind_at ts ≡ k.Break → word_stmt inner room t.break ts ≡ Ok y → FoundStmt (room + 1) ts y.0 y.1
+  break-found : (ts : List Token) (y : Took Stmt) → kind_at ts ≡ k.Break → word_stmt inner room t.break ts ≡ Ok y → FoundStmt (room + 1) ts y.0 y.1
   unfolding word_stmt
   break-found ts y e h =
-      let P : Tall Stmt × List Token → Type 0 = λ z. FoundStmt (room + 1) ts z.0 z.1 in
+      let P : Took Stmt → Type 0 = λ z. FoundStmt (room + 1) ts z.0 z.1 in
       bound (mark m.Semicolon (drop 1 ts)) _ y P h (λ u close h1.
       answered _ y P h1 (record {
         part = record {
@@ -153,10 +153,10 @@ module _ (inner : Reader (Tall Stmt)) (room : ℕ) (f : Finds inner room) where
         closed = λ e. absurd (false≢true e);
       }))
 
-  continue-found : (ts : List Token) (y : Tall Stmt × List Token) → kind_at ts ≡ k.Continue → word_stmt inner room t.continue ts ≡ Ok y → FoundStmt (room + 1) ts y.0 y.1
+  continue-found : (ts : List Token) (y : Took Stmt) → kind_at ts ≡ k.Continue → word_stmt inner room t.continue ts ≡ Ok y → FoundStmt (room + 1) ts y.0 y.1
   unfolding word_stmt
   continue-found ts y e h =
-      let P : Tall Stmt × List Token → Type 0 = λ z. FoundStmt (room + 1) ts z.0 z.1 in
+      let P : Took Stmt → Type 0 = λ z. FoundStmt (room + 1) ts z.0 z.1 in
       bound (mark m.Semicolon (drop 1 ts)) _ y P h (λ u close h1.
       answered _ y P h1 (record {
         part = record {
@@ -168,7 +168,7 @@ module _ (inner : Reader (Tall Stmt)) (room : ℕ) (f : Finds inner room) where
         closed = λ e. absurd (false≢true e);
       }))
 
-  pub stmt-by : (kind : Kind) (ts : List Token) (y : Tall Stmt × List Token) → kind_at ts ≡ kind → stmt_by inner room kind ts ≡ Ok y → FoundStmt (room + 1) ts y.0 y.1
+  pub stmt-by : (kind : Kind) (ts : List Token) (y : Took Stmt) → kind_at ts ≡ kind → stmt_by inner room kind ts ≡ Ok y → FoundStmt (room + 1) ts y.0 y.1
   stmt-by (k.Mark m.LeftBrace) ts y e h = block-found ts y h
   stmt-by k.If ts y e h = choice-found ts y e h
   stmt-by k.While ts y e h = loop-found ts y e h
@@ -179,7 +179,7 @@ module _ (inner : Reader (Tall Stmt)) (room : ℕ) (f : Finds inner room) where
   stmt-by _ ts y e h = effect-found ts y h
 
 -- What is read is the words of a statement that is at most so high.
-pub stmt-sound : (room : ℕ) (ts : List Token) (y : Tall Stmt × List Token) → stmt room ts ≡ Ok y → FoundStmt room ts y.0 y.1
+pub stmt-sound : (room : ℕ) (ts : List Token) (y : Took Stmt) → stmt room ts ≡ Ok y → FoundStmt room ts y.0 y.1
 unfolding stmt
 stmt-sound zero ts y h = absurd cc
 stmt-sound (suc room) ts y h = rw suc-is (stmt-by (stmt room) room (stmt-sound room) (kind_at ts) ts y refl h)

@@ -21,6 +21,10 @@ use Rattle.sl_grammar.specs.declared.fault.Fault.{Fault}
 use Rattle.sl_grammar.specs.Steps.{Outcome, Reader, Tall, and_then, kind_at, here, is_mark, mark, number_at, text_at, identifier_at, identifier_by, identifier, library_by, library, repeat, all_behind}
 use Rattle.sl_grammar.proofs.KindLaws.{fixed, word_of_kind, name_word, number_word, text_word, library_word, is_mark_kind}
 
+-- what is read, with its height, and the tokens behind it
+abbrev pub Took : Type 0 → Type 0
+Took A = Tall A × List Token
+
 -- Eliminations of a step that answered Ok, each with a name for what it bound.
 pub bound : {A B : Type 0} (o : Outcome A) (f : A → Reader B) (y : B × List Token) (P : B × List Token → Type 0) → and_then o f ≡ Ok y
     → ((p : A × List Token) → o ≡ Ok p → f p.0 p.1 ≡ Ok y → P y) → P y
@@ -175,7 +179,7 @@ pub record Part {A : Type 0} (written : A → List Written) (Fits : A → Type 0
 
 -- what a reader answers is such a part
 abbrev pub Parts : {A : Type 0} → (A → List Written) → (A → Type 0) → (A → ℕ) → ℕ → Reader (Tall A) → Type 0
-Parts {A} written Fits height room item = (ts : List Token) (y : Tall A × List Token) → item ts ≡ Ok y → Part written Fits height room ts y.0 y.1
+Parts {A} written Fits height room item = (ts : List Token) (y : Took A) → item ts ≡ Ok y → Part written Fits height room ts y.0 y.1
 
 -- the items that were read behind those that are done
 pub record More {A : Type 0} (written : A → List Written) (Fits : A → Type 0) (height : A → ℕ) (room : ℕ) (goes : Kind → Bool)
@@ -200,14 +204,14 @@ module _ {A : Type 0} (written : A → List Written) (Fits : A → Type 0) (heig
     stops = stop;
   }
 
-  repeat-more : (turns : ℕ) (done : Tall (List A)) (ts : List Token) (y : Tall (List A) × List Token) → repeat goes item turns done ts ≡ Ok y
+  repeat-more : (turns : ℕ) (done : Tall (List A)) (ts : List Token) (y : Took (List A)) → repeat goes item turns done ts ≡ Ok y
       → More written Fits height room goes done ts y.0 y.1
   unfolding repeat
   repeat-more zero done ts y h =
-      let P : Tall (List A) × List Token → Type 0 = λ z. More written Fits height room goes done ts z.0 z.1 in
+      let P : Took (List A) → Type 0 = λ z. More written Fits height room goes done ts z.0 z.1 in
       chosen (goes (kind_at ts)) _ _ y P h (λ on h1. absurd cc) (λ stop h1. answered _ y P h1 (stopped done ts stop))
   repeat-more (suc n) done ts y h =
-      let P : Tall (List A) × List Token → Type 0 = λ z. More written Fits height room goes done ts z.0 z.1 in
+      let P : Took (List A) → Type 0 = λ z. More written Fits height room goes done ts z.0 z.1 in
       chosen (goes (kind_at ts)) _ _ y P h
       (λ on h1.
       bound (item ts) _ y P h1 (λ x read h2.
@@ -225,7 +229,7 @@ module _ {A : Type 0} (written : A → List Written) (Fits : A → Type 0) (heig
       (λ stop h1. answered _ y P h1 (stopped done ts stop))
 
   -- the items that follow
-  pub behind : (done : Tall (List A)) (ts : List Token) (y : Tall (List A) × List Token) → all_behind goes item done ts ≡ Ok y
+  pub behind : (done : Tall (List A)) (ts : List Token) (y : Took (List A)) → all_behind goes item done ts ≡ Ok y
       → More written Fits height room goes done ts y.0 y.1
   behind done ts y h = repeat-more (length ts) done ts y h
 
