@@ -113,7 +113,8 @@ module _ (inner : Reader (Tall Stmt)) (room : ℕ) (f : Finds inner room) where
       bound (mark m.RightBrace xs.1) _ y P h2 (λ v closed h3.
       let found = behind item_written IsItem item_height room is_item (item room inner) item-part ([], 0) u.1 xs read in
       answered _ y P h3 (record {
-        spelled = rw found.all (mark_here m.LeftBrace ts u opened ⨾ (respelled (items-written found.items) found.spelled ⨾ mark_took m.RightBrace xs.1 v closed));
+        spelled = rw found.all (mark_here m.LeftBrace ts u opened
+            ⨾ (respelled (items-written found.items) found.spelled ⨾ mark_took m.RightBrace xs.1 v closed));
         fits = rw found.all (are_items found.items found.each);
         size = rw found.all (omega (arith, found.size, items-height found.items));
         low = omega (arith, found.size, found.low);

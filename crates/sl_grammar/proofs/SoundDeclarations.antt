@@ -22,7 +22,7 @@ use Rattle.sl_syntax.specs.Written as s
 use Rattle.sl_syntax.specs.Written.{Written, at, plain, is_map, scalar_word, form_word, elements_written, container_written, written, list_written, initializer_written, value_written, declaration_written, option_written, param_written, params_written}
 use Rattle.sl_grammar.specs.Declarations.{int_by, int, elements_by, container_type, optional_value, scalar_declaration, auto_declaration, braces, behind_equal_by, constructed, initializer_by, initializer, container_declaration, scalar_param, container_param, container_by, const_param, param_by, param, comma_param, params}
 use Rattle.sl_grammar.specs.Expressions.{expr, list, list_before}
-use Rattle.sl_grammar.specs.Steps.{Tall, kind_at, here, is_mark, mark, identifier}
+use Rattle.sl_grammar.specs.Steps.{kind_at, here, is_mark, mark, identifier}
 use Rattle.sl_grammar.proofs.SoundExpressions.{sound, expr-part}
 use Rattle.sl_grammar.proofs.SoundLists.{list-part, list-before-part}
 use Rattle.sl_grammar.proofs.SoundSteps.{Took, bound, chosen, guarded, answered, Spelled, ◌⨾◌, no_words, respelled, one_word, one_plain, seen, mark_plain, identifier_took, Part, Parts, behind}
@@ -41,8 +41,10 @@ InitializerAt room ts y = Part initializer_written IsInitializer initializer_hei
 abbrev pub ParamAt : ℕ → List Token → Took Param → Type 0
 ParamAt room ts y = Part param_written AnyParam param_height room ts y.0 y.1
 
-int-by : (kind : Kind) (ts : List Token) (y : Unit {0} × List Token) → kind_at ts ≡ kind → int_by kind ts ≡ Ok y → Spelled (plain (scalar_word c.Int) ∷ []) ts y.1
-int-by (k.Scalar c.Int) ts y e h = answered _ y (λ z. Spelled (plain (scalar_word c.Int) ∷ []) ts z.1) h (one_plain ts (k.Scalar c.Int) (scalar_word c.Int) e refl)
+int-by : (kind : Kind) (ts : List Token) (y : Unit {0} × List Token) → kind_at ts ≡ kind → int_by kind ts ≡ Ok y
+    → Spelled (plain (scalar_word c.Int) ∷ []) ts y.1
+int-by (k.Scalar c.Int) ts y e h = answered _ y (λ z. Spelled (plain (scalar_word c.Int) ∷ []) ts z.1) h
+    (one_plain ts (k.Scalar c.Int) (scalar_word c.Int) e refl)
 int-by (k.Scalar _) ts y e h = absurd cc
 int-by _ ts y e h = absurd cc
 
@@ -64,7 +66,8 @@ elements-took true ts y h =
     bound (mark m.Comma x.1) _ y P h2 (λ a comma h3.
     bound (int a.1) _ y P h3 (λ b two h4.
     bound (mark m.Greater b.1) _ y P h4 (λ v greater h5.
-    answered _ y P h5 (mark_plain m.Less ts u less ⨾ (int-took u.1 x one ⨾ (mark_plain m.Comma x.1 a comma ⨾ (int-took a.1 b two ⨾ mark_plain m.Greater b.1 v greater)))))))))
+    answered _ y P h5 (mark_plain m.Less ts u less
+    ⨾ (int-took u.1 x one ⨾ (mark_plain m.Comma x.1 a comma ⨾ (int-took a.1 b two ⨾ mark_plain m.Greater b.1 v greater)))))))))
 
 type-took : (form : Form) (ts : List Token) (y : ContainerType × List Token) → kind_at ts ≡ k.Container form → container_type form ts ≡ Ok y
     → Spelled (container_written y.0) ts y.1
@@ -91,7 +94,8 @@ module _ (room : ℕ) where
   scalar-written place scalar x None = refl
   scalar-written place scalar x (Some v) = refl
 
-  pub scalar-part : (scalar : Scalar) (ts : List Token) (y : Took Declaration) → kind_at ts ≡ k.Scalar scalar → scalar_declaration room scalar ts ≡ Ok y
+  pub scalar-part : (scalar : Scalar) (ts : List Token) (y : Took Declaration) → kind_at ts ≡ k.Scalar scalar
+      → scalar_declaration room scalar ts ≡ Ok y
       → DeclarationAt (room + 1) ts y
   unfolding scalar_declaration
   scalar-part scalar ts y e h =
@@ -117,7 +121,8 @@ module _ (room : ℕ) where
       bound (expr (room + 1) 1 u.1) _ y P h2 (λ v read h3.
       let found = expr-part room 1 (omega arith) (omega arith) u.1 v read in
       answered _ y P h3 (record {
-        spelled = one_word ts k.Auto (w.Key (codes "auto")) e refl ⨾ (identifier_took (drop 1 ts) x name ⨾ (mark_plain m.Equal x.1 u equal ⨾ found.spelled));
+        spelled = one_word ts k.Auto (w.Key (codes "auto")) e refl
+            ⨾ (identifier_took (drop 1 ts) x name ⨾ (mark_plain m.Equal x.1 u equal ⨾ found.spelled));
         fits = found.fits;
         size = omega (arith, found.size);
         low = omega (arith, found.low);
@@ -133,7 +138,8 @@ module _ (room : ℕ) where
   opening true = s.mark m.Equal ∷ s.mark m.LeftBrace ∷ []
   opening false = s.mark m.LeftBrace ∷ []
 
-  braces-written : (equal : Bool) (xs : Exprs) → opening equal ++ (list_written xs ++ s.mark m.RightBrace ∷ []) ≡ initializer_written (t.braces equal xs)
+  braces-written : (equal : Bool) (xs : Exprs)
+      → opening equal ++ (list_written xs ++ s.mark m.RightBrace ∷ []) ≡ initializer_written (t.braces equal xs)
   braces-written true xs = refl
   braces-written false xs = refl
 
@@ -144,7 +150,8 @@ module _ (room : ℕ) where
       let P : Took Initializer → Type 0 = InitializerAt room ts in
       bound (list_before (expr (room + 1) 1) (expr room 1) room m.RightBrace us) _ y P h (λ xs read h1.
       bound (mark m.RightBrace xs.1) _ y P h1 (λ v closed h2.
-      let found = list-before-part (expr (room + 1) 1) (expr room 1) room (expr-part room 1 (omega arith) (omega arith)) inner-part m.RightBrace us xs read in
+      let found = list-before-part (expr (room + 1) 1) (expr room 1) room
+      (expr-part room 1 (omega arith) (omega arith)) inner-part m.RightBrace us xs read in
       answered _ y P h2 (record {
         spelled = respelled (braces-written equal xs.0.0) (opened ⨾ (found.spelled ⨾ mark_plain m.RightBrace xs.1 v closed));
         fits = found.fits;
@@ -152,13 +159,15 @@ module _ (room : ℕ) where
         low = found.low;
       })))
 
-  behind-equal : (kind : Kind) (ts us : List Token) (y : Took Initializer) → Spelled (s.mark m.Equal ∷ []) ts us → kind_at us ≡ kind → behind_equal_by room kind us ≡ Ok y
+  behind-equal : (kind : Kind) (ts us : List Token) (y : Took Initializer) → Spelled (s.mark m.Equal ∷ []) ts us → kind_at us ≡ kind
+      → behind_equal_by room kind us ≡ Ok y
       → InitializerAt room ts y
   behind-equal k.Name ts us y equal e h =
       let P : Took Initializer → Type 0 = InitializerAt room ts in
       bound (identifier us) _ y P h (λ x name h1.
       answered _ y P h1 (record { spelled = equal ⨾ identifier_took us x name; fits = tt; size = refl; low = omega arith }))
-  behind-equal (k.Mark m.LeftBrace) ts us y equal e h = braces-part true ts (drop 1 us) y (equal ⨾ one_plain us (k.Mark m.LeftBrace) (w.Mark m.LeftBrace) e refl) h
+  behind-equal (k.Mark m.LeftBrace) ts us y equal e h =
+      braces-part true ts (drop 1 us) y (equal ⨾ one_plain us (k.Mark m.LeftBrace) (w.Mark m.LeftBrace) e refl) h
   behind-equal _ ts us y equal e h = absurd cc
 
   constructed-part : (ts : List Token) (y : Took Initializer) → kind_at ts ≡ k.Mark m.LeftParenthesis → constructed room ts ≡ Ok y
@@ -170,7 +179,8 @@ module _ (room : ℕ) where
       bound (mark m.RightParenthesis xs.1) _ y P h1 (λ v closed h2.
       let found = list-part (expr (room + 1) 1) (expr room 1) room (expr-part room 1 (omega arith) (omega arith)) inner-part (drop 1 ts) xs read in
       answered _ y P h2 (record {
-        spelled = one_plain ts (k.Mark m.LeftParenthesis) (w.Mark m.LeftParenthesis) e refl ⨾ (found.spelled ⨾ mark_plain m.RightParenthesis xs.1 v closed);
+        spelled = one_plain ts (k.Mark m.LeftParenthesis) (w.Mark m.LeftParenthesis) e refl
+            ⨾ (found.spelled ⨾ mark_plain m.RightParenthesis xs.1 v closed);
         fits = found.fits;
         size = found.size;
         low = found.low;
@@ -182,7 +192,8 @@ module _ (room : ℕ) where
 
   initializer-by : (kind : Kind) (ts : List Token) (y : Took Initializer) → kind_at ts ≡ kind → initializer_by room kind ts ≡ Ok y
       → InitializerAt room ts y
-  initializer-by (k.Mark m.Equal) ts y e h = behind-equal (kind_at (drop 1 ts)) ts (drop 1 ts) y (one_plain ts (k.Mark m.Equal) (w.Mark m.Equal) e refl) refl h
+  initializer-by (k.Mark m.Equal) ts y e h = behind-equal (kind_at (drop 1 ts)) ts (drop 1 ts) y
+      (one_plain ts (k.Mark m.Equal) (w.Mark m.Equal) e refl) refl h
   initializer-by (k.Mark m.LeftBrace) ts y e h = braces-part false ts (drop 1 ts) y (one_plain ts (k.Mark m.LeftBrace) (w.Mark m.LeftBrace) e refl) h
   initializer-by (k.Mark m.LeftParenthesis) ts y e h = constructed-part ts y e h
   initializer-by _ ts y e h = absent-part ts y h
@@ -191,7 +202,8 @@ module _ (room : ℕ) where
   unfolding initializer
   initializer-part ts y h = initializer-by (kind_at ts) ts y refl h
 
-  pub container-part : (form : Form) (ts : List Token) (y : Took Declaration) → kind_at ts ≡ k.Container form → container_declaration room form ts ≡ Ok y
+  pub container-part : (form : Form) (ts : List Token) (y : Took Declaration) → kind_at ts ≡ k.Container form
+      → container_declaration room form ts ≡ Ok y
       → DeclarationAt (room + 1) ts y
   unfolding container_declaration
   container-part form ts y e h =
@@ -209,7 +221,8 @@ module _ (room : ℕ) where
         low = omega (arith, above, found.low);
       })))))
 
-scalar_param-part : (scalar : Scalar) (ts : List Token) (y : Took Param) → kind_at ts ≡ k.Scalar scalar → scalar_param (here ts) scalar (drop 1 ts) ≡ Ok y
+scalar_param-part : (scalar : Scalar) (ts : List Token) (y : Took Param) → kind_at ts ≡ k.Scalar scalar
+    → scalar_param (here ts) scalar (drop 1 ts) ≡ Ok y
     → ParamAt 2 ts y
 unfolding scalar_param
 scalar_param-part scalar ts y e h =
@@ -218,7 +231,12 @@ scalar_param-part scalar ts y e h =
     chosen (is_mark m.And (kind_at (drop 1 ts))) _ _ y P h
     (λ sees h1.
     bound (identifier (drop 1 (drop 1 ts))) _ y P h1 (λ x name h2.
-    answered _ y P h2 (record { spelled = first ⨾ (seen m.And (drop 1 ts) sees ⨾ identifier_took (drop 1 (drop 1 ts)) x name); fits = tt; size = refl; low = omega arith })))
+    answered _ y P h2 (record {
+      spelled = first ⨾ (seen m.And (drop 1 ts) sees ⨾ identifier_took (drop 1 (drop 1 ts)) x name);
+      fits = tt;
+      size = refl;
+      low = omega arith;
+    })))
     (λ other h1.
     bound (identifier (drop 1 ts)) _ y P h1 (λ x name h2.
     answered _ y P h2 (record { spelled = first ⨾ identifier_took (drop 1 ts) x name; fits = tt; size = refl; low = omega arith })))
@@ -238,7 +256,8 @@ container_param-part form ts y e h =
       low = omega arith;
     }))))
 
-by-took : (kind : Kind) (ts : List Token) (y : ContainerType × List Token) → kind_at ts ≡ kind → container_by kind ts ≡ Ok y → Spelled (container_written y.0) ts y.1
+by-took : (kind : Kind) (ts : List Token) (y : ContainerType × List Token) → kind_at ts ≡ kind → container_by kind ts ≡ Ok y
+    → Spelled (container_written y.0) ts y.1
 by-took (k.Container form) ts y e h = type-took form ts y e h
 by-took _ ts y e h = absurd cc
 

@@ -40,7 +40,12 @@ shifted_name-part ts y h =
     let P : Took Identifier → Type 0 = λ z. Part name_written Anything flat 0 ts z.0 z.1 in
     bound (mark m.ShiftRight ts) _ y P h (λ u shift h1.
     bound (identifier u.1) _ y P h1 (λ x name h2.
-    answered _ y P h2 (record { spelled = mark_plain m.ShiftRight ts u shift ⨾ identifier_took u.1 x name; fits = tt; size = refl; low = omega arith })))
+    answered _ y P h2 (record {
+      spelled = mark_plain m.ShiftRight ts u shift ⨾ identifier_took u.1 x name;
+      fits = tt;
+      size = refl;
+      low = omega arith;
+    })))
 
 -- a read is a node
 abbrev pub read_height : Read → ℕ
@@ -114,7 +119,8 @@ module _ (room : ℕ) where
       bound (shifted_out room (drop 1 ts)) _ y P h1 (λ x one h2.
       bound (all_behind (is_mark m.ShiftLeft) (shifted_out room) (x.0.0 ∷ [], x.0.1) x.1) _ y P h2 (λ xs more h3.
       let first = shifted-part (drop 1 ts) x one in
-      let others = behind shifted_written IsOut out_height (room - 1) (is_mark m.ShiftLeft) (shifted_out room) shifted-part (x.0.0 ∷ [], x.0.1) x.1 xs more in
+      let others = behind shifted_written IsOut out_height (room - 1) (is_mark m.ShiftLeft) (shifted_out room) shifted-part
+      (x.0.0 ∷ [], x.0.1) x.1 xs more in
       let above : 0 < room = ltb-true 0 room high in
       answered _ y P h3 (record {
         spelled = rw others.all (one_word ts k.Output (w.Lib (codes "cout")) e refl ⨾ (first.spelled ⨾ others.spelled));
@@ -141,7 +147,9 @@ module _ (room : ℕ) where
       let found = sound room 1 (drop 1 us) x (omega arith) (omega arith) read in
       let lower : left.1 < room = ltb-true left.1 room below in
       answered _ y P h2 (record {
-        spelled = first.spelled ⨾ (one_word us (k.Mark (assignment_mark op)) (w.Mark (assignment_mark op)) (assignment-mark (kind_at us) op e) refl ⨾ found.1.part.spelled);
+        spelled = first.spelled
+            ⨾ (one_word us (k.Mark (assignment_mark op)) (w.Mark (assignment_mark op)) (assignment-mark (kind_at us) op e) refl
+            ⨾ found.1.part.spelled);
         fits = (first.fits, found.1.part.fits);
         size = omega (arith, first.size, found.1.part.size);
         low = omega (arith, lower, found.0, found.1.part.low);
@@ -178,7 +186,8 @@ module _ (room : ℕ) where
   drop_twice [] = refl
   drop_twice (x ∷ ts) = refl
 
-  no_read-part : (ts : List Token) (y : Took Cond) → 1 < room → is_mark m.Not (kind_at ts) ≡ true → is_input (kind_at (drop 2 ts)) ≡ true → no_read room ts ≡ Ok y
+  no_read-part : (ts : List Token) (y : Took Cond) → 1 < room → is_mark m.Not (kind_at ts) ≡ true → is_input (kind_at (drop 2 ts)) ≡ true
+      → no_read room ts ≡ Ok y
       → CondAt room ts y
   unfolding no_read
   no_read-part ts y high sees input h =

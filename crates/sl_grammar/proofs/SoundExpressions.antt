@@ -19,12 +19,14 @@ use Rattle.sl_grammar.specs.Steps.{Reader, Tall, kind_at, is_mark, mark, identif
 use Rattle.sl_grammar.proofs.SoundOperands.{Found, Left, Finds, goes-low, binary-low, infix-mark, arguments-part, operand-left}
 use Rattle.sl_grammar.proofs.SoundSteps.{Took, bound, chosen, guarded, answered, ◌⨾◌, one_word, one_plain, mark_plain, identifier_took, Part, Parts}
 
-module _ (inner smaller : ℕ → Reader (Tall Expr)) (room : ℕ) (f : Finds inner room) (g : Finds smaller (room - 1)) (ts : List Token) (left : Tall Expr) (us : List Token) where
+module _ (inner smaller : ℕ → Reader (Tall Expr)) (room : ℕ) (f : Finds inner room) (g : Finds smaller (room - 1)) (ts : List Token)
+    (left : Tall Expr) (us : List Token) where
   -- the left side with what was read behind it
   abbrev Longer : ℕ → Took Expr → Type 0
   Longer least z = Left room least ts z.0 z.1
 
-  binary-longer : (op : BinaryOperator) (y : Took Expr) → Part written IsExpr height room ts left us → left.1 < room → goes_on (kind_at us) ≤ level left.0
+  binary-longer : (op : BinaryOperator) (y : Took Expr) → Part written IsExpr height room ts left us → left.1 < room
+      → goes_on (kind_at us) ≤ level left.0
       → infix_of (kind_at us) ≡ Some op → combined inner smaller room left op us ≡ Ok y → Longer (goes_on (kind_at us)) y
   unfolding combined
   binary-longer op y first below goes e h =
@@ -35,7 +37,8 @@ module _ (inner smaller : ℕ → Reader (Tall Expr)) (room : ℕ) (f : Finds in
       let found = f (binary_level op + 1) (drop 1 us) x (omega arith) (omega arith) read in
       answered _ y P h1 (record {
         part = record {
-          spelled = first.spelled ⨾ (one_word us (k.Mark (binary_mark op)) (w.Mark (binary_mark op)) (infix-mark (kind_at us) op e) refl ⨾ found.1.part.spelled);
+          spelled = first.spelled
+              ⨾ (one_word us (k.Mark (binary_mark op)) (w.Mark (binary_mark op)) (infix-mark (kind_at us) op e) refl ⨾ found.1.part.spelled);
           fits = (omega (arith, told, goes), omega (arith, found.1.tight), first.fits, found.1.part.fits);
           size = omega (arith, first.size, found.1.part.size);
           low = omega (arith, below, found.0, found.1.part.low);
@@ -54,7 +57,8 @@ module _ (inner smaller : ℕ → Reader (Tall Expr)) (room : ℕ) (f : Finds in
       let found = f 1 (drop 1 us) x (omega arith) (omega arith) read in
       answered _ y P h2 (record {
         part = record {
-          spelled = first.spelled ⨾ (one_word us (k.Mark m.LeftBracket) (w.Mark m.LeftBracket) e refl ⨾ (found.1.part.spelled ⨾ mark_plain m.RightBracket x.1 v closed));
+          spelled = first.spelled
+              ⨾ (one_word us (k.Mark m.LeftBracket) (w.Mark m.LeftBracket) e refl ⨾ (found.1.part.spelled ⨾ mark_plain m.RightBracket x.1 v closed));
           fits = (tight, first.fits, found.1.part.fits);
           size = omega (arith, first.size, found.1.part.size);
           low = omega (arith, below, found.0, found.1.part.low);
@@ -136,13 +140,15 @@ module _ (inner smaller : ℕ → Reader (Tall Expr)) (room : ℕ) (f : Finds in
   piece-by (k.Mark m.Arrow) y first below goes e h = arrow-longer y first below goes e h
   piece-by _ y first below goes e h = absurd cc
 
-  operation-by : (op : Option BinaryOperator) (y : Took Expr) → Part written IsExpr height room ts left us → left.1 < room → goes_on (kind_at us) ≤ level left.0
+  operation-by : (op : Option BinaryOperator) (y : Took Expr) → Part written IsExpr height room ts left us → left.1 < room
+      → goes_on (kind_at us) ≤ level left.0
       → infix_of (kind_at us) ≡ op → operation_by inner smaller room left op us ≡ Ok y → Longer (goes_on (kind_at us)) y
   unfolding piece
   operation-by (Some op) y first below goes e h = binary-longer op y first below goes e h
   operation-by None y first below goes e h = piece-by (kind_at us) y first below goes refl h
 
-  operation-longer : (y : Took Expr) → Left room 1 ts left us → left.1 < room → operation inner smaller room left us ≡ Ok y → Longer (goes_on (kind_at us)) y
+  operation-longer : (y : Took Expr) → Left room 1 ts left us → left.1 < room → operation inner smaller room left us ≡ Ok y
+      → Longer (goes_on (kind_at us)) y
   unfolding operation
   operation-longer y first below h = operation-by (infix_of (kind_at us)) y first.part below first.goes refl h
 
@@ -166,7 +172,8 @@ module _ (inner smaller : ℕ → Reader (Tall Expr)) (room : ℕ) (f : Finds in
       let longer = operation-longer inner smaller room f g ts left us x start (ltb-true left.1 room below) read in
       climb-found n least ts x.0 x.1 y one (record { part = longer.part; tight = omega (arith, longer.tight); goes = longer.goes }) h3)))
 
-  pub from_operand-found : (least : ℕ) (ts : List Token) (y : Took Expr) → 1 ≤ least → least ≤ 7 → from_operand inner smaller room least ts ≡ Ok y → Found room least ts y.0 y.1
+  pub from_operand-found : (least : ℕ) (ts : List Token) (y : Took Expr) → 1 ≤ least → least ≤ 7 → from_operand inner smaller room least ts ≡ Ok y
+      → Found room least ts y.0 y.1
   unfolding from_operand
   from_operand-found least ts y one low h =
       let P : Took Expr → Type 0 = λ z. Found room least ts z.0 z.1 in
@@ -175,7 +182,8 @@ module _ (inner smaller : ℕ → Reader (Tall Expr)) (room : ℕ) (f : Finds in
       climb-found room least ts x.0 x.1 y one (record { part = left.part; tight = omega (arith, left.tight); goes = left.goes }) h1)
 
 -- What is read is the words of an expression with fewer nodes on each way than the depth, and what follows doesn't go on with it.
-pub sound : (d least : ℕ) (ts : List Token) (y : Took Expr) → 1 ≤ least → least ≤ 7 → expr d least ts ≡ Ok y → (0 < d) × Found (d - 1) least ts y.0 y.1
+pub sound : (d least : ℕ) (ts : List Token) (y : Took Expr) → 1 ≤ least → least ≤ 7 → expr d least ts ≡ Ok y
+    → (0 < d) × Found (d - 1) least ts y.0 y.1
 unfolding expr
 sound zero least ts y one low h = absurd cc
 sound (suc zero) least ts y one low h =

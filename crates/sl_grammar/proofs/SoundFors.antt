@@ -53,7 +53,8 @@ element-word (Some c.Int) h = refl
 element-word (Some _) h = absurd (false≢true h)
 
 -- a first part that declares a variable
-first-written : (type : Option Scalar) (place : Place) (x : Identifier) (v : Expr) → at place (type_word type) ∷ s.named x ∷ value_written v ≡ first_written (first_of type place x v)
+first-written : (type : Option Scalar) (place : Place) (x : Identifier) (v : Expr)
+    → at place (type_word type) ∷ s.named x ∷ value_written v ≡ first_written (first_of type place x v)
 first-written None place x v = refl
 first-written (Some scalar) place x v = refl
 
@@ -80,7 +81,8 @@ module _ (inner : Reader (Tall Stmt)) (room : ℕ) (f : Finds inner room) where
   effect-option : Parts (option_written effect_written) (IfThere IsEffect) (option_height effect_height) room (optional_effect inner room)
   unfolding optional_effect
   effect-option ts y h =
-      let P : Took (Option Effect) → Type 0 = λ z. Part (option_written effect_written) (IfThere IsEffect) (option_height effect_height) room ts z.0 z.1 in
+      let P : Took (Option Effect) → Type 0 =
+      λ z. Part (option_written effect_written) (IfThere IsEffect) (option_height effect_height) room ts z.0 z.1 in
       chosen (is_mark m.RightParenthesis (kind_at ts)) _ _ y P h
       (λ left_out h1. answered _ y P h1 (record { spelled = no_words ts; fits = tt; size = refl; low = omega arith }))
       (λ there h1.
@@ -119,7 +121,8 @@ module _ (inner : Reader (Tall Stmt)) (room : ℕ) (f : Finds inner room) where
   opened_written place = at place (w.Key (codes "for")) ∷ s.mark m.LeftParenthesis ∷ []
 
   range-found : (type : Option Scalar) (ts us : List Token) (x : Identifier × List Token) (y : Took Stmt) → Spelled (opened_written (here ts)) ts us
-      → kind_at us ≡ type_kind type → identifier (drop 1 us) ≡ Ok x → ranges type ≡ true → range_behind inner room (here ts) (is_auto type) x.0 x.1 ≡ Ok y → FoundStmt (room + 1) ts y.0 y.1
+      → kind_at us ≡ type_kind type → identifier (drop 1 us) ≡ Ok x → ranges type ≡ true
+      → range_behind inner room (here ts) (is_auto type) x.0 x.1 ≡ Ok y → FoundStmt (room + 1) ts y.0 y.1
   unfolding range_behind
   range-found type ts us x y opened e name may h =
       let P : Took Stmt → Type 0 = λ z. FoundStmt (room + 1) ts z.0 z.1 in
@@ -141,7 +144,8 @@ module _ (inner : Reader (Tall Stmt)) (room : ℕ) (f : Finds inner room) where
       })))))
 
   valued-found : (type : Option Scalar) (ts us : List Token) (x : Identifier × List Token) (y : Took Stmt) → Spelled (opened_written (here ts)) ts us
-      → kind_at us ≡ type_kind type → identifier (drop 1 us) ≡ Ok x → valued_first inner room (here ts) (here us) type x.0 x.1 ≡ Ok y → FoundStmt (room + 1) ts y.0 y.1
+      → kind_at us ≡ type_kind type → identifier (drop 1 us) ≡ Ok x → valued_first inner room (here ts) (here us) type x.0 x.1 ≡ Ok y
+      → FoundStmt (room + 1) ts y.0 y.1
   unfolding valued_first
   valued-found type ts us x y opened e name h =
       let P : Took Stmt → Type 0 = λ z. FoundStmt (room + 1) ts z.0 z.1 in
@@ -150,7 +154,8 @@ module _ (inner : Reader (Tall Stmt)) (room : ℕ) (f : Finds inner room) where
       let found = sound room 1 u.1 v (omega arith) (omega arith) read in
       let first : First = first_of type (here us) x.0 v.0.0 in
       let declares : Spelled (first_written first) us v.1 = respelled (first-written type (here us) x.0 v.0.0)
-      (one_word us (type_kind type) (type_word type) e (type-fixed type) ⨾ (identifier_took (drop 1 us) x name ⨾ (mark_plain m.Equal x.1 u equal ⨾ found.1.part.spelled))) in
+      (one_word us (type_kind type) (type_word type) e (type-fixed type)
+      ⨾ (identifier_took (drop 1 us) x name ⨾ (mark_plain m.Equal x.1 u equal ⨾ found.1.part.spelled))) in
       for_behind-found ts v.1 (Some first, v.0.1 + 1) y (record {
         spelled = opened ⨾ declares;
         fits = first-fits type (here us) x.0 v.0.0 found.1.part.fits;
@@ -168,18 +173,21 @@ module _ (inner : Reader (Tall Stmt)) (room : ℕ) (f : Finds inner room) where
       (λ range h2. range-found type ts us x y opened e name (both (ranges type) (is_mark m.Colon (kind_at x.1)) range).0 h2)
       (λ other h2. valued-found type ts us x y opened e name h2))
 
-  effect-found : (ts us : List Token) (y : Took Stmt) → Spelled (opened_written (here ts)) ts us → for_by inner room (here ts) k.End us ≡ Ok y → FoundStmt (room + 1) ts y.0 y.1
+  effect-found : (ts us : List Token) (y : Took Stmt) → Spelled (opened_written (here ts)) ts us → for_by inner room (here ts) k.End us ≡ Ok y
+      → FoundStmt (room + 1) ts y.0 y.1
   effect-found ts us y opened h =
       let P : Took Stmt → Type 0 = λ z. FoundStmt (room + 1) ts z.0 z.1 in
       bound (effect room us) _ y P h (λ x read h1.
       let found = effect-part room us x read in
-      for_behind-found ts x.1 (Some (t.first_effect x.0.0), x.0.1) y (record { spelled = opened ⨾ found.spelled; fits = found.fits; size = found.size; low = found.low }) h1)
+      for_behind-found ts x.1 (Some (t.first_effect x.0.0), x.0.1) y
+      (record { spelled = opened ⨾ found.spelled; fits = found.fits; size = found.size; low = found.low }) h1)
 
   for-by : (kind : Kind) (ts us : List Token) (y : Took Stmt) → Spelled (opened_written (here ts)) ts us → kind_at us ≡ kind
       → for_by inner room (here ts) kind us ≡ Ok y → FoundStmt (room + 1) ts y.0 y.1
   for-by (k.Scalar scalar) ts us y opened e h = declared-found (Some scalar) ts us y opened e h
   for-by k.Auto ts us y opened e h = declared-found None ts us y opened e h
-  for-by (k.Mark m.Semicolon) ts us y opened e h = for_behind-found ts us (None, 0) y (record { spelled = opened; fits = tt; size = refl; low = omega arith }) h
+  for-by (k.Mark m.Semicolon) ts us y opened e h =
+      for_behind-found ts us (None, 0) y (record { spelled = opened; fits = tt; size = refl; low = omega arith }) h
   for-by _ ts us y opened e h = effect-found ts us y opened h
 
   pub for-found : (ts : List Token) (y : Took Stmt) → kind_at ts ≡ k.For → for_loop inner room ts ≡ Ok y → FoundStmt (room + 1) ts y.0 y.1

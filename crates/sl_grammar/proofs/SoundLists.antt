@@ -56,7 +56,8 @@ module _ (one more : Reader (Tall Expr)) (room : ℕ) (f : Parts written IsExpr 
       let x = g u.1 y h1 in
       record { spelled = mark_plain m.Comma ts u comma ⨾ x.1.spelled; fits = x.1.fits; size = x.1.size; low = x.1.low })
 
-  behind-part : (ts us : List Token) (x : Tall Expr) (y : Took Exprs) → Part written IsExpr height room ts x us → list_behind one more room x us ≡ Ok y
+  behind-part : (ts us : List Token) (x : Tall Expr) (y : Took Exprs) → Part written IsExpr height room ts x us
+      → list_behind one more room x us ≡ Ok y
       → SomeListAt room ts y
   unfolding list_behind
   behind-part ts us x y first h =
@@ -67,7 +68,8 @@ module _ (one more : Reader (Tall Expr)) (room : ℕ) (f : Parts written IsExpr 
       bound (all_behind (is_mark m.Comma) (comma_expr one more room) ([], 0) us) _ y P h2 (λ xs read h3.
       let others = behind comma_written IsExpr height (room - 1) (is_mark m.Comma) (comma_expr one more room) comma-part ([], 0) us xs read in
       let some : AreSome others.items = some_items comma_written (is_mark m.Comma) others.items us xs.1 others.spelled comma others.stops in
-      let tall : list_height (t.with x.0 (exprs_from others.items)) ≡ max (height x.0) (highest height others.items) + 1 = list-height x.0 others.items some in
+      let tall : list_height (t.with x.0 (exprs_from others.items)) ≡ max (height x.0) (highest height others.items) + 1 =
+      list-height x.0 others.items some in
       let lower : x.1 < room = ltb-true x.1 room below in
       answered _ y P h3 (record {
         spelled = rw others.all (first.spelled ⨾ respelled (rest-written others.items) others.spelled);

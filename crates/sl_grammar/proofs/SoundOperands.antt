@@ -80,7 +80,8 @@ pub record Left (room least : ℕ) (ts : List Token) (p : Tall Expr) (rest : Lis
 
 -- the reader of inner expressions finds trees with one node less
 abbrev pub Finds : (ℕ → Reader (Tall Expr)) → ℕ → Type 0
-Finds inner room = (least : ℕ) (ts : List Token) (y : Took Expr) → 1 ≤ least → least ≤ 7 → inner least ts ≡ Ok y → (0 < room) × Found (room - 1) least ts y.0 y.1
+Finds inner room = (least : ℕ) (ts : List Token) (y : Took Expr) → 1 ≤ least → least ≤ 7 → inner least ts ≡ Ok y
+    → (0 < room) × Found (room - 1) least ts y.0 y.1
 
 -- what stands in parentheses behind a name, with them
 abbrev pub arguments_written : Exprs → List Written
@@ -138,12 +139,18 @@ module _ (inner smaller : ℕ → Reader (Tall Expr)) (room : ℕ) (f : Finds in
       let first = library_took ts x name in
       let found = arguments-part above x.1 xs read in
       answered _ y P h3 (record {
-        part = record { spelled = first.0 ⨾ found.spelled; fits = (first.1, found.fits); size = omega (arith, found.size); low = omega (arith, found.low, above) };
+        part = record {
+          spelled = first.0 ⨾ found.spelled;
+          fits = (first.1, found.fits);
+          size = omega (arith, found.size);
+          low = omega (arith, found.low, above);
+        };
         tight = omega arith;
         goes = omega (arith, goes-low (kind_at xs.1));
       }))))
 
-  parentheses-left : (ts : List Token) (y : Took Expr) → kind_at ts ≡ k.Mark m.LeftParenthesis → parentheses inner smaller room ts ≡ Ok y → Left room 7 ts y.0 y.1
+  parentheses-left : (ts : List Token) (y : Took Expr) → kind_at ts ≡ k.Mark m.LeftParenthesis → parentheses inner smaller room ts ≡ Ok y
+      → Left room 7 ts y.0 y.1
   unfolding parentheses
   parentheses-left ts y e h =
       let P : Took Expr → Type 0 = λ z. Left room 7 ts z.0 z.1 in
@@ -153,7 +160,8 @@ module _ (inner smaller : ℕ → Reader (Tall Expr)) (room : ℕ) (f : Finds in
       let found = f 1 (drop 1 ts) x (omega arith) (omega arith) read in
       answered _ y P h3 (record {
         part = record {
-          spelled = one_word ts (k.Mark m.LeftParenthesis) (w.Mark m.LeftParenthesis) e refl ⨾ (found.1.part.spelled ⨾ mark_plain m.RightParenthesis x.1 v closed);
+          spelled = one_word ts (k.Mark m.LeftParenthesis) (w.Mark m.LeftParenthesis) e refl
+              ⨾ (found.1.part.spelled ⨾ mark_plain m.RightParenthesis x.1 v closed);
           fits = found.1.part.fits;
           size = omega (arith, found.1.part.size);
           low = omega (arith, found.0, found.1.part.low);
@@ -162,7 +170,8 @@ module _ (inner smaller : ℕ → Reader (Tall Expr)) (room : ℕ) (f : Finds in
         goes = omega (arith, goes-low (kind_at v.1));
       }))))
 
-  prefixed-left : (op : PrefixOperator) (ts : List Token) (y : Took Expr) → kind_at ts ≡ k.Mark (prefix_mark op) → prefixed inner smaller room op ts ≡ Ok y → Left room 7 ts y.0 y.1
+  prefixed-left : (op : PrefixOperator) (ts : List Token) (y : Took Expr) → kind_at ts ≡ k.Mark (prefix_mark op)
+      → prefixed inner smaller room op ts ≡ Ok y → Left room 7 ts y.0 y.1
   unfolding prefixed
   prefixed-left op ts y e h =
       let P : Took Expr → Type 0 = λ z. Left room 7 ts z.0 z.1 in
@@ -180,7 +189,8 @@ module _ (inner smaller : ℕ → Reader (Tall Expr)) (room : ℕ) (f : Finds in
         goes = omega (arith, found.1.stops);
       })))
 
-  operand-by : (kind : Kind) (ts : List Token) (y : Took Expr) → kind_at ts ≡ kind → operand_by inner smaller room kind ts ≡ Ok y → Left room 7 ts y.0 y.1
+  operand-by : (kind : Kind) (ts : List Token) (y : Took Expr) → kind_at ts ≡ kind → operand_by inner smaller room kind ts ≡ Ok y
+      → Left room 7 ts y.0 y.1
   operand-by k.Number ts y e h = answered _ y (λ z. Left room 7 ts z.0 z.1) h (record {
     part = record { spelled = one_number ts e; fits = tt; size = refl; low = omega arith };
     tight = omega arith;

@@ -16,7 +16,7 @@ use Rattle.sl_syntax.specs.Tree.{Function, Program}
 use Rattle.sl_syntax.specs.Written.{result_word, function_written, program_written}
 use Rattle.sl_grammar.specs.Declarations.{params}
 use Rattle.sl_grammar.specs.Statements.{is_more, braced, stmt, function_behind, function_by, function, program}
-use Rattle.sl_grammar.specs.Steps.{Tall, kind_at, mark, identifier}
+use Rattle.sl_grammar.specs.Steps.{kind_at, mark, identifier}
 use Rattle.sl_grammar.proofs.KindLaws.{fixed, not_end}
 use Rattle.sl_grammar.proofs.SoundDeclarations.{params-part}
 use Rattle.sl_grammar.proofs.SoundSteps.{Took, bound, answered, Spelled, ◌⨾◌, one_word, mark_plain, identifier_took, Part, Parts, behind}
@@ -83,7 +83,8 @@ read_program ts p h rest read =
     let P : Took Program → Type 0 = λ y. (y.1 ≡ []) × Shaped y.0.0 × Placed y.0.0 ts in
     bound (function ts) _ ((p, h), rest) P read (λ x one h1.
     let first = function-part ts x one in
-    let others = behind function_written IsFunction function_height TREE_DEPTH is_more function function-part (x.0.0 ∷ [], x.0.1) x.1 ((p, h), rest) h1 in
+    let others = behind function_written IsFunction function_height TREE_DEPTH is_more function function-part (x.0.0 ∷ [], x.0.1) x.1
+    ((p, h), rest) h1 in
     let ends : rest ≡ [] = no_token rest others.stops in
     let all : Spelled (program_written (x.0.0 ∷ others.items)) ts rest = first.spelled ⨾ others.spelled in (
       ends,

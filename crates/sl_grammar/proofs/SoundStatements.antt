@@ -88,7 +88,8 @@ module _ (inner : Reader (Tall Stmt)) (room : ℕ) (f : Finds inner room) where
       let body = f c.1 a read in
       answered _ y P h3 (record {
         part = record {
-          spelled = one_word ts k.While (w.Key (codes "while")) e refl ⨾ respelled (tested-written c.0.0 (stmt_written a.0.0)) (asked.spelled ⨾ body.part.spelled);
+          spelled = one_word ts k.While (w.Key (codes "while")) e refl
+              ⨾ respelled (tested-written c.0.0 (stmt_written a.0.0)) (asked.spelled ⨾ body.part.spelled);
           fits = (asked.fits, body.part.fits);
           size = omega (arith, asked.size, body.part.size);
           low = omega (arith, asked.low, body.part.low);
@@ -153,7 +154,8 @@ module _ (inner : Reader (Tall Stmt)) (room : ℕ) (f : Finds inner room) where
         closed = λ e. absurd (false≢true e);
       }))
 
-  continue-found : (ts : List Token) (y : Took Stmt) → kind_at ts ≡ k.Continue → word_stmt inner room t.continue ts ≡ Ok y → FoundStmt (room + 1) ts y.0 y.1
+  continue-found : (ts : List Token) (y : Took Stmt) → kind_at ts ≡ k.Continue → word_stmt inner room t.continue ts ≡ Ok y
+      → FoundStmt (room + 1) ts y.0 y.1
   unfolding word_stmt
   continue-found ts y e h =
       let P : Took Stmt → Type 0 = λ z. FoundStmt (room + 1) ts z.0 z.1 in
@@ -168,7 +170,8 @@ module _ (inner : Reader (Tall Stmt)) (room : ℕ) (f : Finds inner room) where
         closed = λ e. absurd (false≢true e);
       }))
 
-  pub stmt-by : (kind : Kind) (ts : List Token) (y : Took Stmt) → kind_at ts ≡ kind → stmt_by inner room kind ts ≡ Ok y → FoundStmt (room + 1) ts y.0 y.1
+  pub stmt-by : (kind : Kind) (ts : List Token) (y : Took Stmt) → kind_at ts ≡ kind → stmt_by inner room kind ts ≡ Ok y
+      → FoundStmt (room + 1) ts y.0 y.1
   stmt-by (k.Mark m.LeftBrace) ts y e h = block-found ts y h
   stmt-by k.If ts y e h = choice-found ts y e h
   stmt-by k.While ts y e h = loop-found ts y e h

@@ -104,7 +104,8 @@ one_name [] h = absurd cc
 one_name (t ∷ ts) h = record { spells = ((name_word t.word h, (refl, tt)), refl) }
 
 one_library : (ts : List Token) → kind_at ts ≡ k.Library
-    → Spelled (at (identifier_at ts).place (w.Lib (identifier_at ts).name) ∷ []) ts (drop 1 ts) × (kind_of (w.Lib (identifier_at ts).name) ≡ k.Library)
+    → Spelled (at (identifier_at ts).place (w.Lib (identifier_at ts).name) ∷ []) ts (drop 1 ts)
+    × (kind_of (w.Lib (identifier_at ts).name) ≡ k.Library)
 one_library [] h = absurd cc
 one_library (t ∷ ts) h = (record { spells = (((library_word t.word h).0, (refl, tt)), refl) }, (library_word t.word h).1)
 
@@ -141,7 +142,8 @@ mark_rest x ts y h =
     let P : Place × List Token → Type 0 = λ z. z.1 ≡ drop 1 ts in
     guarded (is_mark x (kind_at ts)) _ _ y P h (λ sees h1. answered _ y P h1 refl)
 
-name_took : (kind : Kind) (ts : List Token) (y : Identifier × List Token) → kind_at ts ≡ kind → identifier_by kind ts ≡ Ok y → Spelled (named y.0 ∷ []) ts y.1
+name_took : (kind : Kind) (ts : List Token) (y : Identifier × List Token) → kind_at ts ≡ kind → identifier_by kind ts ≡ Ok y
+    → Spelled (named y.0 ∷ []) ts y.1
 name_took k.Name ts y e h = answered _ y (λ z. Spelled (named z.0 ∷ []) ts z.1) h (one_name ts e)
 name_took _ ts y e h = absurd cc
 
@@ -171,7 +173,8 @@ begun a = record { spells = spells-begun _ _ _ a.spells }
     spells-begun (x ∷ xs) (t ∷ ts) rest a = ((a.0.0, (refl, a.0.1)), a.1)
 
 -- What is read: its words, that it fits, and its height, which is at most the room.
-pub record Part {A : Type 0} (written : A → List Written) (Fits : A → Type 0) (height : A → ℕ) (room : ℕ) (ts : List Token) (p : Tall A) (rest : List Token) : Type 0 where
+pub record Part {A : Type 0} (written : A → List Written) (Fits : A → Type 0) (height : A → ℕ) (room : ℕ) (ts : List Token) (p : Tall A)
+    (rest : List Token) : Type 0 where
   pub spelled : Spelled (written p.0) ts rest
   pub fits : Fits p.0
   pub size : p.1 ≡ height p.0
@@ -192,7 +195,8 @@ pub record More {A : Type 0} (written : A → List Written) (Fits : A → Type 0
   pub low : highest height items ≤ room
   pub stops : goes (kind_at rest) ≡ false
 
-module _ {A : Type 0} (written : A → List Written) (Fits : A → Type 0) (height : A → ℕ) (room : ℕ) (goes : Kind → Bool) (item : Reader (Tall A)) (f : Parts written Fits height room item) where
+module _ {A : Type 0} (written : A → List Written) (Fits : A → Type 0) (height : A → ℕ) (room : ℕ) (goes : Kind → Bool) (item : Reader (Tall A))
+    (f : Parts written Fits height room item) where
   stopped : (done : Tall (List A)) (ts : List Token) → goes (kind_at ts) ≡ false → More written Fits height room goes done ts done ts
   stopped done ts stop = record {
     items = [];
@@ -236,5 +240,6 @@ module _ {A : Type 0} (written : A → List Written) (Fits : A → Type 0) (heig
 -- where the first word goes on and the last doesn't, there is an item
 pub some_items : {A : Type 0} (written : A → List Written) (goes : Kind → Bool) (items : List A) (ts rest : List Token)
     → Spelled (flat_map written items) ts rest → goes (kind_at ts) ≡ true → goes (kind_at rest) ≡ false → AreSome items
-some_items written goes [] ts rest spelled on stop = absurd (false≢true (sym stop ∙ ap (λ (us : List Token). goes (kind_at us)) (sym (none_taken spelled)) ∙ on))
+some_items written goes [] ts rest spelled on stop =
+    absurd (false≢true (sym stop ∙ ap (λ (us : List Token). goes (kind_at us)) (sym (none_taken spelled)) ∙ on))
 some_items written goes (x ∷ items) ts rest spelled on stop = omega arith
