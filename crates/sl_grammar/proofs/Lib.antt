@@ -14,3 +14,14 @@ pub mod NearExpressions
 pub mod NearDeclarations
 pub mod NearEffects
 pub mod NearStatements
+pub mod KindLaws
+pub mod SoundSteps
+pub mod SoundLists
+pub mod SoundOperands
+pub mod SoundExpressions
+pub mod SoundEffects
+pub mod SoundDeclarations
+pub mod SoundBlocks
+pub mod SoundFors
+pub mod SoundStatements
+pub mod SoundPrograms

@@ -1,0 +1,222 @@
+-- What a kind tells of its word: a key, a lib or a mark that the grammar names is the kind's own word, and a name, a number and a text are what
+-- they hold.
+use Rattle.std.proofs.Common.{◌≡◌, ℕ, Bool, true, false, cond, List, [], ◌∷◌, Option, Some, None, refl, sym, ap, subst, ◌∙◌, rules}
+use Rattle.std.specs.Prelude.{codes, find, option_map}
+use Rattle.std.specs.Str.{bytes_eq}
+use Rattle.std.proofs.lemmas.Bool.{false≢true}
+use Rattle.std.proofs.lemmas.Slice.Eq.{bytes_eq-Decides}
+use denote.Enum.Bare.{same_true}
+use Rattle.sl_base.specs.contracts.mark.Mark.{the_type}
+use Rattle.sl_base.specs.declared.mark.Mark.{Mark}
+use Rattle.sl_base.specs.declared.word.Word.{Word}
+use Rattle.sl_base.specs.declared.word.Word.TheVariants as w
+use Rattle.sl_syntax.specs.declared.kind.Kind.{Kind}
+use Rattle.sl_syntax.specs.declared.kind.Kind.TheVariants as k
+use Rattle.sl_syntax.specs.Kinds.{keys, libs, kind_or, kind_in, kind_of}
+use Rattle.sl_syntax.specs.Shaped.{Each}
+use Rattle.sl_syntax.specs.Written.{truth_word, scalar_word, form_word}
+use Rattle.sl_grammar.specs.Steps.{is_mark, name_in, number_in, text_in}
+
+-- the word of a kind that has just one
+abbrev pub fixed : Kind → Option Word
+fixed (k.Scalar s) = Some (scalar_word s)
+fixed (k.Container f) = Some (form_word f)
+fixed (k.Truth v) = Some (truth_word v)
+fixed k.Void = Some (w.Key (codes "void"))
+fixed k.Const = Some (w.Key (codes "const"))
+fixed k.Auto = Some (w.Key (codes "auto"))
+fixed k.If = Some (w.Key (codes "if"))
+fixed k.Else = Some (w.Key (codes "else"))
+fixed k.While = Some (w.Key (codes "while"))
+fixed k.For = Some (w.Key (codes "for"))
+fixed k.Break = Some (w.Key (codes "break"))
+fixed k.Continue = Some (w.Key (codes "continue"))
+fixed k.Return = Some (w.Key (codes "return"))
+fixed k.Input = Some (w.Lib (codes "cin"))
+fixed k.Output = Some (w.Lib (codes "cout"))
+fixed k.EndLine = Some (w.Lib (codes "endl"))
+fixed (k.Mark m) = Some (w.Mark m)
+fixed _ = None
+
+-- what a row gives: its kind where its bytes are those, and else what the others give
+row_gives : (Q : List ℕ → Kind → Type 0) (bytes : List ℕ) (instead : Kind) (row : List ℕ × Kind) (others : Option (List ℕ × Kind)) (test : Bool)
+    → (test ≡ true → row.0 ≡ bytes) → Q row.0 row.1 → Q bytes (kind_or instead (option_map (λ m. m.1) others))
+    → Q bytes (kind_or instead (option_map (λ m. m.1) (cond test (Some row) others)))
+row_gives Q bytes instead row others true same here there = subst (λ (b : List ℕ). Q b row.1) (same refl) here
+row_gives Q bytes instead row others false same here there = there
+
+-- what holds of each row and of what stands instead holds of the kind
+pub in_rows : (Q : List ℕ → Kind → Type 0) (bytes : List ℕ) (instead : Kind) → Q bytes instead → (rows : List (List ℕ × Kind))
+    → Each (λ (row : List ℕ × Kind). Q row.0 row.1) rows → Q bytes (kind_in rows instead bytes)
+in_rows Q bytes instead other [] each = other
+in_rows Q bytes instead other (row ∷ rows) each =
+    row_gives Q bytes instead row (find (λ m. bytes_eq m.0 bytes) rows) (bytes_eq row.0 bytes) (bytes_eq-Decides row.0 bytes).0 each.0
+    (in_rows Q bytes instead other rows each.1)
+
+-- a key or lib is the only word of its kind
+abbrev Only : (List ℕ → Word) → List ℕ → Kind → Type 0
+Only make bytes kind = (x : Word) → fixed kind ≡ Some x → make bytes ≡ x
+
+none_fixed : (make : List ℕ → Word) (bytes : List ℕ) (kind : Kind) → fixed kind ≡ None → Only make bytes kind
+none_fixed make bytes kind h x e = absurd cc
+
+key_fixed : (bytes : List ℕ) → Only w.Key bytes (kind_in keys k.Other bytes)
+key_fixed bytes =
+    in_rows (Only w.Key) bytes k.Other (none_fixed w.Key bytes k.Other refl) keys (
+      λ x e. cc,
+      (
+        λ x e. cc,
+        (
+          λ x e. cc,
+          (
+            λ x e. cc,
+            (
+              λ x e. cc,
+              (
+                λ x e. cc,
+                (
+                  λ x e. cc,
+                  (
+                    λ x e. cc,
+                    (
+                      λ x e. cc,
+                      (λ x e. cc, (λ x e. cc, (λ x e. cc, (λ x e. cc, (λ x e. cc, tt))))),
+                    ),
+                  ),
+                ),
+              ),
+            ),
+          ),
+        ),
+      ),
+    )
+
+lib_fixed : (bytes : List ℕ) → Only w.Lib bytes (kind_in libs k.Library bytes)
+lib_fixed bytes =
+    in_rows (Only w.Lib) bytes k.Library (none_fixed w.Lib bytes k.Library refl) libs (
+      λ x e. cc,
+      (
+        λ x e. cc,
+        (
+          λ x e. cc,
+          (
+            λ x e. cc,
+            (
+              λ x e. cc,
+              (
+                λ x e. cc,
+                (
+                  λ x e. cc,
+                  (
+                    λ x e. cc,
+                    (
+                      λ x e. cc,
+                      (λ x e. cc, (λ x e. cc, (λ x e. cc, tt))),
+                    ),
+                  ),
+                ),
+              ),
+            ),
+          ),
+        ),
+      ),
+    )
+
+-- a word of a kind that has one word is that word
+pub fixed_word : (y x : Word) → fixed (kind_of y) ≡ Some x → y ≡ x
+fixed_word (w.Name name) x e = absurd cc
+fixed_word (w.Lib name) x e = lib_fixed name x e
+fixed_word (w.Key name) x e = key_fixed name x e
+fixed_word (w.Number n) x e = absurd cc
+fixed_word (w.Text bytes) x e = absurd cc
+fixed_word (w.Mark m) x e = cc
+
+-- the same, by its kind
+pub word_of_kind : (y : Word) (kind : Kind) (x : Word) → kind_of y ≡ kind → fixed kind ≡ Some x → y ≡ x
+word_of_kind y kind x h e = fixed_word y x (ap fixed h ∙ e)
+
+-- whether a table may have the kind
+abbrev of_table : Kind → Bool
+of_table k.Name = false
+of_table k.Number = false
+of_table k.Text = false
+of_table _ = true
+
+abbrev no_library : Kind → Bool
+no_library k.Library = false
+no_library _ = true
+
+key_of_table : (bytes : List ℕ) → of_table (kind_in keys k.Other bytes) ≡ true
+key_of_table bytes = in_rows (λ _ kind. of_table kind ≡ true) bytes k.Other refl keys
+    (refl, (refl, (refl, (refl, (refl, (refl, (refl, (refl, (refl, (refl, (refl, (refl, (refl, (refl, tt))))))))))))))
+
+lib_of_table : (bytes : List ℕ) → of_table (kind_in libs k.Library bytes) ≡ true
+lib_of_table bytes = in_rows (λ _ kind. of_table kind ≡ true) bytes k.Library refl libs
+    (refl, (refl, (refl, (refl, (refl, (refl, (refl, (refl, (refl, (refl, (refl, (refl, tt))))))))))))
+
+key_no_library : (bytes : List ℕ) → no_library (kind_in keys k.Other bytes) ≡ true
+key_no_library bytes = in_rows (λ _ kind. no_library kind ≡ true) bytes k.Other refl keys
+    (refl, (refl, (refl, (refl, (refl, (refl, (refl, (refl, (refl, (refl, (refl, (refl, (refl, (refl, tt))))))))))))))
+
+-- two kinds that a test tells apart
+apart : (test : Kind → Bool) (a b : Kind) → test a ≡ true → test b ≡ false → a ≡ b → ⊥
+apart test a b yes_a no_b e = false≢true (sym no_b ∙ ap test (sym e) ∙ yes_a)
+
+pub name_word : (y : Word) → kind_of y ≡ k.Name → y ≡ w.Name (name_in y)
+name_word (w.Name name) h = refl
+name_word (w.Lib name) h = absurd (apart of_table _ _ (lib_of_table name) refl h)
+name_word (w.Key name) h = absurd (apart of_table _ _ (key_of_table name) refl h)
+name_word (w.Number n) h = absurd cc
+name_word (w.Text bytes) h = absurd cc
+name_word (w.Mark m) h = absurd cc
+
+pub number_word : (y : Word) → kind_of y ≡ k.Number → y ≡ w.Number (number_in y)
+number_word (w.Name name) h = absurd cc
+number_word (w.Lib name) h = absurd (apart of_table _ _ (lib_of_table name) refl h)
+number_word (w.Key name) h = absurd (apart of_table _ _ (key_of_table name) refl h)
+number_word (w.Number n) h = refl
+number_word (w.Text bytes) h = absurd cc
+number_word (w.Mark m) h = absurd cc
+
+pub text_word : (y : Word) → kind_of y ≡ k.Text → y ≡ w.Text (text_in y)
+text_word (w.Name name) h = absurd cc
+text_word (w.Lib name) h = absurd (apart of_table _ _ (lib_of_table name) refl h)
+text_word (w.Key name) h = absurd (apart of_table _ _ (key_of_table name) refl h)
+text_word (w.Number n) h = absurd cc
+text_word (w.Text bytes) h = refl
+text_word (w.Mark m) h = absurd cc
+
+-- a function of the library is a lib that the grammar doesn't name
+pub library_word : (y : Word) → kind_of y ≡ k.Library → (y ≡ w.Lib (name_in y)) × (kind_of (w.Lib (name_in y)) ≡ k.Library)
+library_word (w.Name name) h = absurd cc
+library_word (w.Lib name) h = (refl, h)
+library_word (w.Key name) h = absurd (apart no_library _ _ (key_no_library name) refl h)
+library_word (w.Number n) h = absurd cc
+library_word (w.Text bytes) h = absurd cc
+library_word (w.Mark m) h = absurd cc
+
+abbrev no_end : Kind → Bool
+no_end k.End = false
+no_end _ = true
+
+key_no_end : (bytes : List ℕ) → no_end (kind_in keys k.Other bytes) ≡ true
+key_no_end bytes = in_rows (λ _ kind. no_end kind ≡ true) bytes k.Other refl keys
+    (refl, (refl, (refl, (refl, (refl, (refl, (refl, (refl, (refl, (refl, (refl, (refl, (refl, (refl, tt))))))))))))))
+
+lib_no_end : (bytes : List ℕ) → no_end (kind_in libs k.Library bytes) ≡ true
+lib_no_end bytes = in_rows (λ _ kind. no_end kind ≡ true) bytes k.Library refl libs
+    (refl, (refl, (refl, (refl, (refl, (refl, (refl, (refl, (refl, (refl, (refl, (refl, tt))))))))))))
+
+-- a word is no end
+pub not_end : (y : Word) → kind_of y ≡ k.End → ⊥
+not_end (w.Name name) h = absurd cc
+not_end (w.Lib name) h = apart no_end _ _ (lib_no_end name) refl h
+not_end (w.Key name) h = apart no_end _ _ (key_no_end name) refl h
+not_end (w.Number n) h = absurd cc
+not_end (w.Text bytes) h = absurd cc
+not_end (w.Mark m) h = absurd cc
+
+-- a kind that is seen to be this mark
+pub is_mark_kind : (x : Mark) (kind : Kind) → is_mark x kind ≡ true → kind ≡ k.Mark x
+is_mark_kind x (k.Mark y) h = ap k.Mark (same_true the_type (search rules) y x h)
+is_mark_kind x _ h = absurd (false≢true h)

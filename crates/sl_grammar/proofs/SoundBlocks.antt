@@ -1,0 +1,136 @@
+-- What is read as a block is the words of items that follow the grammar.
+use Rattle.std.proofs.Common.{◌≡◌, ℕ, ◌+◌, ◌-◌, ◌<◌, max, true, false, List, [], ◌∷◌, ◌++◌, Ok, refl, ap, arith, append_assoc}
+use Rattle.std.specs.Prelude.{flat_map, nat_lt}
+use Rattle.std.proofs.lemmas.Bool.{ltb-true}
+use Rattle.sl_base.specs.declared.mark.Mark.TheVariants as m
+use Rattle.sl_base.specs.declared.place.Place.{Place}
+use Rattle.sl_base.specs.declared.token.Token.{Token}
+use Rattle.sl_syntax.specs.declared.kind.Kind.{Kind}
+use Rattle.sl_syntax.specs.declared.kind.Kind.TheVariants as k
+use Rattle.sl_syntax.specs.Depth.{highest, declaration_height, cond_height, stmt_height, item_height, items_height}
+use Rattle.sl_syntax.specs.Shaped.{IsDeclaration, IsCond, IsStmt, IsItem, AreItems, ends_open, Each}
+use Rattle.sl_syntax.specs.Tree as t
+use Rattle.sl_syntax.specs.Tree.{Expr, Declaration, Effect, Cond, First, Stmt, Item, Items, items_from, Function, Program}
+use Rattle.sl_syntax.specs.Written as s
+use Rattle.sl_syntax.specs.Written.{Written, at, plain, scalar_word, element_word, result_word, written, value_written, declaration_written, option_written, effect_written, cond_written, first_written, tested, stmt_written, item_written, items_written, params_written, function_written, program_written}
+use Rattle.sl_grammar.specs.Declarations.{scalar_declaration, auto_declaration, container_declaration}
+use Rattle.sl_grammar.specs.Effects.{effect}
+use Rattle.sl_grammar.specs.Effects as effects
+use Rattle.sl_grammar.specs.Statements.{is_else, is_item, declared, item_by, item, braced, condition}
+use Rattle.sl_grammar.specs.Steps.{Reader, Tall, kind_at, mark, all_behind}
+use Rattle.sl_grammar.proofs.SoundDeclarations.{scalar-part, auto-part, container-part}
+use Rattle.sl_grammar.proofs.SoundEffects.{cond-part}
+use Rattle.sl_grammar.proofs.SoundSteps.{Took, bound, guarded, answered, ◌⨾◌, respelled, mark_took, mark_plain, mark_here, Part, Parts, behind}
+
+-- What is read as a statement: where it ends in an `if` that has no `else`, none follows.
+pub record FoundStmt (room : ℕ) (ts : List Token) (p : Tall Stmt) (rest : List Token) : Type 0 where
+  pub part : Part stmt_written IsStmt stmt_height room ts p rest
+  pub closed : ends_open p.0 ≡ true → is_else (kind_at rest) ≡ false
+
+-- what a reader of statements answers is such
+abbrev pub Finds : Reader (Tall Stmt) → ℕ → Type 0
+Finds inner room = (ts : List Token) (y : Took Stmt) → inner ts ≡ Ok y → FoundStmt room ts y.0 y.1
+
+-- items in their order
+items-written : (xs : List Item) → flat_map item_written xs ≡ items_written (items_from xs)
+items-written [] = refl
+items-written (x ∷ xs) = ap (λ (l : List Written). item_written x ++ l) (items-written xs)
+
+items-height : (xs : List Item) → items_height (items_from xs) ≡ highest item_height xs
+items-height [] = refl
+items-height (x ∷ xs) = ap (max (item_height x)) (items-height xs)
+
+are_items : (xs : List Item) → Each IsItem xs → AreItems (items_from xs)
+are_items [] h = tt
+are_items (x ∷ xs) h = (h.0, are_items xs h.1)
+
+-- a block by its parts
+abbrev pub block_written : Place × Items × Place → List Written
+block_written b = stmt_written (t.block b.0 b.1 b.2)
+
+abbrev pub IsBlock : Place × Items × Place → Type 0
+IsBlock b = AreItems b.1
+
+abbrev pub block_height : Place × Items × Place → ℕ
+block_height b = items_height b.1 + 1
+
+-- `(c)`
+abbrev pub condition_written : Cond → List Written
+condition_written c = s.mark m.LeftParenthesis ∷ (cond_written c ++ s.mark m.RightParenthesis ∷ [])
+
+pub tested-written : (c : Cond) (rest : List Written) → condition_written c ++ rest ≡ tested c rest
+tested-written c rest = ap (λ (l : List Written). s.mark m.LeftParenthesis ∷ l) (append_assoc (cond_written c) (s.mark m.RightParenthesis ∷ []) rest)
+
+-- what is read from these tokens
+abbrev pub ItemAt : ℕ → List Token → Took Item → Type 0
+ItemAt room ts y = Part item_written IsItem item_height room ts y.0 y.1
+
+module _ (inner : Reader (Tall Stmt)) (room : ℕ) (f : Finds inner room) where
+  declared-part : (declaration : Reader (Tall Declaration)) (ts : List Token) (y : Took Item) → 1 < room
+      → ((x : Took Declaration) → declaration ts ≡ Ok x → Part declaration_written IsDeclaration declaration_height (room - 2 + 1) ts x.0 x.1)
+      → declared room declaration ts ≡ Ok y → ItemAt room ts y
+  declared-part declaration ts y high part h =
+      let P : Took Item → Type 0 = ItemAt room ts in
+      bound (declaration ts) _ y P h (λ x read h1.
+      bound (mark m.Semicolon x.1) _ y P h1 (λ v closed h2.
+      let found = part x read in
+      answered _ y P h2 (record {
+        spelled = found.spelled ⨾ mark_plain m.Semicolon x.1 v closed;
+        fits = found.fits;
+        size = omega (arith, found.size);
+        low = omega (arith, found.low, high);
+      })))
+
+  states-part : (ts : List Token) (y : Took Item) → item_by room inner k.End ts ≡ Ok y → ItemAt room ts y
+  states-part ts y h =
+      let P : Took Item → Type 0 = ItemAt room ts in
+      bound (inner ts) _ y P h (λ x read h1.
+      let found = f ts x read in
+      answered _ y P h1 (record { spelled = found.part.spelled; fits = found.part.fits; size = found.part.size; low = found.part.low }))
+
+  item-by : (kind : Kind) (ts : List Token) (y : Took Item) → kind_at ts ≡ kind → item_by room inner kind ts ≡ Ok y → ItemAt room ts y
+  item-by (k.Scalar scalar) ts y e h =
+      guarded (nat_lt 1 room) _ _ y (ItemAt room ts) h (λ high h1.
+      declared-part (scalar_declaration (room - 2) scalar) ts y (ltb-true 1 room high) (λ x read. scalar-part (room - 2) scalar ts x e read) h1)
+  item-by k.Auto ts y e h =
+      guarded (nat_lt 1 room) _ _ y (ItemAt room ts) h (λ high h1.
+      declared-part (auto_declaration (room - 2)) ts y (ltb-true 1 room high) (λ x read. auto-part (room - 2) ts x e read) h1)
+  item-by (k.Container form) ts y e h =
+      guarded (nat_lt 1 room) _ _ y (ItemAt room ts) h (λ high h1.
+      declared-part (container_declaration (room - 2) form) ts y (ltb-true 1 room high) (λ x read. container-part (room - 2) form ts x e read) h1)
+  item-by _ ts y e h = states-part ts y h
+
+  item-part : Parts item_written IsItem item_height room (item room inner)
+  unfolding item
+  item-part ts y h = item-by (kind_at ts) ts y refl h
+
+  pub braced-part : Parts block_written IsBlock block_height (room + 1) (braced inner room)
+  unfolding braced
+  braced-part ts y h =
+      let P : Took (Place × Items × Place) → Type 0 = λ z. Part block_written IsBlock block_height (room + 1) ts z.0 z.1 in
+      bound (mark m.LeftBrace ts) _ y P h (λ u opened h1.
+      bound (all_behind is_item (item room inner) ([], 0) u.1) _ y P h1 (λ xs read h2.
+      bound (mark m.RightBrace xs.1) _ y P h2 (λ v closed h3.
+      let found = behind item_written IsItem item_height room is_item (item room inner) item-part ([], 0) u.1 xs read in
+      answered _ y P h3 (record {
+        spelled = rw found.all (mark_here m.LeftBrace ts u opened
+            ⨾ (respelled (items-written found.items) found.spelled ⨾ mark_took m.RightBrace xs.1 v closed));
+        fits = rw found.all (are_items found.items found.each);
+        size = rw found.all (omega (arith, found.size, items-height found.items));
+        low = omega (arith, found.size, found.low);
+      }))))
+
+  pub condition-part : Parts condition_written IsCond cond_height room (condition inner room)
+  unfolding condition
+  condition-part ts y h =
+      let P : Took Cond → Type 0 = λ z. Part condition_written IsCond cond_height room ts z.0 z.1 in
+      bound (mark m.LeftParenthesis ts) _ y P h (λ u opened h1.
+      bound (effects.cond room u.1) _ y P h1 (λ x read h2.
+      bound (mark m.RightParenthesis x.1) _ y P h2 (λ v closed h3.
+      let found = cond-part room u.1 x read in
+      answered _ y P h3 (record {
+        spelled = mark_plain m.LeftParenthesis ts u opened ⨾ (found.spelled ⨾ mark_plain m.RightParenthesis x.1 v closed);
+        fits = found.fits;
+        size = found.size;
+        low = found.low;
+      }))))

@@ -1,0 +1,191 @@
+-- What is read as a statement is the words of one that follows the grammar, and its `else` belong to the nearest `if`.
+use Rattle.std.proofs.Common.{◌≡◌, ℕ, zero, suc, ◌+◌, Bool, true, false, List, ◌∷◌, ◌++◌, Ok, refl, sym, ◌∙◌, arith, drop}
+use Rattle.std.specs.Prelude.{nat_lt, codes}
+use Rattle.std.proofs.lemmas.Bool.{false≢true}
+use Rattle.sl_base.specs.declared.mark.Mark.TheVariants as m
+use Rattle.sl_base.specs.declared.token.Token.{Token}
+use Rattle.sl_base.specs.declared.word.Word.TheVariants as w
+use Rattle.sl_syntax.specs.declared.kind.Kind.{Kind}
+use Rattle.sl_syntax.specs.declared.kind.Kind.TheVariants as k
+use Rattle.sl_syntax.specs.Shaped.{ends_open}
+use Rattle.sl_syntax.specs.Tree as t
+use Rattle.sl_syntax.specs.Tree.{Expr, Declaration, Effect, Cond, First, Stmt, Item, Items, items_from, Function, Program}
+use Rattle.sl_syntax.specs.Written.{plain, stmt_written}
+use Rattle.sl_grammar.specs.Effects.{effect}
+use Rattle.sl_grammar.specs.Expressions.{expr}
+use Rattle.sl_grammar.specs.Statements.{is_else, braced, block, condition, otherwise, choice, loop, return_stmt, effect_stmt, word_stmt, stmt_by, stmt}
+use Rattle.sl_grammar.specs.Steps.{Reader, Tall, kind_at, is_mark, mark}
+use Rattle.sl_grammar.proofs.SoundEffects.{effect-part}
+use Rattle.sl_grammar.proofs.SoundExpressions.{expr-part}
+use Rattle.sl_grammar.proofs.SoundSteps.{Took, bound, chosen, guarded, answered, ◌⨾◌, respelled, one_word, one_plain, seen, mark_plain, begun}
+use Rattle.sl_grammar.proofs.SoundBlocks.{FoundStmt, Finds, braced-part, condition-part, tested-written}
+use Rattle.sl_grammar.proofs.SoundFors.{for-found}
+
+-- where no `else` follows what may end in an open `if`, and one follows, it doesn't
+not_open : (open_end next : Bool) → (open_end ≡ true → next ≡ false) → next ≡ true → open_end ≡ false
+not_open true next h e = absurd (false≢true (sym (h refl) ∙ e))
+not_open false next h e = refl
+
+is_else_kind : (kind : Kind) → is_else kind ≡ true → kind ≡ k.Else
+is_else_kind k.Else h = refl
+is_else_kind _ h = absurd (false≢true h)
+
+module _ (inner : Reader (Tall Stmt)) (room : ℕ) (f : Finds inner room) where
+  block-found : (ts : List Token) (y : Took Stmt) → block inner room ts ≡ Ok y → FoundStmt (room + 1) ts y.0 y.1
+  block-found ts y h =
+      let P : Took Stmt → Type 0 = λ z. FoundStmt (room + 1) ts z.0 z.1 in
+      bound (braced inner room ts) _ y P h (λ b read h1.
+      let found = braced-part inner room f ts b read in
+      answered _ y P h1 (record {
+        part = record { spelled = found.spelled; fits = found.fits; size = found.size; low = found.low };
+        closed = λ e. absurd (false≢true e);
+      }))
+
+  choice-found : (ts : List Token) (y : Took Stmt) → kind_at ts ≡ k.If → choice inner room ts ≡ Ok y → FoundStmt (room + 1) ts y.0 y.1
+  unfolding choice otherwise
+  choice-found ts y e h =
+      let P : Took Stmt → Type 0 = λ z. FoundStmt (room + 1) ts z.0 z.1 in
+      guarded (nat_lt 0 room) _ _ y P h (λ _ h1.
+      bound (condition inner room (drop 1 ts)) _ y P h1 (λ c test h2.
+      bound (inner c.1) _ y P h2 (λ a first_read h3.
+      let word = one_word ts k.If (w.Key (codes "if")) e refl in
+      let asked = condition-part inner room f (drop 1 ts) c test in
+      let first = f c.1 a first_read in
+      chosen (is_else (kind_at a.1)) _ _ y P h3
+      (λ sees h4.
+      bound (inner (drop 1 a.1)) _ y P h4 (λ b second_read h5.
+      let second = f (drop 1 a.1) b second_read in
+      let other = one_plain a.1 k.Else (w.Key (codes "else")) (is_else_kind (kind_at a.1) sees) refl in
+      answered _ y P h5 (record {
+        part = record {
+          spelled = word ⨾ respelled (tested-written c.0.0 (stmt_written a.0.0 ++ plain (w.Key (codes "else")) ∷ stmt_written b.0.0))
+              (asked.spelled ⨾ (first.part.spelled ⨾ (other ⨾ second.part.spelled)));
+          fits = (asked.fits, first.part.fits, not_open (ends_open a.0.0) (is_else (kind_at a.1)) first.closed sees, second.part.fits);
+          size = omega (arith, asked.size, first.part.size, second.part.size);
+          low = omega (arith, asked.low, first.part.low, second.part.low);
+        };
+        closed = second.closed;
+      })))
+      (λ none h4.
+      answered _ y P h4 (record {
+        part = record {
+          spelled = word ⨾ respelled (tested-written c.0.0 (stmt_written a.0.0)) (asked.spelled ⨾ first.part.spelled);
+          fits = (asked.fits, first.part.fits);
+          size = omega (arith, asked.size, first.part.size);
+          low = omega (arith, asked.low, first.part.low);
+        };
+        closed = λ _. none;
+      })))))
+
+  loop-found : (ts : List Token) (y : Took Stmt) → kind_at ts ≡ k.While → loop inner room ts ≡ Ok y → FoundStmt (room + 1) ts y.0 y.1
+  unfolding loop
+  loop-found ts y e h =
+      let P : Took Stmt → Type 0 = λ z. FoundStmt (room + 1) ts z.0 z.1 in
+      guarded (nat_lt 0 room) _ _ y P h (λ _ h1.
+      bound (condition inner room (drop 1 ts)) _ y P h1 (λ c test h2.
+      bound (inner c.1) _ y P h2 (λ a read h3.
+      let asked = condition-part inner room f (drop 1 ts) c test in
+      let body = f c.1 a read in
+      answered _ y P h3 (record {
+        part = record {
+          spelled = one_word ts k.While (w.Key (codes "while")) e refl
+              ⨾ respelled (tested-written c.0.0 (stmt_written a.0.0)) (asked.spelled ⨾ body.part.spelled);
+          fits = (asked.fits, body.part.fits);
+          size = omega (arith, asked.size, body.part.size);
+          low = omega (arith, asked.low, body.part.low);
+        };
+        closed = body.closed;
+      }))))
+
+  return-found : (ts : List Token) (y : Took Stmt) → kind_at ts ≡ k.Return → return_stmt inner room ts ≡ Ok y → FoundStmt (room + 1) ts y.0 y.1
+  unfolding return_stmt
+  return-found ts y e h =
+      let P : Took Stmt → Type 0 = λ z. FoundStmt (room + 1) ts z.0 z.1 in
+      let word = one_word ts k.Return (w.Key (codes "return")) e refl in
+      chosen (is_mark m.Semicolon (kind_at (drop 1 ts))) _ _ y P h
+      (λ ends h1.
+      answered _ y P h1 (record {
+        part = record { spelled = word ⨾ seen m.Semicolon (drop 1 ts) ends; fits = tt; size = refl; low = omega arith };
+        closed = λ e. absurd (false≢true e);
+      }))
+      (λ goes h1.
+      bound (expr (room + 1) 1 (drop 1 ts)) _ y P h1 (λ v read h2.
+      bound (mark m.Semicolon v.1) _ y P h2 (λ u close h3.
+      let found = expr-part room 1 (omega arith) (omega arith) (drop 1 ts) v read in
+      answered _ y P h3 (record {
+        part = record {
+          spelled = word ⨾ (found.spelled ⨾ mark_plain m.Semicolon v.1 u close);
+          fits = found.fits;
+          size = omega (arith, found.size);
+          low = omega (arith, found.low);
+        };
+        closed = λ e. absurd (false≢true e);
+      }))))
+
+  effect-found : (ts : List Token) (y : Took Stmt) → effect_stmt inner room ts ≡ Ok y → FoundStmt (room + 1) ts y.0 y.1
+  unfolding effect_stmt
+  effect-found ts y h =
+      let P : Took Stmt → Type 0 = λ z. FoundStmt (room + 1) ts z.0 z.1 in
+      bound (effect room ts) _ y P h (λ x read h1.
+      bound (mark m.Semicolon x.1) _ y P h1 (λ u close h2.
+      let found = effect-part room ts x read in
+      answered _ y P h2 (record {
+        part = record {
+          spelled = begun (found.spelled ⨾ mark_plain m.Semicolon x.1 u close);
+          fits = found.fits;
+          size = omega (arith, found.size);
+          low = omega (arith, found.low);
+        };
+        closed = λ e. absurd (false≢true e);
+      })))
+
+  break-found : (ts : List Token) (y : Took Stmt) → kind_at ts ≡ k.Break → word_stmt inner room t.break ts ≡ Ok y → FoundStmt (room + 1) ts y.0 y.1
+  unfolding word_stmt
+  break-found ts y e h =
+      let P : Took Stmt → Type 0 = λ z. FoundStmt (room + 1) ts z.0 z.1 in
+      bound (mark m.Semicolon (drop 1 ts)) _ y P h (λ u close h1.
+      answered _ y P h1 (record {
+        part = record {
+          spelled = one_word ts k.Break (w.Key (codes "break")) e refl ⨾ mark_plain m.Semicolon (drop 1 ts) u close;
+          fits = tt;
+          size = refl;
+          low = omega arith;
+        };
+        closed = λ e. absurd (false≢true e);
+      }))
+
+  continue-found : (ts : List Token) (y : Took Stmt) → kind_at ts ≡ k.Continue → word_stmt inner room t.continue ts ≡ Ok y
+      → FoundStmt (room + 1) ts y.0 y.1
+  unfolding word_stmt
+  continue-found ts y e h =
+      let P : Took Stmt → Type 0 = λ z. FoundStmt (room + 1) ts z.0 z.1 in
+      bound (mark m.Semicolon (drop 1 ts)) _ y P h (λ u close h1.
+      answered _ y P h1 (record {
+        part = record {
+          spelled = one_word ts k.Continue (w.Key (codes "continue")) e refl ⨾ mark_plain m.Semicolon (drop 1 ts) u close;
+          fits = tt;
+          size = refl;
+          low = omega arith;
+        };
+        closed = λ e. absurd (false≢true e);
+      }))
+
+  pub stmt-by : (kind : Kind) (ts : List Token) (y : Took Stmt) → kind_at ts ≡ kind → stmt_by inner room kind ts ≡ Ok y
+      → FoundStmt (room + 1) ts y.0 y.1
+  stmt-by (k.Mark m.LeftBrace) ts y e h = block-found ts y h
+  stmt-by k.If ts y e h = choice-found ts y e h
+  stmt-by k.While ts y e h = loop-found ts y e h
+  stmt-by k.For ts y e h = for-found inner room f ts y e h
+  stmt-by k.Break ts y e h = break-found ts y e h
+  stmt-by k.Continue ts y e h = continue-found ts y e h
+  stmt-by k.Return ts y e h = return-found ts y e h
+  stmt-by _ ts y e h = effect-found ts y h
+
+-- What is read is the words of a statement that is at most so high.
+pub stmt-sound : (room : ℕ) (ts : List Token) (y : Took Stmt) → stmt room ts ≡ Ok y → FoundStmt room ts y.0 y.1
+unfolding stmt
+stmt-sound zero ts y h = absurd cc
+stmt-sound (suc room) ts y h = rw suc-is (stmt-by (stmt room) room (stmt-sound room) (kind_at ts) ts y refl h)
+  where
+    suc-is : suc room ≡ room + 1
+    suc-is = omega arith

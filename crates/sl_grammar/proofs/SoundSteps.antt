@@ -1,0 +1,245 @@
+-- What follows from the answer of a step: which words it took.
+use Rattle.std.proofs.Common.{drop, length, ◌≡◌, ℕ, zero, suc, ◌≤◌, max, Bool, true, false, cond, List, [], ◌∷◌, ◌++◌, Some, Result, Ok, Err, refl, sym, ap, subst, ◌∙◌, arith, append_assoc}
+use Rattle.std.specs.Prelude.{flat_map, ◌&&◌}
+use Rattle.std.proofs.lemmas.Bool.{false≢true}
+use Rattle.std.proofs.lemmas.List.{append-nil}
+use Rattle.sl_base.specs.declared.mark.Mark.{Mark}
+use Rattle.sl_base.specs.declared.place.Place.{Place}
+use Rattle.sl_base.specs.declared.token.Token.{Token}
+use Rattle.sl_base.specs.declared.word.Word.{Word}
+use Rattle.sl_base.specs.declared.word.Word.TheVariants as w
+use Rattle.sl_syntax.specs.declared.kind.Kind.{Kind}
+use Rattle.sl_syntax.specs.declared.kind.Kind.TheVariants as k
+use Rattle.sl_syntax.specs.declared.tree.identifier.Identifier.{Identifier}
+use Rattle.sl_syntax.specs.Depth.{highest}
+use Rattle.sl_syntax.specs.Kinds.{kind_of}
+use Rattle.sl_syntax.specs.Placed.{Spells}
+use Rattle.sl_syntax.specs.Shaped.{Each, AreSome}
+use Rattle.sl_syntax.specs.Written.{Written, at, plain, named, from_place}
+use Rattle.sl_syntax.specs.Written as s
+use Rattle.sl_grammar.specs.declared.fault.Fault.{Fault}
+use Rattle.sl_grammar.specs.Steps.{Outcome, Reader, Tall, and_then, kind_at, here, is_mark, mark, number_at, text_at, identifier_at, identifier_by, identifier, library_by, library, repeat, all_behind}
+use Rattle.sl_grammar.proofs.KindLaws.{fixed, word_of_kind, name_word, number_word, text_word, library_word, is_mark_kind}
+
+-- what is read, with its height, and the tokens behind it
+abbrev pub Took : Type 0 → Type 0
+Took A = Tall A × List Token
+
+-- Eliminations of a step that answered Ok, each with a name for what it bound.
+pub bound : {A B : Type 0} (o : Outcome A) (f : A → Reader B) (y : B × List Token) (P : B × List Token → Type 0) → and_then o f ≡ Ok y
+    → ((p : A × List Token) → o ≡ Ok p → f p.0 p.1 ≡ Ok y → P y) → P y
+bound (Ok p) f y P h go = go p refl h
+bound (Err e) f y P h go = absurd cc
+
+pub chosen : {A : Type 0} (b : Bool) (o q : Outcome A) (y : A × List Token) (P : A × List Token → Type 0) → cond b o q ≡ Ok y
+    → (b ≡ true → o ≡ Ok y → P y) → (b ≡ false → q ≡ Ok y → P y) → P y
+chosen true o q y P h then other = then refl h
+chosen false o q y P h then other = other refl h
+
+-- a step that may only go on under a test
+pub guarded : {A : Type 0} (b : Bool) (o : Outcome A) (e : Fault) (y : A × List Token) (P : A × List Token → Type 0) → cond b o (Err e) ≡ Ok y
+    → (b ≡ true → o ≡ Ok y → P y) → P y
+guarded true o e y P h then = then refl h
+guarded false o e y P h then = absurd cc
+
+ok_one : {A E : Type 0} {a b : A} → ◌≡◌ {A = Result A E} (Ok a) (Ok b) → a ≡ b
+ok_one h = cc
+
+pub answered : {A : Type 0} (a y : A × List Token) (P : A × List Token → Type 0) → ◌≡◌ {A = Outcome A} (Ok a) (Ok y) → P a → P y
+answered a y P h p = subst P (ok_one h) p
+
+pub some_one : {A : Type 0} {a b : A} → Some a ≡ Some b → a ≡ b
+some_one h = cc
+
+-- both of two tests
+pub both : (a b : Bool) → a && b ≡ true → (a ≡ true) × (b ≡ true)
+both true b h = (refl, h)
+both false b h = absurd (false≢true h)
+
+-- the tokens begin with these words
+pub record Spelled (xs : List Written) (ts rest : List Token) : Type 0 where
+  pub spells : Spells xs ts rest
+
+spells-append : (xs ys : List Written) (ts mid rest : List Token) → Spells xs ts mid → Spells ys mid rest → Spells (xs ++ ys) ts rest
+spells-append [] ys ts mid rest a b = subst (λ (us : List Token). Spells ys us rest) (sym a) b
+spells-append (x ∷ xs) ys [] mid rest a b = a
+spells-append (x ∷ xs) ys (t ∷ ts) mid rest a b = (a.0, spells-append xs ys ts mid rest a.1 b)
+
+-- words, and words behind them
+infixr 5 ◌⨾◌
+pub ◌⨾◌ : {xs ys : List Written} {ts mid rest : List Token} → Spelled xs ts mid → Spelled ys mid rest → Spelled (xs ++ ys) ts rest
+a ⨾ b = record { spells = spells-append _ _ _ _ _ a.spells b.spells }
+
+pub no_words : (ts : List Token) → Spelled [] ts ts
+no_words ts = record { spells = refl }
+
+-- tokens of no words are the rest
+pub none_taken : {ts rest : List Token} → Spelled [] ts rest → ts ≡ rest
+none_taken a = a.spells
+
+-- the same words, written in another way
+pub respelled : {xs ys : List Written} {ts rest : List Token} → xs ≡ ys → Spelled xs ts rest → Spelled ys ts rest
+respelled {ts = ts} {rest = rest} e a = subst (λ (l : List Written). Spelled l ts rest) e a
+
+-- one word, at its place
+pub one_word : (ts : List Token) (kind : Kind) (x : Word) → kind_at ts ≡ kind → fixed kind ≡ Some x → Spelled (at (here ts) x ∷ []) ts (drop 1 ts)
+one_word [] kind x h e = absurd cc
+one_word (t ∷ ts) kind x h e = record { spells = ((word_of_kind t.word kind x h e, (refl, tt)), refl) }
+
+-- one word whose place isn't told
+pub one_plain : (ts : List Token) (kind : Kind) (x : Word) → kind_at ts ≡ kind → fixed kind ≡ Some x → Spelled (plain x ∷ []) ts (drop 1 ts)
+one_plain [] kind x h e = absurd cc
+one_plain (t ∷ ts) kind x h e = record { spells = ((word_of_kind t.word kind x h e, tt), refl) }
+
+pub one_number : (ts : List Token) → kind_at ts ≡ k.Number → Spelled (at (here ts) (w.Number (number_at ts)) ∷ []) ts (drop 1 ts)
+one_number [] h = absurd cc
+one_number (t ∷ ts) h = record { spells = ((number_word t.word h, (refl, tt)), refl) }
+
+pub one_text : (ts : List Token) → kind_at ts ≡ k.Text → Spelled (at (here ts) (w.Text (text_at ts)) ∷ []) ts (drop 1 ts)
+one_text [] h = absurd cc
+one_text (t ∷ ts) h = record { spells = ((text_word t.word h, (refl, tt)), refl) }
+
+one_name : (ts : List Token) → kind_at ts ≡ k.Name → Spelled (named (identifier_at ts) ∷ []) ts (drop 1 ts)
+one_name [] h = absurd cc
+one_name (t ∷ ts) h = record { spells = ((name_word t.word h, (refl, tt)), refl) }
+
+one_library : (ts : List Token) → kind_at ts ≡ k.Library
+    → Spelled (at (identifier_at ts).place (w.Lib (identifier_at ts).name) ∷ []) ts (drop 1 ts)
+    × (kind_of (w.Lib (identifier_at ts).name) ≡ k.Library)
+one_library [] h = absurd cc
+one_library (t ∷ ts) h = (record { spells = (((library_word t.word h).0, (refl, tt)), refl) }, (library_word t.word h).1)
+
+-- a mark that was seen is the first word
+pub seen : (x : Mark) (ts : List Token) → is_mark x (kind_at ts) ≡ true → Spelled (s.mark x ∷ []) ts (drop 1 ts)
+seen x ts h = one_plain ts (k.Mark x) (w.Mark x) (is_mark_kind x (kind_at ts) h) refl
+
+pub mark_took : (x : Mark) (ts : List Token) (y : Place × List Token) → mark x ts ≡ Ok y → Spelled (at y.0 (w.Mark x) ∷ []) ts y.1
+unfolding mark
+mark_took x ts y h =
+    let P : Place × List Token → Type 0 = λ z. Spelled (at z.0 (w.Mark x) ∷ []) ts z.1 in
+    guarded (is_mark x (kind_at ts)) _ _ y P h (λ sees h1.
+    answered _ y P h1 (one_word ts (k.Mark x) (w.Mark x) (is_mark_kind x (kind_at ts) sees) refl))
+
+-- a mark that was read stood at the first place
+pub mark_here : (x : Mark) (ts : List Token) (y : Place × List Token) → mark x ts ≡ Ok y → Spelled (at (here ts) (w.Mark x) ∷ []) ts y.1
+unfolding mark
+mark_here x ts y h =
+    let P : Place × List Token → Type 0 = λ z. Spelled (at (here ts) (w.Mark x) ∷ []) ts z.1 in
+    guarded (is_mark x (kind_at ts)) _ _ y P h (λ sees h1.
+    answered _ y P h1 (one_word ts (k.Mark x) (w.Mark x) (is_mark_kind x (kind_at ts) sees) refl))
+
+untold : (x : Word) (place : Place) (ts rest : List Token) → Spells (at place x ∷ []) ts rest → Spells (plain x ∷ []) ts rest
+untold x place [] rest a = a
+untold x place (t ∷ ts) rest a = ((a.0.0, tt), a.1)
+
+pub mark_plain : (x : Mark) (ts : List Token) (y : Place × List Token) → mark x ts ≡ Ok y → Spelled (s.mark x ∷ []) ts y.1
+mark_plain x ts y h = record { spells = untold (w.Mark x) y.0 ts y.1 (mark_took x ts y h).spells }
+
+-- the tokens behind a mark
+pub mark_rest : (x : Mark) (ts : List Token) (y : Place × List Token) → mark x ts ≡ Ok y → y.1 ≡ drop 1 ts
+unfolding mark
+mark_rest x ts y h =
+    let P : Place × List Token → Type 0 = λ z. z.1 ≡ drop 1 ts in
+    guarded (is_mark x (kind_at ts)) _ _ y P h (λ sees h1. answered _ y P h1 refl)
+
+name_took : (kind : Kind) (ts : List Token) (y : Identifier × List Token) → kind_at ts ≡ kind → identifier_by kind ts ≡ Ok y
+    → Spelled (named y.0 ∷ []) ts y.1
+name_took k.Name ts y e h = answered _ y (λ z. Spelled (named z.0 ∷ []) ts z.1) h (one_name ts e)
+name_took _ ts y e h = absurd cc
+
+pub identifier_took : (ts : List Token) (y : Identifier × List Token) → identifier ts ≡ Ok y → Spelled (named y.0 ∷ []) ts y.1
+unfolding identifier
+identifier_took ts y h = name_took (kind_at ts) ts y refl h
+
+-- the name of a function of the library
+abbrev pub TookLibrary : List Token → Identifier × List Token → Type 0
+TookLibrary ts y = Spelled (at y.0.place (w.Lib y.0.name) ∷ []) ts y.1 × (kind_of (w.Lib y.0.name) ≡ k.Library)
+
+lib_took : (kind : Kind) (ts : List Token) (y : Identifier × List Token) → kind_at ts ≡ kind → library_by kind ts ≡ Ok y → TookLibrary ts y
+lib_took k.Library ts y e h = answered _ y (TookLibrary ts) h (one_library ts e)
+lib_took _ ts y e h = absurd cc
+
+pub library_took : (ts : List Token) (y : Identifier × List Token) → library ts ≡ Ok y → TookLibrary ts y
+unfolding library
+library_took ts y h = lib_took (kind_at ts) ts y refl h
+
+-- the first word has the place of the first token
+pub begun : {xs : List Written} {ts rest : List Token} → Spelled xs ts rest → Spelled (from_place (here ts) xs) ts rest
+begun a = record { spells = spells-begun _ _ _ a.spells }
+  where
+    spells-begun : (xs : List Written) (ts rest : List Token) → Spells xs ts rest → Spells (from_place (here ts) xs) ts rest
+    spells-begun [] ts rest a = a
+    spells-begun (x ∷ xs) [] rest a = a
+    spells-begun (x ∷ xs) (t ∷ ts) rest a = ((a.0.0, (refl, a.0.1)), a.1)
+
+-- What is read: its words, that it fits, and its height, which is at most the room.
+pub record Part {A : Type 0} (written : A → List Written) (Fits : A → Type 0) (height : A → ℕ) (room : ℕ) (ts : List Token) (p : Tall A)
+    (rest : List Token) : Type 0 where
+  pub spelled : Spelled (written p.0) ts rest
+  pub fits : Fits p.0
+  pub size : p.1 ≡ height p.0
+  pub low : p.1 ≤ room
+
+-- what a reader answers is such a part
+abbrev pub Parts : {A : Type 0} → (A → List Written) → (A → Type 0) → (A → ℕ) → ℕ → Reader (Tall A) → Type 0
+Parts {A} written Fits height room item = (ts : List Token) (y : Took A) → item ts ≡ Ok y → Part written Fits height room ts y.0 y.1
+
+-- the items that were read behind those that are done
+pub record More {A : Type 0} (written : A → List Written) (Fits : A → Type 0) (height : A → ℕ) (room : ℕ) (goes : Kind → Bool)
+    (done : Tall (List A)) (ts : List Token) (p : Tall (List A)) (rest : List Token) : Type 0 where
+  pub items : List A
+  pub all : p.0 ≡ done.0 ++ items
+  pub spelled : Spelled (flat_map written items) ts rest
+  pub each : Each Fits items
+  pub size : p.1 ≡ max done.1 (highest height items)
+  pub low : highest height items ≤ room
+  pub stops : goes (kind_at rest) ≡ false
+
+module _ {A : Type 0} (written : A → List Written) (Fits : A → Type 0) (height : A → ℕ) (room : ℕ) (goes : Kind → Bool) (item : Reader (Tall A))
+    (f : Parts written Fits height room item) where
+  stopped : (done : Tall (List A)) (ts : List Token) → goes (kind_at ts) ≡ false → More written Fits height room goes done ts done ts
+  stopped done ts stop = record {
+    items = [];
+    all = sym (append-nil done.0);
+    spelled = no_words ts;
+    each = tt;
+    size = omega arith;
+    low = omega arith;
+    stops = stop;
+  }
+
+  repeat-more : (turns : ℕ) (done : Tall (List A)) (ts : List Token) (y : Took (List A)) → repeat goes item turns done ts ≡ Ok y
+      → More written Fits height room goes done ts y.0 y.1
+  unfolding repeat
+  repeat-more zero done ts y h =
+      let P : Took (List A) → Type 0 = λ z. More written Fits height room goes done ts z.0 z.1 in
+      chosen (goes (kind_at ts)) _ _ y P h (λ on h1. absurd cc) (λ stop h1. answered _ y P h1 (stopped done ts stop))
+  repeat-more (suc n) done ts y h =
+      let P : Took (List A) → Type 0 = λ z. More written Fits height room goes done ts z.0 z.1 in
+      chosen (goes (kind_at ts)) _ _ y P h
+      (λ on h1.
+      bound (item ts) _ y P h1 (λ x read h2.
+      let first = f ts x read in
+      let others = repeat-more n (done.0 ++ x.0.0 ∷ [], max done.1 x.0.1) x.1 y h2 in
+      record {
+        items = x.0.0 ∷ others.items;
+        all = others.all ∙ append_assoc done.0 (x.0.0 ∷ []) others.items;
+        spelled = first.spelled ⨾ others.spelled;
+        each = (first.fits, others.each);
+        size = omega (arith, others.size, first.size);
+        low = omega (arith, others.low, first.size, first.low);
+        stops = others.stops;
+      }))
+      (λ stop h1. answered _ y P h1 (stopped done ts stop))
+
+  -- the items that follow
+  pub behind : (done : Tall (List A)) (ts : List Token) (y : Took (List A)) → all_behind goes item done ts ≡ Ok y
+      → More written Fits height room goes done ts y.0 y.1
+  behind done ts y h = repeat-more (length ts) done ts y h
+
+-- where the first word goes on and the last doesn't, there is an item
+pub some_items : {A : Type 0} (written : A → List Written) (goes : Kind → Bool) (items : List A) (ts rest : List Token)
+    → Spelled (flat_map written items) ts rest → goes (kind_at ts) ≡ true → goes (kind_at rest) ≡ false → AreSome items
+some_items written goes [] ts rest spelled on stop =
+    absurd (false≢true (sym stop ∙ ap (λ (us : List Token). goes (kind_at us)) (sym (none_taken spelled)) ∙ on))
+some_items written goes (x ∷ items) ts rest spelled on stop = omega arith
