@@ -1,5 +1,5 @@
 -- Programs read, worked by hand.
-use Rattle.std.specs.Prelude.{◌≡◌, refl, ℕ, ◌+◌, List, [], ◌∷◌, Some, None, Ok, Err, codes}
+use Rattle.std.specs.Prelude.{◌≡◌, refl, ℕ, ◌+◌, List, [], ◌∷◌, Some, Ok, codes}
 use Rattle.sl_base.specs.declared.mark.Mark.TheVariants as m
 use Rattle.sl_base.specs.declared.place.Place.{Place}
 use Rattle.sl_base.specs.declared.scalar.Scalar.TheVariants as c
@@ -11,9 +11,8 @@ use Rattle.sl_syntax.specs.declared.operator.BinaryOperator.TheVariants as b
 use Rattle.sl_syntax.specs.declared.tree.function.ResultType.TheVariants as z
 use Rattle.sl_syntax.specs.Tree as t
 use Rattle.sl_syntax.specs.Tree.{Program}
-use Rattle.sl_grammar.specs.declared.fault.Fault.TheVariants.{Grammar}
 use Rattle.sl_grammar.specs.Declarations.{scalar_declaration, optional_value, params}
-use Rattle.sl_grammar.specs.Expressions.{expr, from_operand, operand, climb, operation, combined, named}
+use Rattle.sl_grammar.specs.Expressions.{expr, from_operand, operand, climb, operation, combined}
 use Rattle.sl_grammar.specs.Statements.{program, function, function_behind, braced, item, stmt}
 use Rattle.sl_grammar.specs.Steps.{mark, identifier, repeat}
 
