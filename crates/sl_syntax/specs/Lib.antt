@@ -7,4 +7,5 @@ pub mod Written
 pub mod Depth
 pub mod Shaped
 pub mod Placed
+pub mod Begins
 pub mod Blank

@@ -1,11 +1,10 @@
--- Which tokens a tree is written by, and which words begin a program.
-use Rattle.std.specs.Prelude.{◌≡◌, List, [], ◌∷◌, ◌++◌}
+-- Which tokens a tree is written by.
+use Rattle.std.specs.Prelude.{◌≡◌, List, [], ◌∷◌}
 use Rattle.sl_base.specs.declared.place.Place.{Place}
 use Rattle.sl_base.specs.declared.token.Token.{Token}
-use Rattle.sl_base.specs.declared.word.Word.{Word}
-use Rattle.sl_syntax.specs.Shaped.{Shaped, Each}
+use Rattle.sl_syntax.specs.Shaped.{Each}
 use Rattle.sl_syntax.specs.Tree.{Program}
-use Rattle.sl_syntax.specs.Written.{Written, words, program_written}
+use Rattle.sl_syntax.specs.Written.{Written, program_written}
 
 -- the token has this word, and each place that is told of the word is the token's
 abbrev pub IsToken : Written → Token → Type 0
@@ -20,7 +19,3 @@ Spells (x ∷ xs) (token ∷ tokens) rest = IsToken x token × Spells xs tokens 
 -- the program's words are those of the tokens, and each place in it is the one that they give
 abbrev pub Placed : Program → List Token → Type 0
 Placed p tokens = Spells (program_written p) tokens []
-
--- with some words behind them they are those of a program that follows the grammar
-abbrev pub Begins : List Word → Type 0
-Begins ws = (p : Program) × Shaped p × (more : List Word) × (words p ≡ ws ++ more)
