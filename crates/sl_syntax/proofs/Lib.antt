@@ -9,3 +9,4 @@ pub mod ExprWords
 pub mod EffectWords
 pub mod StatementWords
 pub mod FunctionWords
+pub mod BeginsLaws

@@ -1,9 +1,14 @@
 -- How far words begin something whole, as a program.
-use Rattle.std.specs.Prelude.{◌≡◌, ℕ, ◌+◌, ◌≤◌, ◌<◌, List, ◌++◌, length, take}
+use Rattle.std.specs.Prelude.{◌≡◌, ℕ, ◌+◌, ◌≤◌, ◌<◌, List, ◌++◌, length, take, map}
+use Rattle.sl_base.specs.declared.token.Token.{Token}
 use Rattle.sl_base.specs.declared.word.Word.{Word}
 use Rattle.sl_syntax.specs.Shaped.{Shaped}
 use Rattle.sl_syntax.specs.Tree.{Program}
 use Rattle.sl_syntax.specs.Written.{words}
+
+-- the words of tokens
+abbrev pub words_in : List Token → List Word
+words_in tokens = map (λ (t : Token). t.word) tokens
 
 -- these are the words of a program that follows the grammar
 abbrev pub IsProgram : List Word → Type 0

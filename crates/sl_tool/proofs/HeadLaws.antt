@@ -8,13 +8,14 @@ use Rattle.sl_base.specs.declared.limits.TheConstants.{STATEMENTS}
 use Rattle.sl_base.specs.declared.mark.Mark.TheVariants.{RightBrace}
 use Rattle.sl_base.specs.declared.word.Word.{Word}
 use Rattle.sl_base.specs.declared.word.Word.TheVariants.{Mark}
-use Rattle.sl_tool.specs.Begins.{Begins, IsText, Stops}
+use Rattle.sl_syntax.specs.Begins.{Begins, Stops}
+use Rattle.sl_tool.specs.Begins.{IsText}
 use Rattle.sl_tool.specs.Form.{item_words, head_words, no_scope, Scope}
 use Rattle.sl_tool.specs.Reading.{IsBody, StopsInHead}
 use Rattle.sl_tool.specs.Slots.{Fit, head_slots}
 use Rattle.sl_tool.proofs.SlotLaws.{FitAll, HaveWords, fit_whole, fit_inside, fit_all_length, stops_in_slots}
 use Rattle.sl_tool.proofs.StopHereLaws.{empty_body}
-use Rattle.sl_tool.proofs.StopLaws.{behind_front, stops_at_end}
+use Rattle.sl_syntax.proofs.BeginsLaws.{behind_front, stops_at_end}
 
 -- words that fit the head begin with it
 head_of_fit : (s : Scope) (ws : List Word) → FitAll s head_slots ws → ws ≡ head_words ++ drop (length head_words) ws

@@ -21,7 +21,6 @@ pub mod ItemLaws
 pub mod NameLaws
 pub mod BodyLaws
 pub mod Reported
-pub mod StopLaws
 pub mod SlotLaws
 pub mod FreshLaws
 pub mod KindLaws

@@ -12,10 +12,11 @@ use Rattle.sl_base.specs.declared.place.Place.{Place}
 use Rattle.sl_tool.specs.declared.refusal.Reason.TheVariants.{NotBuilt}
 use Rattle.sl_tool.specs.declared.refusal.Refusal.{Refusal}
 use Rattle.sl_tool.specs.Begins.{IsText, StopsAt, stop_place}
-use Rattle.sl_tool.specs.Form.{Item, item_words, head_words, words_in, typed_text, ReadsAs, IsBuilt}
+use Rattle.sl_syntax.specs.Begins.{words_in}
+use Rattle.sl_tool.specs.Form.{Item, item_words, head_words, typed_text, ReadsAs, IsBuilt}
 use Rattle.sl_tool.specs.Refusals.{IsRefused, by_token, by_form, IsReadOf}
 use Rattle.sl_tool.proofs.ItemLaws.{begins_with, same_item, no_item_at_end}
-use Rattle.sl_tool.proofs.StopLaws.{stops_once, not_whole}
+use Rattle.sl_syntax.proofs.BeginsLaws.{stops_once, not_whole}
 
 -- the words of a body are those of no other statements
 one_body : (is js : List Item) → flat_map item_words is ++ Mark RightBrace ∷ [] ≡ flat_map item_words js ++ Mark RightBrace ∷ [] → is ≡ js

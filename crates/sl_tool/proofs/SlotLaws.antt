@@ -8,8 +8,9 @@ use Rattle.std.proofs.Math.Seq.{drop-cons}
 use Rattle.sl_base.specs.declared.token.Token.{Token}
 use Rattle.sl_base.specs.declared.word.Word.{Word}
 use Rattle.sl_tool.specs.declared.reading.slots.Slot.{Slot}
-use Rattle.sl_tool.specs.Begins.{Begins, Stops}
-use Rattle.sl_tool.specs.Form.{Scope, words_in}
+use Rattle.sl_syntax.specs.Begins.{Begins, Stops}
+use Rattle.sl_syntax.specs.Begins.{words_in}
+use Rattle.sl_tool.specs.Form.{Scope}
 use Rattle.sl_tool.specs.Slots.{Fits, Fit}
 use Rattle.sl_tool.proofs.ItemLaws.{front}
 

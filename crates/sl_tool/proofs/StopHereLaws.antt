@@ -9,14 +9,15 @@ use Rattle.sl_base.specs.declared.token.Token.{Token}
 use Rattle.sl_base.specs.declared.word.Word.{Word}
 use Rattle.sl_base.specs.declared.word.Word.TheVariants.{Mark}
 use Rattle.sl_tool.specs.declared.reading.slots.Kind.{Kind}
-use Rattle.sl_tool.specs.Begins.{Begins, Stops}
-use Rattle.sl_tool.specs.Form.{Item, vector_item, push_back_item, begin_item, dereference_item, item_words, Scope, IsAllowed, AllAllowed, after_item, words_in}
+use Rattle.sl_syntax.specs.Begins.{Begins, Stops}
+use Rattle.sl_syntax.specs.Begins.{words_in}
+use Rattle.sl_tool.specs.Form.{Item, vector_item, push_back_item, begin_item, dereference_item, item_words, Scope, IsAllowed, AllAllowed, after_item}
 use Rattle.sl_tool.specs.Reading.{BeginsWith, IsBody, StopsIn}
 use Rattle.sl_tool.specs.Slots.{Fit, slots_of, BeginsKind, IsPossible}
 use Rattle.sl_tool.proofs.ItemLaws.{begins_with, same_item, no_item_at_end}
 use Rattle.sl_tool.proofs.KindLaws.{kind_of, possible_of, fits_kind, item_of_fit, have_words, first_word, one_kind, not_brace}
 use Rattle.sl_tool.proofs.SlotLaws.{FitAll, fit_whole, stops_in_slots}
-use Rattle.sl_tool.proofs.StopLaws.{behind_front, stops_at_end, stops_at_first, stops_at_second}
+use Rattle.sl_syntax.proofs.BeginsLaws.{behind_front, stops_at_end, stops_at_first, stops_at_second}
 
 -- a closing brace alone is a body
 pub empty_body : (s : Scope) (room : ℕ) → IsBody s room (Mark RightBrace ∷ [])

@@ -1,11 +1,12 @@
--- How far tokens begin a text of the form: the place of the refusal of one that isn't.
+-- Where tokens stop beginning a text of the form: the place of the refusal of one that isn't.
 use Rattle.std.specs.Prelude.{◌≡◌, ℕ, ◌+◌, ◌≤◌, ◌<◌, List, ◌++◌, length, take, map, slice_index_or}
 use Rattle.sl_base.specs.declared.limits.TheConstants.{STATEMENTS}
 use Rattle.sl_base.specs.declared.place.Place.{Place}
 use Rattle.sl_base.specs.declared.token.Token.{Token}
 use Rattle.sl_base.specs.declared.word.Word.{Word}
 use Rattle.sl_base.specs.Places.{place_at}
-use Rattle.sl_tool.specs.Form.{Item, text_words, no_scope, AllAllowed, words_in}
+use Rattle.sl_syntax.specs.Begins.{Stops, words_in}
+use Rattle.sl_tool.specs.Form.{Item, text_words, no_scope, AllAllowed}
 
 -- the words are a text of the form
 pub record IsText (words : List Word) : Type 0 where
@@ -13,17 +14,6 @@ pub record IsText (words : List Word) : Type 0 where
   pub are_items : words ≡ text_words items
   pub allowed : AllAllowed no_scope items
   pub few : length items ≤ STATEMENTS
-
--- with some words behind them they are whole
-abbrev pub Begins : (List Word → Type 0) → List Word → Type 0
-Begins IsWhole words = (more : List Word) × IsWhole (words ++ more)
-
--- The first k words begin what is whole, and the first k + 1 don't. Where there are only k, they aren't whole.
-pub record Stops (IsWhole : List Word → Type 0) (words : List Word) (k : ℕ) : Type 0 where
-  pub inside : k ≤ length words
-  pub before : Begins IsWhole (take k words)
-  pub behind : k < length words → Begins IsWhole (take (k + 1) words) → ⊥
-  pub ends : k ≡ length words → IsWhole words → ⊥
 
 -- The token k, from 0, is the first with which the tokens begin no text of the form. Where k is how many they are, they begin one and aren't one.
 abbrev pub StopsAt : List Token → ℕ → Type 0

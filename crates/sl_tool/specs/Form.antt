@@ -13,6 +13,7 @@ use Rattle.sl_base.specs.Tokens.{Tokens}
 use Rattle.sl_syntax.specs.declared.typed.Stmt.{Stmt}
 use Rattle.sl_syntax.specs.declared.typed.Stmt.TheVariants.{Vector, PushBack, Begin, Dereference}
 use Rattle.sl_syntax.specs.declared.typed.Typed.{Typed}
+use Rattle.sl_syntax.specs.Begins.{words_in}
 use Rattle.sl_syntax.specs.View.{is_vector}
 
 -- a statement by its names and its number
@@ -117,9 +118,6 @@ typed_text tokens items =
       sites = push_places body items ++ (if list_any is_vector stmts then close ∷ [] else []);
       names = (after_items no_scope items).names;
     }
-
-abbrev pub words_in : List Token → List Word
-words_in tokens = map (λ (t : Token). t.word) tokens
 
 -- these tokens are a text of the form, and this is the text in numbers
 pub record ReadsAs (tokens : List Token) (p : Typed) : Type 0 where

@@ -12,8 +12,10 @@ use Rattle.sl_syntax.specs.View.{is_vector}
 use Rattle.sl_tool.specs.declared.reading.reader.Reader.{Reader}
 use Rattle.sl_tool.specs.declared.reading.read.Read.{Read}
 use Rattle.sl_tool.specs.declared.reading.read.Read.TheVariants.{Whole, Stops as ReadStops}
-use Rattle.sl_tool.specs.Begins.{IsText, Stops}
-use Rattle.sl_tool.specs.Form.{head_words, Item, push_back_item, item_words, Scope, no_scope, IsAllowed, after_item, after_items, AllAllowed, typed_item, typed_items, push_places, place_in, words_in}
+use Rattle.sl_syntax.specs.Begins.{Stops}
+use Rattle.sl_tool.specs.Begins.{IsText}
+use Rattle.sl_syntax.specs.Begins.{words_in}
+use Rattle.sl_tool.specs.Form.{head_words, Item, push_back_item, item_words, Scope, no_scope, IsAllowed, after_item, after_items, AllAllowed, typed_item, typed_items, push_places, place_in}
 
 -- the words begin with those of the statement
 abbrev pub BeginsWith : List Word → Item → Type 0

@@ -3,8 +3,9 @@ ghost use Rattle.std.specs.Prelude.{◌≡◌, ◌↔◌, [], ◌∷◌, ◌++�
 ghost use Rattle.sl_base.specs.declared.mark.Mark.TheVariants.{RightBrace};
 ghost use Rattle.sl_base.specs.declared.word.Word.{Word};
 ghost use Rattle.sl_base.specs.declared.word.Word.TheVariants.{Mark as MarkWord};
-ghost use Rattle.sl_tool.specs.Begins.{Stops};
-ghost use Rattle.sl_tool.specs.Form.{head_words, no_scope, words_in};
+ghost use Rattle.sl_syntax.specs.Begins.{Stops};
+ghost use Rattle.sl_syntax.specs.Begins.{words_in};
+ghost use Rattle.sl_tool.specs.Form.{head_words, no_scope};
 ghost use Rattle.sl_tool.specs.Reading.{IsBody, IsRead, MatchRead};
 
 use crate::reading::read::Read;

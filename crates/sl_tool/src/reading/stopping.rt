@@ -2,8 +2,10 @@
 ghost use Rattle.std.specs.Prelude.{◌≡◌, ◌↔◌, ◌∷◌, [], ℕ, List, IsTrue, Contains};
 ghost use Rattle.sl_base.specs.declared.mark.Mark.TheVariants.{RightBrace};
 ghost use Rattle.sl_base.specs.declared.word.Word.TheVariants.{Mark as MarkWord, Name as NameWord};
-ghost use Rattle.sl_tool.specs.Begins.{Stops, StopsAt};
-ghost use Rattle.sl_tool.specs.Form.{Scope, IsNew, words_in};
+ghost use Rattle.sl_syntax.specs.Begins.{Stops};
+ghost use Rattle.sl_tool.specs.Begins.{StopsAt};
+ghost use Rattle.sl_syntax.specs.Begins.{words_in};
+ghost use Rattle.sl_tool.specs.Form.{Scope, IsNew};
 ghost use Rattle.sl_tool.specs.Reading.{IsBody, StopsIn, StopsInHead, scope_of};
 ghost use Rattle.sl_tool.specs.Slots.{Fit, Fits, IsPossible};
 

@@ -1,6 +1,8 @@
 use Rattle.std.proofs.Common.{◌+◌, length, sym, subst}
-use Rattle.sl_tool.specs.Begins.{IsText, Stops}
-use Rattle.sl_tool.specs.Form.{head_words, words_in}
+use Rattle.sl_syntax.specs.Begins.{Stops}
+use Rattle.sl_tool.specs.Begins.{IsText}
+use Rattle.sl_syntax.specs.Begins.{words_in}
+use Rattle.sl_tool.specs.Form.{head_words}
 use Rattle.sl_tool.proofs.HeadLaws.{stops_behind_head}
 use Rattle.sl_tool.proofs.reading.read_text.Goals as goal
 

@@ -1,5 +1,5 @@
 use Rattle.std.proofs.Common.{ℕ, ◌+◌, drop}
-use Rattle.sl_tool.specs.Form.{words_in}
+use Rattle.sl_syntax.specs.Begins.{words_in}
 use Rattle.sl_tool.specs.Reading.{scope_of}
 use Rattle.sl_tool.specs.Slots.{Fit}
 use Rattle.sl_tool.proofs.reading.stopping.fitting.Given as goal

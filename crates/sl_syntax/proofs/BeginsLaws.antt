@@ -4,7 +4,7 @@ use Rattle.std.proofs.lemmas.Bool.{cases_lt}
 use Rattle.std.proofs.lemmas.List.{take-append-drop, take-append-le, length-take-le}
 use Rattle.std.proofs.Math.Seq.{take-append-add}
 use Rattle.sl_base.specs.declared.word.Word.{Word}
-use Rattle.sl_tool.specs.Begins.{Begins, Stops}
+use Rattle.sl_syntax.specs.Begins.{Begins, Stops}
 
 -- the first words begin what longer words begin
 pub shorter : (P : List Word → Type 0) (a b : List Word) → Begins P (a ++ b) → Begins P a
