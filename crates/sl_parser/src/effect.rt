@@ -1,152 +1,26 @@
-//! Reads, prints, assignments and conditions.
-ghost use Rattle.std.specs.Prelude.{◌≡◌, ◌≤◌, ◌<◌, ◌+◌, IfOk, length, map};
+//! Effects, which are reads, prints, assignments and values, and conditions.
+ghost use Rattle.std.specs.Prelude.{◌≡◌, ◌≤◌, ◌<◌, IfOk};
 ghost use Rattle.sl_base.specs.declared.limits.TheConstants.{TREE_DEPTH};
-ghost use Rattle.sl_base.specs.declared.mark.Mark.TheVariants as m;
-ghost use Rattle.sl_syntax.specs.TreeView.{out_of};
-ghost use Rattle.sl_grammar.specs.Steps.{Reads, is_mark, kind_at};
 ghost use Rattle.sl_syntax.specs.declared.kind.Kind.TheVariants.{End};
+ghost use Rattle.sl_grammar.specs.Steps.{Reads, is_mark};
 ghost use Rattle.sl_grammar.specs.Effects as steps;
-ghost use Rattle.sl_parser.specs.EffectViews.{flat, tall_cond, tall_effect, tall_out, tall_outs, tall_print};
+ghost use Rattle.sl_parser.specs.EffectViews.{tall_cond, tall_effect};
 ghost use Rattle.sl_parser.specs.Nests.{tall_expr};
 ghost use Rattle.sl_parser.specs.Reader as spec;
 
+mod printing;
+mod reading;
+
+use crate::effect::printing::print;
+use crate::effect::reading::read;
 use crate::expression::expr;
 use crate::tokens::Tokens;
-use sl_base::{Items, Mark};
+use sl_base::Mark;
 use sl_grammar::Fault;
-use sl_syntax::{Arithmetic, Assignment, Cond, Effect, Expr, Identifier, Kind, Out, Print, Read};
+use sl_syntax::{Arithmetic, Assignment, Cond, Effect, Expr, Kind};
 use std::alloc::Global;
 
-/// `std::cin >> x >> y`, and its height.
-#[tactic(auto, unfolding(crate::specs::Reader::read))]
-pub fn read(alloc: Global, tokens: &mut Tokens<'_>, room: usize) -> Result<(Read, usize), Fault>
-    ensures reads { Reads (λ x. x) (spec.read room tokens.old) result tokens.new }
-    ensures low { IfOk result (λ x. x.1 ≤ room) }
-{
-    if room == 0 {
-        return Err(tokens.refuse());
-    }
-    let place = tokens.place();
-    tokens.skip();
-    let first = shifted_name(tokens)?;
-    let mut variables = Items::new(alloc);
-    variables.push(first)?;
-    let variables = variables_behind(tokens, variables)?;
-    Ok((Read { place, variables }, 1))
-}
-
-// The others of a read, behind those that are there.
-#[tactic(auto, unfolding(crate::specs::Reader::repeat))]
-fn variables_behind(
-    tokens: &mut Tokens<'_>,
-    mut variables: Items<Identifier>,
-) -> Result<Items<Identifier>, Fault>
-    ensures { Reads flat (spec.repeat (is_mark m.ShiftRight) spec.shifted_name (length tokens.old) (flat variables) tokens.old) result tokens.new }
-{
-    for _turn in 0..tokens.left() {
-        if !tokens.sees(Mark::ShiftRight) {
-            return Ok(variables);
-        }
-        let variable = shifted_name(tokens)?;
-        variables.push(variable)?;
-    }
-    if tokens.sees(Mark::ShiftRight) {
-        return Err(tokens.refuse());
-    }
-    Ok(variables)
-}
-
-// `>> x`
-#[tactic(auto, unfolding(crate::specs::Reader::shifted_name))]
-fn shifted_name(tokens: &mut Tokens<'_>) -> Result<Identifier, Fault>
-    ensures { Reads flat (spec.shifted_name tokens.old) result tokens.new }
-{
-    tokens.mark(Mark::ShiftRight)?;
-    let variable = tokens.identifier()?;
-    Ok(variable)
-}
-
-// `std::cout << x << y`
-#[tactic(auto, unfolding(crate::specs::Reader::print))]
-fn print(alloc: Global, tokens: &mut Tokens<'_>, room: usize) -> Result<(Print, usize), Fault>
-    ensures reads { Reads tall_print (spec.print room tokens.old) result tokens.new }
-    ensures low { IfOk result (λ x. x.1 ≤ room) }
-{
-    if room == 0 {
-        return Err(tokens.refuse());
-    }
-    let place = tokens.place();
-    tokens.skip();
-    let (first, height) = shifted_out(alloc, tokens, room)?;
-    let mut items = Vec::new(alloc);
-    items.push(first)?;
-    let (items, height) = outs_behind(alloc, tokens, room, items, height)?;
-    Ok((Print { place, items }, height + 1))
-}
-
-// The others of a print, behind those that are there, and the greatest height of all.
-#[tactic(auto, unfolding(crate::specs::Reader::repeat))]
-fn outs_behind(
-    alloc: Global,
-    tokens: &mut Tokens<'_>,
-    room: usize,
-    mut items: Vec<Out>,
-    mut height: usize,
-) -> Result<(Vec<Out>, usize), Fault>
-    requires low { height < room }
-    ensures reads { Reads tall_outs (spec.repeat (is_mark m.ShiftLeft) (spec.shifted_out room) (length tokens.old) (map out_of items.items, height) tokens.old) result tokens.new }
-    ensures low { IfOk result (λ x. x.1 < room) }
-{
-    for _turn in 0..tokens.left() {
-        if !tokens.sees(Mark::ShiftLeft) {
-            return Ok((items, height));
-        }
-        let (item, other) = shifted_out(alloc, tokens, room)?;
-        items.push(item)?;
-        height = height.max(other);
-    }
-    if tokens.sees(Mark::ShiftLeft) {
-        return Err(tokens.refuse());
-    }
-    Ok((items, height))
-}
-
-// `<< x`, which is less high than the number.
-#[tactic(auto, unfolding(crate::specs::Reader::shifted_out))]
-fn shifted_out(alloc: Global, tokens: &mut Tokens<'_>, room: usize) -> Result<(Out, usize), Fault>
-    requires some { 0 < room }
-    ensures reads { Reads tall_out (spec.shifted_out room tokens.old) result tokens.new }
-    ensures low { IfOk result (λ x. x.1 < room) }
-{
-    tokens.mark(Mark::ShiftLeft)?;
-    out(alloc, tokens, room)
-}
-
-fn out(alloc: Global, tokens: &mut Tokens<'_>, room: usize) -> Result<(Out, usize), Fault>
-    requires some { 0 < room }
-    ensures reads { Reads tall_out (steps.out_by room (kind_at tokens.old) tokens.old) result tokens.new }
-    ensures low { IfOk result (λ x. x.1 < room) }
-{
-    match tokens.kind() {
-        Kind::Text => {
-            let place = tokens.place();
-            let text = tokens.text(alloc)?;
-            tokens.skip();
-            Ok((Out::Text { place, text }, 0))
-        }
-        Kind::EndLine => {
-            let place = tokens.place();
-            tokens.skip();
-            Ok((Out::EndLine { place }, 0))
-        }
-        _ => {
-            let (value, height) = expr(alloc, tokens, room, 5)?;
-            Ok((Out::Value(value), height))
-        }
-    }
-}
-
-/// What is done for its effect, and its height, of which there may be so much.
+/// What is done for its effect, and its height, which the room bounds.
 #[tactic(auto, unfolding(crate::specs::Reader::effect))]
 pub fn effect(alloc: Global, tokens: &mut Tokens<'_>, room: usize) -> Result<(Effect, usize), Fault>
     requires small { room ≤ TREE_DEPTH }
@@ -219,7 +93,7 @@ fn assignment_of(kind: Kind) -> Option<Assignment>
     }
 }
 
-/// What is tested, and its height, of which there may be so much.
+/// What is tested, and its height, which the room bounds.
 #[tactic(auto, unfolding(crate::specs::Reader::cond))]
 pub fn cond(alloc: Global, tokens: &mut Tokens<'_>, room: usize) -> Result<(Cond, usize), Fault>
     requires small { room ≤ TREE_DEPTH }
@@ -235,7 +109,7 @@ pub fn cond(alloc: Global, tokens: &mut Tokens<'_>, room: usize) -> Result<(Cond
     }
 }
 
-// What is tested and is no read itself.
+// What is tested where the first word is not `std::cin`; any such word stands for all of them.
 fn tested(alloc: Global, tokens: &mut Tokens<'_>, room: usize) -> Result<(Cond, usize), Fault>
     requires small { room ≤ TREE_DEPTH }
     ensures reads { Reads tall_cond (steps.cond_by room End tokens.old) result tokens.new }

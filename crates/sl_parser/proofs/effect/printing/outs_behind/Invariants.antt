@@ -3,7 +3,7 @@ use Rattle.sl_base.specs.declared.mark.Mark.TheVariants as m
 use Rattle.sl_syntax.specs.TreeView.{out_of}
 use Rattle.sl_grammar.specs.Steps.{is_mark, repeat}
 use Rattle.sl_grammar.specs.Effects.{shifted_out}
-use Rattle.sl_parser.proofs.effect.outs_behind.Given as goal
+use Rattle.sl_parser.proofs.effect.printing.outs_behind.Given as goal
 
 abbrev pub invariant-loop-turn : goal.invariant-loop-turn
 invariant-loop-turn l =
