@@ -1,5 +1,6 @@
 //! Reads tokens as a program.
 #![tactic(auto)]
 
+mod effect;
 mod expression;
 mod tokens;
