@@ -1,6 +1,9 @@
 //! Reads tokens as a program.
 #![tactic(auto)]
 
+mod container;
+mod declaration;
 mod effect;
 mod expression;
+mod params;
 mod tokens;
