@@ -1,26 +1,22 @@
 -- The laws of the reader of programs, put together: what it reads and where it stops, against the definitions of the grammar.
-use Rattle.std.proofs.Common.{◌≡◌, ℕ, zero, suc, ◌+◌, ◌-◌, ◌<◌, ◌≤◌, ◌⊎◌, inl, inr, List, [], ◌∷◌, ◌++◌, length, take, drop, map, Result, Ok, Err, refl, sym, ap, ◌∙◌, subst, arith}
-use Rattle.std.proofs.lemmas.Bool.{cases_lt}
-use Rattle.std.proofs.lemmas.List.{length-map, take-append-drop}
+use Rattle.std.proofs.Common.{◌≡◌, ℕ, zero, suc, ◌+◌, ◌-◌, ◌<◌, ◌≤◌, List, [], ◌∷◌, ◌++◌, length, take, map, Result, Ok, Err, refl, sym, ap, ◌∙◌, subst, arith}
 use Rattle.sl_base.specs.declared.token.Token.{Token}
 use Rattle.sl_base.specs.declared.word.Word.{Word}
-use Rattle.sl_syntax.specs.Begins.{IsProgram, Begins, Stops, words_in}
+use Rattle.sl_syntax.specs.Begins.{IsProgram, Begins, words_in}
 use Rattle.sl_syntax.specs.Blank.{blank, blank_token}
 use Rattle.sl_syntax.specs.Depth.{depth}
 use Rattle.sl_syntax.specs.Placed.{Placed}
 use Rattle.sl_syntax.specs.Shaped.{Shaped}
 use Rattle.sl_syntax.specs.Tree.{Program}
 use Rattle.sl_syntax.specs.Written.{words}
-use Rattle.sl_syntax.proofs.BlankLaws.{blank-placed_alone, placed-words, blank-words}
+use Rattle.sl_syntax.proofs.BlankLaws.{blank-placed_alone}
 use Rattle.sl_syntax.proofs.BlankShape.{blank-shaped}
-use Rattle.sl_grammar.specs.declared.fault.Fault.{Fault}
-use Rattle.sl_grammar.specs.declared.fault.Fault.TheVariants.{Memory, Grammar}
+use Rattle.sl_grammar.specs.declared.fault.Fault.TheVariants.{Grammar}
 use Rattle.sl_grammar.specs.Statements.{program}
-use Rattle.sl_grammar.specs.Steps.{Outcome, Tall, refusal}
+use Rattle.sl_grammar.specs.Steps.{Outcome, Tall}
 use Rattle.sl_grammar.proofs.CompletePrograms.{reads_program}
 use Rattle.sl_grammar.proofs.NearSteps.{Same, step, end, cut, Agree, in_step, at_fault, past, left_over, Level}
 use Rattle.sl_grammar.proofs.NearStatements.{near_program, program-shrinks}
-use Rattle.sl_grammar.proofs.SoundPrograms.{read_program}
 
 -- a program's words as tokens whose places are all the same are read as the program with all its places set to that
 pub reads_blank : (p : Program) → Shaped p → program (map blank_token (words p)) ≡ Ok ((blank p, depth (blank p)), [])
@@ -73,8 +69,11 @@ module _ (ts : List Token) (n : ℕ) (fault : program ts ≡ Err (Grammar n)) wh
       no_reading n n Level (program ts) (program us) _
         (near_program n ts us (same_front n (length ts - n + 1) ts us more (omega (arith, within)) (omega (arith, within)) (words_of_blank (words p) ∙ whole.2))) fault (omega arith) (reads_blank p whole.1)
 
+one_ok : {A E : Type 0} {a b : A} → ◌≡◌ {A = Result A E} (Ok a) (Ok b) → a ≡ b
+one_ok h = cc
+
 same_read : (a b : Program) (h k : ℕ) → ◌≡◌ {A = Outcome (Tall Program)} (Ok ((a, h), [])) (Ok ((b, k), [])) → a ≡ b
-same_read a b h k e = cc
+same_read a b h k e = ap (λ (y : Tall Program × List Token). y.0.0) (one_ok e)
 
 -- tokens write one program alone
 pub one_program : (ts : List Token) (p q : Program) → Shaped p → Shaped q → Placed p ts → Placed q ts → p ≡ q
