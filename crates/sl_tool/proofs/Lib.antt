@@ -29,3 +29,4 @@ pub mod HeadLaws
 pub mod OneTextLaws
 pub mod ReportLaws
 pub mod ScopedText
+pub mod FormProgram
