@@ -25,3 +25,4 @@ pub mod SoundBlocks
 pub mod SoundFors
 pub mod SoundStatements
 pub mod SoundPrograms
+pub mod ViableSteps
