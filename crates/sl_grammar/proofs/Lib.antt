@@ -26,3 +26,4 @@ pub mod SoundFors
 pub mod SoundStatements
 pub mod SoundPrograms
 pub mod ViableSteps
+pub mod ViableLists
