@@ -27,3 +27,4 @@ pub mod SoundStatements
 pub mod SoundPrograms
 pub mod ViableSteps
 pub mod ViableLists
+pub mod ViableOperands
