@@ -28,3 +28,5 @@ pub mod SoundPrograms
 pub mod ViableSteps
 pub mod ViableLists
 pub mod ViableOperands
+pub mod ViableLonger
+pub mod ViableExpressions
