@@ -30,3 +30,4 @@ pub mod ViableLists
 pub mod ViableOperands
 pub mod ViableLonger
 pub mod ViableExpressions
+pub mod ViableEffects
