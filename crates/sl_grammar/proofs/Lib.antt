@@ -26,3 +26,9 @@ pub mod SoundFors
 pub mod SoundStatements
 pub mod SoundPrograms
 pub mod Laws
+pub mod ViableSteps
+pub mod ViableLists
+pub mod ViableOperands
+pub mod ViableLonger
+pub mod ViableExpressions
+pub mod ViableEffects
