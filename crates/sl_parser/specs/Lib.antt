@@ -1,3 +1,4 @@
 pub mod Nests
 pub mod Names
 pub mod Reader
+pub mod StatementViews

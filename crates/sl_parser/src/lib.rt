@@ -2,4 +2,5 @@
 #![tactic(auto)]
 
 mod expression;
+mod statement;
 mod tokens;
