@@ -2,3 +2,4 @@ pub mod Nests
 pub mod Names
 pub mod Reader
 pub mod StatementViews
+pub mod EffectViews

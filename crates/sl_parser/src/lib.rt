@@ -1,6 +1,7 @@
 //! Reads tokens as a program.
 #![tactic(auto)]
 
+mod effect;
 mod expression;
 mod statement;
 mod tokens;

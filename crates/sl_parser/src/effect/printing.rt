@@ -1,0 +1,96 @@
+//! Prints.
+ghost use Rattle.std.specs.Prelude.{◌≡◌, ◌≤◌, ◌<◌, IfOk, length, map};
+ghost use Rattle.sl_base.specs.declared.mark.Mark.TheVariants as m;
+ghost use Rattle.sl_syntax.specs.TreeView.{out_of};
+ghost use Rattle.sl_grammar.specs.Steps.{Reads, is_mark, kind_at};
+ghost use Rattle.sl_grammar.specs.Effects as steps;
+ghost use Rattle.sl_parser.specs.EffectViews.{tall_out, tall_outs, tall_print};
+ghost use Rattle.sl_parser.specs.Reader as spec;
+
+use crate::expression::expr;
+use crate::tokens::Tokens;
+use sl_base::Mark;
+use sl_grammar::Fault;
+use sl_syntax::{Kind, Out, Print};
+use std::alloc::Global;
+
+/// `std::cout << x << y`, and its height.
+#[tactic(auto, unfolding(crate::specs::Reader::print))]
+pub fn print(alloc: Global, tokens: &mut Tokens<'_>, room: usize) -> Result<(Print, usize), Fault>
+    ensures reads { Reads tall_print (spec.print room tokens.old) result tokens.new }
+    ensures low { IfOk result (λ x. x.1 ≤ room) }
+{
+    if room == 0 {
+        return Err(tokens.refuse());
+    }
+    let place = tokens.place();
+    tokens.skip();
+    let (first, height) = shifted_out(alloc, tokens, room)?;
+    let mut items = Vec::new(alloc);
+    items.push(first)?;
+    let (items, height) = outs_behind(alloc, tokens, room, items, height)?;
+    Ok((Print { place, items }, height + 1))
+}
+
+// The others of a print, behind those that are there, and the greatest height of all.
+#[tactic(auto, unfolding(crate::specs::Reader::repeat))]
+fn outs_behind(
+    alloc: Global,
+    tokens: &mut Tokens<'_>,
+    room: usize,
+    mut items: Vec<Out>,
+    mut height: usize,
+) -> Result<(Vec<Out>, usize), Fault>
+    requires low { height < room }
+    ensures reads { Reads tall_outs (spec.repeat (is_mark m.ShiftLeft) (spec.shifted_out room) (length tokens.old) (tall_outs (items, height)) tokens.old) result tokens.new }
+    ensures low { IfOk result (λ x. x.1 < room) }
+{
+    for _turn in 0..tokens.left() {
+        if !tokens.sees(Mark::ShiftLeft) {
+            return Ok((items, height));
+        }
+        let (item, other) = shifted_out(alloc, tokens, room)?;
+        items.push(item)?;
+        height = height.max(other);
+    }
+    if tokens.sees(Mark::ShiftLeft) {
+        return Err(tokens.refuse());
+    }
+    Ok((items, height))
+}
+
+// `<< x`, with less than so much height.
+#[tactic(auto, unfolding(crate::specs::Reader::shifted_out))]
+fn shifted_out(alloc: Global, tokens: &mut Tokens<'_>, room: usize) -> Result<(Out, usize), Fault>
+    requires some { 0 < room }
+    ensures reads { Reads tall_out (spec.shifted_out room tokens.old) result tokens.new }
+    ensures low { IfOk result (λ x. x.1 < room) }
+{
+    tokens.mark(Mark::ShiftLeft)?;
+    out(alloc, tokens, room)
+}
+
+// What is put out.
+fn out(alloc: Global, tokens: &mut Tokens<'_>, room: usize) -> Result<(Out, usize), Fault>
+    requires some { 0 < room }
+    ensures reads { Reads tall_out (steps.out_by room (kind_at tokens.old) tokens.old) result tokens.new }
+    ensures low { IfOk result (λ x. x.1 < room) }
+{
+    match tokens.kind() {
+        Kind::Text => {
+            let place = tokens.place();
+            let text = tokens.text(alloc)?;
+            tokens.skip();
+            Ok((Out::Text { place, text }, 0))
+        }
+        Kind::EndLine => {
+            let place = tokens.place();
+            tokens.skip();
+            Ok((Out::EndLine { place }, 0))
+        }
+        _ => {
+            let (value, height) = expr(alloc, tokens, room, 5)?;
+            Ok((Out::Value(value), height))
+        }
+    }
+}

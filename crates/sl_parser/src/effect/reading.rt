@@ -1,0 +1,61 @@
+//! Reads.
+ghost use Rattle.std.specs.Prelude.{◌≡◌, ◌≤◌, IfOk, length};
+ghost use Rattle.sl_base.specs.declared.mark.Mark.TheVariants as m;
+ghost use Rattle.sl_grammar.specs.Steps.{Reads, is_mark};
+ghost use Rattle.sl_parser.specs.EffectViews.{flat};
+ghost use Rattle.sl_parser.specs.Reader as spec;
+
+use crate::tokens::Tokens;
+use sl_base::{Items, Mark};
+use sl_grammar::Fault;
+use sl_syntax::{Identifier, Read};
+use std::alloc::Global;
+
+/// `std::cin >> x >> y`, and its height.
+#[tactic(auto, unfolding(crate::specs::Reader::read))]
+pub fn read(alloc: Global, tokens: &mut Tokens<'_>, room: usize) -> Result<(Read, usize), Fault>
+    ensures reads { Reads (λ x. x) (spec.read room tokens.old) result tokens.new }
+    ensures low { IfOk result (λ x. x.1 ≤ room) }
+{
+    if room == 0 {
+        return Err(tokens.refuse());
+    }
+    let place = tokens.place();
+    tokens.skip();
+    let first = shifted_name(tokens)?;
+    let mut variables = Items::new(alloc);
+    variables.push(first)?;
+    let variables = variables_behind(tokens, variables)?;
+    Ok((Read { place, variables }, 1))
+}
+
+// The others of a read, behind those that are there.
+#[tactic(auto, unfolding(crate::specs::Reader::repeat))]
+fn variables_behind(
+    tokens: &mut Tokens<'_>,
+    mut variables: Items<Identifier>,
+) -> Result<Items<Identifier>, Fault>
+    ensures { Reads flat (spec.repeat (is_mark m.ShiftRight) spec.shifted_name (length tokens.old) (flat variables) tokens.old) result tokens.new }
+{
+    for _turn in 0..tokens.left() {
+        if !tokens.sees(Mark::ShiftRight) {
+            return Ok(variables);
+        }
+        let variable = shifted_name(tokens)?;
+        variables.push(variable)?;
+    }
+    if tokens.sees(Mark::ShiftRight) {
+        return Err(tokens.refuse());
+    }
+    Ok(variables)
+}
+
+// `>> x`
+#[tactic(auto, unfolding(crate::specs::Reader::shifted_name))]
+fn shifted_name(tokens: &mut Tokens<'_>) -> Result<Identifier, Fault>
+    ensures { Reads flat (spec.shifted_name tokens.old) result tokens.new }
+{
+    tokens.mark(Mark::ShiftRight)?;
+    let variable = tokens.identifier()?;
+    Ok(variable)
+}
