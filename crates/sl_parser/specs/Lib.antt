@@ -3,3 +3,4 @@ pub mod Names
 pub mod Reader
 pub mod StatementViews
 pub mod EffectViews
+pub mod DeclarationViews

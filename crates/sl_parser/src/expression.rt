@@ -4,7 +4,7 @@ ghost use Rattle.sl_grammar.specs.Steps.{Reads};
 ghost use Rattle.sl_parser.specs.Nests.{tall_expr};
 ghost use Rattle.sl_parser.specs.Reader as spec;
 
-mod list;
+pub mod list;
 pub mod nested;
 mod operand;
 mod operation;

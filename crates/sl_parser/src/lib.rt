@@ -4,4 +4,8 @@
 mod effect;
 mod expression;
 mod statement;
+mod container;
+mod declaration;
+mod expression;
+mod params;
 mod tokens;

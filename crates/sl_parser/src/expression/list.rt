@@ -1,4 +1,5 @@
-ghost use Rattle.std.specs.Prelude.{◌≡◌, ◌≤◌, ◌<◌, ◌-◌, [], ◌∷◌, map, length, IfOk};
+ghost use Rattle.std.specs.Prelude.{◌≡◌, ◌≤◌, ◌<◌, ◌+◌, ◌-◌, [], ◌∷◌, map, length, IfOk};
+ghost use Rattle.sl_base.specs.declared.limits.TheConstants.{TREE_DEPTH};
 ghost use Rattle.sl_base.specs.declared.mark.Mark.TheVariants as m;
 ghost use Rattle.sl_syntax.specs.TreeView.{expr_of};
 ghost use Rattle.sl_grammar.specs.Steps.{Reads, is_mark};
@@ -6,6 +7,7 @@ ghost use Rattle.sl_grammar.specs.Expressions.{comma_expr};
 ghost use Rattle.sl_parser.specs.Nests.{Nests, tall_expr, tall_exprs, tall_list};
 ghost use Rattle.sl_parser.specs.Reader as spec;
 
+use crate::expression::expr;
 use crate::expression::nested::Nested;
 use crate::tokens::Tokens;
 use sl_base::Mark;
@@ -106,4 +108,41 @@ impl<F: Fn(Global, &mut Tokens<'_>, usize, u8) -> Result<(Expr, usize), Fault>> 
         tokens.mark(Mark::Comma)?;
         self.inner(tokens, self.room - 1, 1)
     }
+}
+
+/// A list that may be empty, before this mark, and that is at most so high.
+pub fn list_before(
+    alloc: Global,
+    tokens: &mut Tokens<'_>,
+    room: usize,
+    close: Mark,
+) -> Result<(Vec<Expr>, usize), Fault>
+    requires small { room ≤ TREE_DEPTH }
+    ensures reads { Reads tall_exprs (spec.list_before (spec.expr (room + 1) 1) (spec.expr room 1) room close tokens.old) result tokens.new }
+    ensures low { IfOk result (λ x. x.1 ≤ room) }
+{
+    Nested {
+        alloc,
+        room: room + 1,
+        inner: expr,
+    }
+    .list_before(tokens, close)
+}
+
+/// A list of at least one that is at most so high.
+pub fn list(
+    alloc: Global,
+    tokens: &mut Tokens<'_>,
+    room: usize,
+) -> Result<(Vec<Expr>, usize), Fault>
+    requires small { room ≤ TREE_DEPTH }
+    ensures reads { Reads tall_exprs (spec.list (spec.expr (room + 1) 1) (spec.expr room 1) room tokens.old) result tokens.new }
+    ensures low { IfOk result (λ x. x.1 ≤ room) }
+{
+    Nested {
+        alloc,
+        room: room + 1,
+        inner: expr,
+    }
+    .list(tokens)
 }

@@ -1,0 +1,60 @@
+//! The type of a container.
+ghost use Rattle.std.specs.Prelude.{◌≡◌};
+ghost use Rattle.sl_syntax.specs.Written as written;
+ghost use Rattle.sl_grammar.specs.Steps.{Reads};
+ghost use Rattle.sl_grammar.specs.Declarations.{elements_by};
+ghost use Rattle.sl_parser.specs.Reader as spec;
+
+use crate::tokens::Tokens;
+use sl_base::{Form, Mark, Scalar};
+use sl_grammar::Fault;
+use sl_syntax::{ContainerType, Kind};
+
+/// The type of a container of this form, at its first token.
+#[tactic(auto, unfolding(crate::specs::Reader::container_type))]
+pub fn container_type(tokens: &mut Tokens<'_>, form: Form) -> Result<ContainerType, Fault>
+    ensures { Reads (λ x. x) (spec.container_type form tokens.old) result tokens.new }
+{
+    let place = tokens.place();
+    tokens.skip();
+    elements(tokens, is_map(form))?;
+    Ok(ContainerType { place, form })
+}
+
+// Whether an element is a key with its value.
+fn is_map(form: Form) -> bool
+    ensures { result ≡ written.is_map form }
+{
+    match form {
+        Form::Map | Form::HashMap => true,
+        _ => false,
+    }
+}
+
+// `<int>`, or `<int, int>` where there are values.
+fn elements(tokens: &mut Tokens<'_>, values: bool) -> Result<(), Fault>
+    ensures { Reads (λ x. x) (elements_by values tokens.old) result tokens.new }
+{
+    tokens.mark(Mark::Less)?;
+    int(tokens)?;
+    if values {
+        tokens.mark(Mark::Comma)?;
+        int(tokens)?;
+    }
+    tokens.mark(Mark::Greater)?;
+    Ok(())
+}
+
+// `int`
+#[tactic(auto, unfolding(crate::specs::Reader::int))]
+fn int(tokens: &mut Tokens<'_>) -> Result<(), Fault>
+    ensures { Reads (λ x. x) (spec.int tokens.old) result tokens.new }
+{
+    match tokens.kind() {
+        Kind::Scalar(Scalar::Int) => {
+            tokens.skip();
+            Ok(())
+        }
+        _ => Err(tokens.refuse()),
+    }
+}
