@@ -5,3 +5,4 @@ pub mod RepeatLaws
 pub mod ListLaws
 pub mod CallLaws
 pub mod ExprLaws
+pub mod StatementLaws

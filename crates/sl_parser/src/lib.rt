@@ -6,4 +6,5 @@ mod declaration;
 mod effect;
 mod expression;
 mod params;
+mod statement;
 mod tokens;
