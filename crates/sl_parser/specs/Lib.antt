@@ -4,3 +4,4 @@ pub mod Reader
 pub mod StatementViews
 pub mod EffectViews
 pub mod DeclarationViews
+pub mod FunctionViews
