@@ -1,11 +1,10 @@
 //! Reads tokens as a program.
 #![tactic(auto)]
 
-mod effect;
-mod expression;
-mod statement;
 mod container;
 mod declaration;
+mod effect;
 mod expression;
 mod params;
+mod statement;
 mod tokens;

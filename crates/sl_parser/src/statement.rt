@@ -18,11 +18,7 @@ use sl_syntax::{Block, Stmt};
 use std::alloc::Global;
 
 /// A statement that is at most so high, and its height.
-pub fn stmt(
-    alloc: Global,
-    tokens: &mut Tokens<'_>,
-    room: usize,
-) -> Result<(Stmt, usize), Fault>
+pub fn stmt(alloc: Global, tokens: &mut Tokens<'_>, room: usize) -> Result<(Stmt, usize), Fault>
     requires small { room ≤ TREE_DEPTH }
     ensures reads { Reads tall_stmt (spec.stmt room tokens.old) result tokens.new }
     ensures low { IfOk result (λ x. x.1 ≤ room) }
@@ -39,11 +35,7 @@ pub fn stmt(
 }
 
 /// A block whose statements are at most so high, and its height.
-pub fn braced(
-    alloc: Global,
-    tokens: &mut Tokens<'_>,
-    room: usize,
-) -> Result<(Block, usize), Fault>
+pub fn braced(alloc: Global, tokens: &mut Tokens<'_>, room: usize) -> Result<(Block, usize), Fault>
     requires small { room < TREE_DEPTH }
     ensures reads { Reads tall_block (spec.braced (spec.stmt room) room tokens.old) result tokens.new }
     ensures low { IfOk result (λ x. x.1 ≤ room + 1) }
