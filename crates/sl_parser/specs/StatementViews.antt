@@ -43,5 +43,7 @@ tall_optional_effect x = (option_map effect_of x.0, x.1)
 pub record Holds (room : ℕ) (pre : Global → MutBor (List Token) → ℕ → Type 0)
     (post : Global → MutBor (List Token) → ℕ → Result (StmtCode × ℕ) Fault → MutBor (List Token) → Type 0) : Type 0 where
   pub callable : (alloc : Global) (old : MutBor (List Token)) → pre alloc old room
-  pub reads : (alloc : Global) (old new : MutBor (List Token)) (r : Result (StmtCode × ℕ) Fault) → post alloc old room r new → Reads tall_stmt (stmt room old.now) r new.now
-  pub low : (alloc : Global) (old new : MutBor (List Token)) (r : Result (StmtCode × ℕ) Fault) → post alloc old room r new → IfOk r (λ x. x.1 ≤ room)
+  pub reads : (alloc : Global) (old new : MutBor (List Token)) (r : Result (StmtCode × ℕ) Fault) → post alloc old room r new
+      → Reads tall_stmt (stmt room old.now) r new.now
+  pub low : (alloc : Global) (old new : MutBor (List Token)) (r : Result (StmtCode × ℕ) Fault) → post alloc old room r new
+      → IfOk r (λ x. x.1 ≤ room)

@@ -11,7 +11,9 @@ returns-then-sees-clause-reads g c = loop-stops _ _ _ _ _ _ _ c.loop-turn.invari
 pub returns-in_err-tree-clause-reads : goal.returns-in_err-tree-clause-reads
 returns-in_err-tree-clause-reads g c =
     let p = err_from_is_err_and c.from_residual.result c.from_residual.ensures.1 in
-    rw (p.1, p.2) (λ some. loop-fault _ _ _ _ _ _ _ _ c.loop-turn-test.true c.loop-turn.invariant.1 (ap not (sym c.sees.ensures ∙ c.if-sees.false)) (c.in_err-tree.ensures.reads some))
+    rw (p.1, p.2) (λ some.
+    loop-fault _ _ _ _ _ _ _ _ c.loop-turn-test.true c.loop-turn.invariant.1 (ap not (sym c.sees.ensures ∙ c.if-sees.false))
+    (c.in_err-tree.ensures.reads some))
 
 pub loop-turn-preserved : goal.loop-turn-preserved
 loop-turn-preserved g c = (
@@ -21,7 +23,8 @@ loop-turn-preserved g c = (
 )
 
 pub returns-then-not-sees-clause-reads : goal.returns-then-not-sees-clause-reads
-returns-then-not-sees-clause-reads g c some = rw c.refuse.ensures (loop-spent _ _ _ _ _ _ _ c.loop-turn-test.false c.loop-turn.invariant.1 (ap not (sym c.if-not-sees.ensures)))
+returns-then-not-sees-clause-reads g c some =
+    rw c.refuse.ensures (loop-spent _ _ _ _ _ _ _ c.loop-turn-test.false c.loop-turn.invariant.1 (ap not (sym c.if-not-sees.ensures)))
 
 pub returns-clause-reads : goal.returns-clause-reads
 returns-clause-reads g c = loop-stops _ _ _ _ _ _ _ c.loop-turn.invariant.1 (ap not (sym c.sees-2.ensures ∙ c.if-not-sees.false))
