@@ -27,3 +27,7 @@ pub mod SoundStatements
 pub mod SoundPrograms
 pub mod ViableSteps
 pub mod ViableLists
+pub mod ViableTaken
+pub mod ViableGiven
+pub mod ViableDeclarations
+pub mod ViableParams
