@@ -31,3 +31,4 @@ pub mod ViableTaken
 pub mod ViableGiven
 pub mod ViableDeclarations
 pub mod ViableParams
+pub mod ViableBlocks
