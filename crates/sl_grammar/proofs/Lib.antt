@@ -32,3 +32,4 @@ pub mod ViableGiven
 pub mod ViableDeclarations
 pub mod ViableParams
 pub mod ViableBlocks
+pub mod ViableFors

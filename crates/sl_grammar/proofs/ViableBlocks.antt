@@ -25,12 +25,12 @@ use Rattle.sl_grammar.specs.Effects.{read}
 use Rattle.sl_grammar.specs.Statements.{braced, condition, declared, is_item, item, item_by}
 use Rattle.sl_grammar.specs.Steps.{Reader, Tall, all_behind, here, kind_at, mark, repeat}
 use Rattle.sl_grammar.specs.declared.fault.Fault.TheVariants.{Grammar}
-use Rattle.sl_syntax.specs.Written as s
-use Rattle.sl_grammar.specs.Effects as effects
-use Rattle.sl_base.specs.declared.mark.Mark.TheVariants as m
-use Rattle.sl_syntax.specs.Tree as t
 use Rattle.sl_syntax.specs.declared.kind.Kind.TheVariants as k
+use Rattle.sl_syntax.specs.Tree as t
+use Rattle.sl_base.specs.declared.mark.Mark.TheVariants as m
 use Rattle.sl_base.specs.declared.word.Word.TheVariants as w
+use Rattle.sl_grammar.specs.Effects as effects
+use Rattle.sl_syntax.specs.Written as s
 
 -- a statement that follows the grammar and is at most so high
 abbrev pub LowStmt : ℕ → Stmt → Type 0
@@ -41,11 +41,15 @@ abbrev pub Faults : Reader (Tall Stmt) → ℕ → Type 1
 Faults inner room = (ts : List Token) (n : ℕ) (P : Type 0) → inner ts ≡ Err (Grammar n) → (length ts ≡ n → P)
     → (Viable (LowStmt room) stmt_written ts n → P) → P
 
--- Where there is room, the default statement may stand where none begins.
+-- a statement, for one that is missing
+abbrev pub some_stmt : Stmt
+some_stmt = t.break nowhere
+
+-- Where there is room, a statement may stand where none begins.
 pub inner-stops : (inner : Reader (Tall Stmt)) (room : ℕ) → Faults inner room → 0 < room → Stops stmt_written IsStmt stmt_height room inner
 inner-stops inner room g high ts n h =
     let P : Type 0 = Viable (LowStmt room) stmt_written ts n in
-    g ts n P h (λ e. viable (t.break nowhere) (tt, omega (arith, high)) (at_once _ ts n e)) (λ v. v)
+    g ts n P h (λ e. viable some_stmt (tt, omega (arith, high)) (at_once _ ts n e)) (λ v. v)
 
 module _ (inner : Reader (Tall Stmt)) (room : ℕ) (f : Finds inner room) (g : Faults inner room) where
   -- items that begin
