@@ -27,8 +27,11 @@ pub mod SoundStatements
 pub mod SoundPrograms
 pub mod ViableSteps
 pub mod ViableLists
+pub mod ViableOperands
+pub mod ViableLonger
+pub mod ViableExpressions
+pub mod ViableEffects
 pub mod ViableTaken
-pub mod ViableGiven
 pub mod ViableDeclarations
 pub mod ViableParams
 pub mod ViableBlocks

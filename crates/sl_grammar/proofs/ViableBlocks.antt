@@ -17,7 +17,7 @@ use Rattle.sl_grammar.proofs.SoundDeclarations.{auto-part, container-part, scala
 use Rattle.sl_grammar.proofs.SoundEffects.{cond-part}
 use Rattle.sl_grammar.proofs.SoundSteps.{Part, Took, behind, mark_here, mark_plain, respelled}
 use Rattle.sl_grammar.proofs.ViableDeclarations.{LowDeclaration, auto-begun, container-begun, scalar-begun}
-use Rattle.sl_grammar.proofs.ViableGiven.{cond-viable}
+use Rattle.sl_grammar.proofs.ViableEffects.{cond-viable}
 use Rattle.sl_grammar.proofs.ViableSteps.{Begun, Low, Stops, Viable, at_once, begun, either, faulted, mark_fault, no_fault, one_fault, rewritten, some_expr, tested, unfinished, viable, ◌⨠◌}
 use Rattle.sl_grammar.proofs.ViableTaken.{are_items, item-part, items-height, items-written}
 use Rattle.sl_grammar.specs.Declarations.{auto_declaration, container_declaration, scalar_declaration}

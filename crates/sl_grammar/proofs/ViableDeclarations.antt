@@ -17,7 +17,7 @@ use Rattle.sl_syntax.specs.declared.tree.identifier.Identifier.{Identifier}
 use Rattle.sl_grammar.proofs.SoundExpressions.{expr-part, sound}
 use Rattle.sl_grammar.proofs.SoundLists.{list-before-part, list-part}
 use Rattle.sl_grammar.proofs.SoundSteps.{Part, Parts, Spelled, Took, identifier_took, mark_plain, one_plain, one_word, seen, ◌⨾◌}
-use Rattle.sl_grammar.proofs.ViableGiven.{expr-viable}
+use Rattle.sl_grammar.proofs.ViableExpressions.{expr-viable}
 use Rattle.sl_grammar.proofs.ViableLists.{list-before-viable, list-viable}
 use Rattle.sl_grammar.proofs.ViableSteps.{Begun, Stops, Viable, at_once, begun, either, faulted, identifier_fault, mark_fault, no_fault, one_fault, refitted, rewritten, some_expr, some_name, tested, unfinished, viable, ◌⨠◌}
 use Rattle.sl_grammar.proofs.ViableTaken.{int-took, type-took}
