@@ -36,3 +36,5 @@ pub mod ViableDeclarations
 pub mod ViableParams
 pub mod ViableBlocks
 pub mod ViableFors
+pub mod ViableStatements
+pub mod ViablePrograms

@@ -201,12 +201,11 @@ pub is_else_kind : (kind : Kind) → is_else kind ≡ true → kind ≡ k.Else
 is_else_kind k.Else h = refl
 is_else_kind _ h = absurd (false≢true h)
 
-pub result_kind : ResultType → Kind
+abbrev pub result_kind : ResultType → Kind
 result_kind z.Void = k.Void
 result_kind (z.Scalar scalar) = k.Scalar scalar
 
 pub result-fixed : (result : ResultType) → fixed (result_kind result) ≡ Some (result_word result)
-unfolding result_kind
 result-fixed z.Void = refl
 result-fixed (z.Scalar scalar) = refl
 
