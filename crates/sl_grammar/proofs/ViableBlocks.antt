@@ -1,17 +1,25 @@
 -- The words before a fault in a block begin one.
-use Rattle.std.proofs.Common.{Err, List, Ok, [], arith, cond, length, max, refl, suc, zero, ℕ, ◌++◌, ◌+◌, ◌-◌, ◌<◌, ◌∷◌, ◌≡◌, ◌≤◌}
+use Rattle.std.proofs.Common.{Err, List, Ok, [], arith, length, max, refl, suc, zero, ℕ, ◌++◌, ◌+◌, ◌-◌, ◌<◌, ◌∷◌, ◌≡◌, ◌≤◌}
 use Rattle.std.proofs.lemmas.Bool.{ltb-true}
 use Rattle.std.specs.Prelude.{flat_map, nat_lt}
-use Rattle.sl_base.specs.declared.mark.Mark.{Mark}
+use Rattle.sl_base.specs.declared.mark.Mark.TheVariants as m
 use Rattle.sl_base.specs.declared.place.Place.{Place}
-use Rattle.sl_base.specs.declared.scalar.Scalar.{Scalar}
 use Rattle.sl_base.specs.declared.token.Token.{Token}
+use Rattle.sl_base.specs.declared.word.Word.TheVariants as w
+use Rattle.sl_syntax.specs.declared.kind.Kind.{Kind}
+use Rattle.sl_syntax.specs.declared.kind.Kind.TheVariants as k
 use Rattle.sl_syntax.specs.Blank.{nowhere}
 use Rattle.sl_syntax.specs.Depth.{cond_height, declaration_height, item_height, stmt_height}
 use Rattle.sl_syntax.specs.Shaped.{IsCond, IsDeclaration, IsItem, IsStmt}
+use Rattle.sl_syntax.specs.Tree as t
 use Rattle.sl_syntax.specs.Tree.{Cond, Declaration, Item, Items, Stmt, items_from}
+use Rattle.sl_syntax.specs.Written as s
 use Rattle.sl_syntax.specs.Written.{Written, at, declaration_written, item_written, stmt_written}
-use Rattle.sl_syntax.specs.declared.kind.Kind.{Kind}
+use Rattle.sl_grammar.specs.declared.fault.Fault.TheVariants.{Grammar}
+use Rattle.sl_grammar.specs.Declarations.{auto_declaration, container_declaration, scalar_declaration}
+use Rattle.sl_grammar.specs.Effects as effects
+use Rattle.sl_grammar.specs.Statements.{braced, condition, declared, is_item, item, item_by}
+use Rattle.sl_grammar.specs.Steps.{Reader, Tall, all_behind, here, kind_at, mark, repeat}
 use Rattle.sl_grammar.proofs.SoundBlocks.{Finds, IsBlock, block_height, block_written, condition_written}
 use Rattle.sl_grammar.proofs.SoundDeclarations.{auto-part, container-part, scalar-part}
 use Rattle.sl_grammar.proofs.SoundEffects.{cond-part}
@@ -20,17 +28,6 @@ use Rattle.sl_grammar.proofs.ViableDeclarations.{LowDeclaration, auto-begun, con
 use Rattle.sl_grammar.proofs.ViableEffects.{cond-viable}
 use Rattle.sl_grammar.proofs.ViableSteps.{Begun, Low, Stops, Viable, at_once, begun, either, faulted, mark_fault, no_fault, one_fault, rewritten, some_expr, tested, unfinished, viable, ◌⨠◌}
 use Rattle.sl_grammar.proofs.ViableTaken.{are_items, item-part, items-height, items-written}
-use Rattle.sl_grammar.specs.Declarations.{auto_declaration, container_declaration, scalar_declaration}
-use Rattle.sl_grammar.specs.Effects.{read}
-use Rattle.sl_grammar.specs.Statements.{braced, condition, declared, is_item, item, item_by}
-use Rattle.sl_grammar.specs.Steps.{Reader, Tall, all_behind, here, kind_at, mark, repeat}
-use Rattle.sl_grammar.specs.declared.fault.Fault.TheVariants.{Grammar}
-use Rattle.sl_syntax.specs.declared.kind.Kind.TheVariants as k
-use Rattle.sl_syntax.specs.Tree as t
-use Rattle.sl_base.specs.declared.mark.Mark.TheVariants as m
-use Rattle.sl_base.specs.declared.word.Word.TheVariants as w
-use Rattle.sl_grammar.specs.Effects as effects
-use Rattle.sl_syntax.specs.Written as s
 
 -- a statement that follows the grammar and is at most so high
 abbrev pub LowStmt : ℕ → Stmt → Type 0
@@ -76,7 +73,7 @@ module _ (inner : Reader (Tall Stmt)) (room : ℕ) (f : Finds inner room) (g : F
       let found = part x read in
       faulted (mark m.Semicolon x.1) _ n P h1
       (λ h2. an_item ts n (t.declares x.0.0) found.fits (omega (arith, found.size, found.low, high))
-          (found.spelled ⨠ at_once _ x.1 n (mark_fault m.Semicolon x.1 n h2)))
+      (found.spelled ⨠ at_once _ x.1 n (mark_fault m.Semicolon x.1 n h2)))
       (λ v closed h2. no_fault _ n P h2))
 
   states-begun : (ts : List Token) (n : ℕ) → item_by room inner k.End ts ≡ Err (Grammar n) → BegunItems ts n
@@ -156,8 +153,8 @@ module _ (inner : Reader (Tall Stmt)) (room : ℕ) (f : Finds inner room) (g : F
       let found = behind item_written IsItem item_height room is_item (item room inner) (item-part inner room f) ([], 0) u.1 xs read in
       faulted (mark m.RightBrace xs.1) _ n P h2
       (λ h3. viable (here ts, items_from found.items, nowhere)
-          (are_items found.items found.each, omega (arith, found.low, items-height found.items))
-          (open_brace ⨠ (respelled (items-written found.items) found.spelled ⨠ at_once close xs.1 n (mark_fault m.RightBrace xs.1 n h3))))
+      (are_items found.items found.each, omega (arith, found.low, items-height found.items))
+      (open_brace ⨠ (respelled (items-written found.items) found.spelled ⨠ at_once close xs.1 n (mark_fault m.RightBrace xs.1 n h3))))
       (λ v closed h3. no_fault _ n P h3)))
 
   pub condition-begun : Stops condition_written IsCond cond_height room (condition inner room)
@@ -176,5 +173,5 @@ module _ (inner : Reader (Tall Stmt)) (room : ℕ) (f : Finds inner room) (g : F
       let found = cond-part room u.1 x read in
       faulted (mark m.RightParenthesis x.1) _ n P h2
       (λ h3. viable x.0.0 (found.fits, omega (arith, found.size, found.low))
-          (first ⨠ (found.spelled ⨠ at_once _ x.1 n (mark_fault m.RightParenthesis x.1 n h3))))
+      (first ⨠ (found.spelled ⨠ at_once _ x.1 n (mark_fault m.RightParenthesis x.1 n h3))))
       (λ v closed h3. no_fault _ n P h3)))

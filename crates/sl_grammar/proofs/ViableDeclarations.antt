@@ -1,19 +1,28 @@
 -- The words before a fault in a type, a declaration or parameters begin such that follow the grammar.
-use Rattle.std.proofs.Common.{Bool, Err, List, None, Ok, Option, Some, [], arith, drop, false, length, map, refl, true, ℕ, ◌++◌, ◌+◌, ◌-◌, ◌<◌, ◌∷◌, ◌≡◌, ◌≤◌}
+use Rattle.std.proofs.Common.{Bool, Err, List, None, Ok, Option, Some, [], arith, drop, false, length, refl, true, ℕ, ◌++◌, ◌+◌, ◌-◌, ◌<◌, ◌∷◌, ◌≡◌, ◌≤◌}
 use Rattle.std.proofs.lemmas.Bool.{ltb-true}
 use Rattle.std.specs.Prelude.{codes, nat_lt}
 use Rattle.sl_base.specs.declared.form.Form.{Form}
-use Rattle.sl_base.specs.declared.mark.Mark.{Mark}
+use Rattle.sl_base.specs.declared.mark.Mark.TheVariants as m
 use Rattle.sl_base.specs.declared.place.Place.{Place}
 use Rattle.sl_base.specs.declared.scalar.Scalar.{Scalar}
+use Rattle.sl_base.specs.declared.scalar.Scalar.TheVariants as c
 use Rattle.sl_base.specs.declared.token.Token.{Token}
-use Rattle.sl_syntax.specs.Depth.{declaration_height, height, initializer_height, option_height}
-use Rattle.sl_syntax.specs.Shaped.{IfThere, IsDeclaration, IsExpr, IsInitializer}
-use Rattle.sl_syntax.specs.Tree.{Declaration, Expr, Exprs, Initializer}
-use Rattle.sl_syntax.specs.Written.{Written, at, container_written, declaration_written, elements_written, form_word, initializer_written, is_map, list_written, option_written, scalar_word, value_written, written}
+use Rattle.sl_base.specs.declared.word.Word.TheVariants as w
 use Rattle.sl_syntax.specs.declared.kind.Kind.{Kind}
+use Rattle.sl_syntax.specs.declared.kind.Kind.TheVariants as k
 use Rattle.sl_syntax.specs.declared.tree.declaration.ContainerType.{ContainerType}
 use Rattle.sl_syntax.specs.declared.tree.identifier.Identifier.{Identifier}
+use Rattle.sl_syntax.specs.Depth.{declaration_height, height, initializer_height, option_height}
+use Rattle.sl_syntax.specs.Shaped.{IfThere, IsDeclaration, IsExpr, IsInitializer}
+use Rattle.sl_syntax.specs.Tree as t
+use Rattle.sl_syntax.specs.Tree.{Declaration, Expr, Exprs, Initializer}
+use Rattle.sl_syntax.specs.Written as s
+use Rattle.sl_syntax.specs.Written.{Written, at, container_written, declaration_written, elements_written, form_word, initializer_written, is_map, list_written, option_written, scalar_word, value_written, written}
+use Rattle.sl_grammar.specs.declared.fault.Fault.TheVariants.{Grammar}
+use Rattle.sl_grammar.specs.Declarations.{auto_declaration, behind_equal_by, braces, constructed, container_declaration, container_type, elements_by, initializer, initializer_by, int, int_by, optional_value, scalar_declaration}
+use Rattle.sl_grammar.specs.Expressions.{expr, list, list_before}
+use Rattle.sl_grammar.specs.Steps.{here, identifier, is_mark, kind_at, mark}
 use Rattle.sl_grammar.proofs.SoundExpressions.{expr-part, sound}
 use Rattle.sl_grammar.proofs.SoundLists.{list-before-part, list-part}
 use Rattle.sl_grammar.proofs.SoundSteps.{Part, Parts, Spelled, Took, identifier_took, mark_plain, one_plain, one_word, seen, ◌⨾◌}
@@ -21,17 +30,6 @@ use Rattle.sl_grammar.proofs.ViableExpressions.{expr-viable}
 use Rattle.sl_grammar.proofs.ViableLists.{list-before-viable, list-viable}
 use Rattle.sl_grammar.proofs.ViableSteps.{Begun, Stops, Viable, at_once, begun, either, faulted, identifier_fault, mark_fault, no_fault, one_fault, refitted, rewritten, some_expr, some_name, tested, unfinished, viable, ◌⨠◌}
 use Rattle.sl_grammar.proofs.ViableTaken.{int-took, type-took}
-use Rattle.sl_grammar.specs.Declarations.{auto_declaration, behind_equal_by, braces, constructed, container_declaration, container_type, elements_by, initializer, initializer_by, int, int_by, optional_value, scalar_declaration}
-use Rattle.sl_grammar.specs.Effects.{read}
-use Rattle.sl_grammar.specs.Expressions.{arguments, expr, list, list_before, named}
-use Rattle.sl_grammar.specs.Steps.{here, identifier, is_mark, kind_at, mark}
-use Rattle.sl_grammar.specs.declared.fault.Fault.TheVariants.{Grammar}
-use Rattle.sl_syntax.specs.declared.kind.Kind.TheVariants as k
-use Rattle.sl_base.specs.declared.scalar.Scalar.TheVariants as c
-use Rattle.sl_base.specs.declared.mark.Mark.TheVariants as m
-use Rattle.sl_syntax.specs.Tree as t
-use Rattle.sl_syntax.specs.Written as s
-use Rattle.sl_base.specs.declared.word.Word.TheVariants as w
 
 -- a declaration and an initializer that follow the grammar and are at most so high
 abbrev pub LowDeclaration : ℕ → Declaration → Type 0
@@ -121,7 +119,7 @@ module _ (room : ℕ) where
       let word = one_word ts (k.Scalar scalar) (scalar_word scalar) e refl in
       faulted (identifier (drop 1 ts)) _ n P h
       (λ h1. viable (t.declares_scalar (here ts) scalar some_name None) (tt, omega arith)
-          (word ⨠ at_once _ (drop 1 ts) n (identifier_fault (drop 1 ts) n h1)))
+      (word ⨠ at_once _ (drop 1 ts) n (identifier_fault (drop 1 ts) n h1)))
       (λ x name h1.
       faulted (optional_value room x.1) _ n P h1
       (λ h2.
@@ -138,7 +136,7 @@ module _ (room : ℕ) where
       let word = one_word ts k.Auto (w.Key (codes "auto")) e refl in
       faulted (identifier (drop 1 ts)) _ n P h
       (λ h1. viable (t.declares_auto (here ts) some_name some_expr) (tt, omega arith)
-          (word ⨠ at_once _ (drop 1 ts) n (identifier_fault (drop 1 ts) n h1)))
+      (word ⨠ at_once _ (drop 1 ts) n (identifier_fault (drop 1 ts) n h1)))
       (λ x name h1.
       let named = word ⨾ identifier_took (drop 1 ts) x name in
       faulted (mark m.Equal x.1) _ n P h1
@@ -176,7 +174,7 @@ module _ (room : ℕ) where
       let found = list-before-part one more room part (inner-part room) m.RightBrace us xs read in
       faulted (mark m.RightBrace xs.1) _ n P h1
       (λ h2. viable (t.braces equal xs.0.0) (found.fits, omega (arith, found.size, found.low))
-          (rewritten (braces-written equal xs.0.0) (opened ⨠ (found.spelled ⨠ at_once _ xs.1 n (mark_fault m.RightBrace xs.1 n h2)))))
+      (rewritten (braces-written equal xs.0.0) (opened ⨠ (found.spelled ⨠ at_once _ xs.1 n (mark_fault m.RightBrace xs.1 n h2)))))
       (λ v closed h2. no_fault _ n P h2))
 
   behind-equal : (kind : Kind) (ts us : List Token) (n : ℕ) → Spelled (s.mark m.Equal ∷ []) ts us → kind_at us ≡ kind
@@ -207,7 +205,7 @@ module _ (room : ℕ) where
       let found = list-part one more room part (inner-part room) (drop 1 ts) xs read in
       faulted (mark m.RightParenthesis xs.1) _ n P h1
       (λ h2. viable (t.arguments xs.0.0) (found.fits, omega (arith, found.size, found.low))
-          (opened ⨠ (found.spelled ⨠ at_once _ xs.1 n (mark_fault m.RightParenthesis xs.1 n h2))))
+      (opened ⨠ (found.spelled ⨠ at_once _ xs.1 n (mark_fault m.RightParenthesis xs.1 n h2))))
       (λ v closed h2. no_fault _ n P h2))
 
   initializer-by : (kind : Kind) (ts : List Token) (n : ℕ) → kind_at ts ≡ kind → initializer_by room kind ts ≡ Err (Grammar n)
@@ -235,12 +233,12 @@ module _ (room : ℕ) where
       let type : ContainerType = record { place = here ts; form = form } in
       faulted (container_type form ts) _ n P h1
       (λ h2. go (viable (t.declares_container type some_name t.absent) (tt, omega (arith, above))
-          (unfinished (type-begun form ts n e h2) (s.named some_name ∷ []))))
+      (unfinished (type-begun form ts n e h2) (s.named some_name ∷ []))))
       (λ c typed h2.
       let word = type-took form ts c e typed in
       faulted (identifier c.1) _ n P h2
       (λ h3. go (viable (t.declares_container c.0 some_name t.absent) (tt, omega (arith, above))
-          (word ⨠ at_once (s.named some_name ∷ []) c.1 n (identifier_fault c.1 n h3))))
+      (word ⨠ at_once (s.named some_name ∷ []) c.1 n (identifier_fault c.1 n h3))))
       (λ x name h3.
       faulted (initializer room x.1) _ n P h3
       (λ h4.

@@ -1,17 +1,27 @@
 -- The words before a fault in a `for` begin one.
-use Rattle.std.proofs.Common.{Err, List, None, Ok, Option, Some, [], ap, arith, cond, drop, length, refl, true, ℕ, ◌++◌, ◌+◌, ◌<◌, ◌∙◌, ◌∷◌, ◌≡◌, ◌≤◌}
+use Rattle.std.proofs.Common.{Err, List, None, Ok, Option, Some, [], ap, arith, drop, length, refl, true, ℕ, ◌++◌, ◌+◌, ◌<◌, ◌∙◌, ◌∷◌, ◌≡◌, ◌≤◌}
 use Rattle.std.proofs.lemmas.Bool.{ltb-true}
 use Rattle.std.specs.Prelude.{codes, nat_lt, ◌&&◌}
-use Rattle.sl_base.specs.declared.mark.Mark.{Mark}
+use Rattle.sl_base.specs.declared.mark.Mark.TheVariants as m
 use Rattle.sl_base.specs.declared.place.Place.{Place}
 use Rattle.sl_base.specs.declared.scalar.Scalar.{Scalar}
 use Rattle.sl_base.specs.declared.token.Token.{Token}
+use Rattle.sl_base.specs.declared.word.Word.TheVariants as w
+use Rattle.sl_syntax.specs.declared.kind.Kind.{Kind}
+use Rattle.sl_syntax.specs.declared.kind.Kind.TheVariants as k
+use Rattle.sl_syntax.specs.declared.tree.identifier.Identifier.{Identifier}
 use Rattle.sl_syntax.specs.Depth.{cond_height, effect_height, first_height, height, option_height, stmt_height}
 use Rattle.sl_syntax.specs.Shaped.{IfThere, IsCond, IsEffect, IsExpr, IsFirst, IsStmt}
+use Rattle.sl_syntax.specs.Tree as t
 use Rattle.sl_syntax.specs.Tree.{Cond, Effect, Expr, First, Stmt}
+use Rattle.sl_syntax.specs.Written as s
 use Rattle.sl_syntax.specs.Written.{Written, at, cond_written, effect_written, element_word, first_written, option_written, stmt_written, written}
-use Rattle.sl_syntax.specs.declared.kind.Kind.{Kind}
-use Rattle.sl_syntax.specs.declared.tree.identifier.Identifier.{Identifier}
+use Rattle.sl_grammar.specs.declared.fault.Fault.TheVariants.{Grammar}
+use Rattle.sl_grammar.specs.Effects as effects
+use Rattle.sl_grammar.specs.Effects.{effect}
+use Rattle.sl_grammar.specs.Expressions.{expr}
+use Rattle.sl_grammar.specs.Statements.{declared_first, first_of, for_behind, for_by, for_loop, is_auto, optional_cond, optional_effect, range_behind, ranges, valued_first, variable_behind}
+use Rattle.sl_grammar.specs.Steps.{Reader, Tall, here, identifier, is_mark, kind_at, mark}
 use Rattle.sl_grammar.proofs.SoundBlocks.{Finds}
 use Rattle.sl_grammar.proofs.SoundEffects.{effect-part}
 use Rattle.sl_grammar.proofs.SoundExpressions.{sound}
@@ -21,18 +31,6 @@ use Rattle.sl_grammar.proofs.ViableEffects.{cond-viable, effect-viable}
 use Rattle.sl_grammar.proofs.ViableExpressions.{expr-viable}
 use Rattle.sl_grammar.proofs.ViableSteps.{Begun, Stops, Viable, at_once, begun, either, faulted, identifier_fault, mark_fault, no_fault, rewritten, some_expr, some_name, tested, unfinished, viable, ◌⨠◌}
 use Rattle.sl_grammar.proofs.ViableTaken.{cond-option, effect-option, element-word, first-fits, first-height, first-written, type-fixed, type_kind, type_word}
-use Rattle.sl_grammar.specs.Effects.{effect, read}
-use Rattle.sl_grammar.specs.Expressions.{expr, named}
-use Rattle.sl_grammar.specs.Statements.{declared_first, first_of, for_behind, for_by, for_loop, is_auto, optional_cond, optional_effect, range_behind, ranges, valued_first, variable_behind}
-use Rattle.sl_grammar.specs.Steps.{Reader, Tall, here, identifier, is_mark, kind_at, mark}
-use Rattle.sl_grammar.specs.declared.fault.Fault.TheVariants.{Grammar}
-use Rattle.sl_syntax.specs.declared.kind.Kind.TheVariants as k
-use Rattle.sl_syntax.specs.Written as s
-use Rattle.sl_syntax.specs.Tree as t
-use Rattle.sl_grammar.specs.Effects as effects
-use Rattle.sl_base.specs.declared.word.Word.TheVariants as w
-use Rattle.sl_base.specs.declared.mark.Mark.TheVariants as m
-use Rattle.sl_base.specs.declared.scalar.Scalar.TheVariants as c
 
 -- what stands before the first part, and before the first `;`
 abbrev opened_written : Place → List Written
@@ -47,12 +45,12 @@ others_written = s.mark m.Semicolon ∷ s.mark m.Semicolon ∷ s.mark m.RightPar
 
 valued-written : (type : Option Scalar) (place at_type : Place) (x : Identifier) (v : Expr) (rest : List Written)
     → opened_written place ++ at at_type (type_word type) ∷ s.named x ∷ s.mark m.Equal ∷ (written v ++ rest)
-        ≡ head_written place (Some (first_of type at_type x v)) ++ rest
+    ≡ head_written place (Some (first_of type at_type x v)) ++ rest
 valued-written type place at_type x v rest =
     ap (λ (l : List Written). opened_written place ++ (l ++ rest)) (first-written type at_type x v)
 
-module _ (inner : Reader (Tall Stmt)) (room : ℕ) (f : Finds inner room) (high : 0 < room) (stops : Stops stmt_written IsStmt stmt_height room inner)
-    where
+module _ (inner : Reader (Tall Stmt)) (room : ℕ) (f : Finds inner room) (high : 0 < room)
+    (stops : Stops stmt_written IsStmt stmt_height room inner) where
   cond-begun : Stops (option_written cond_written) (IfThere IsCond) (option_height cond_height) room (optional_cond inner room)
   unfolding optional_cond
   cond-begun ts n h =
@@ -107,7 +105,7 @@ module _ (inner : Reader (Tall Stmt)) (room : ℕ) (f : Finds inner room) (high 
       let c = cond-option inner room f u.1 a test in
       faulted (mark m.Semicolon a.1) _ n P h2
       (λ h3. viable (t.for place first.0 a.0.0 None some_stmt) ((head.fits, c.fits, tt, tt), omega (arith, tall, c.size, c.low, high))
-          (head.spelled ⨠ (one_mark ⨠ (c.spelled ⨠ at_once _ a.1 n (mark_fault m.Semicolon a.1 n h3)))))
+      (head.spelled ⨠ (one_mark ⨠ (c.spelled ⨠ at_once _ a.1 n (mark_fault m.Semicolon a.1 n h3)))))
       (λ v two h3.
       let two_mark = mark_plain m.Semicolon a.1 v two in
       faulted (optional_effect inner room v.1) _ n P h3
@@ -119,8 +117,8 @@ module _ (inner : Reader (Tall Stmt)) (room : ℕ) (f : Finds inner room) (high 
       let e = effect-option inner room f v.1 b step in
       faulted (mark m.RightParenthesis b.1) _ n P h4
       (λ h5. viable (t.for place first.0 a.0.0 b.0.0 some_stmt)
-          ((head.fits, c.fits, e.fits, tt), omega (arith, tall, c.size, c.low, e.size, e.low, high))
-          (head.spelled ⨠ (one_mark ⨠ (c.spelled ⨠ (two_mark ⨠ (e.spelled ⨠ at_once _ b.1 n (mark_fault m.RightParenthesis b.1 n h5)))))))
+      ((head.fits, c.fits, e.fits, tt), omega (arith, tall, c.size, c.low, e.size, e.low, high))
+      (head.spelled ⨠ (one_mark ⨠ (c.spelled ⨠ (two_mark ⨠ (e.spelled ⨠ at_once _ b.1 n (mark_fault m.RightParenthesis b.1 n h5)))))))
       (λ d close h5.
       faulted (inner d.1) _ n P h5
       (λ h6.
@@ -131,13 +129,13 @@ module _ (inner : Reader (Tall Stmt)) (room : ℕ) (f : Finds inner room) (high 
       (λ x read h6. no_fault _ n P h6))))))
 
   range-begun : (type : Option Scalar) (ts us : List Token) (x : Identifier × List Token) (n : ℕ) → Spelled (opened_written (here ts)) ts us
-      → kind_at us ≡ type_kind type → identifier (drop 1 us) ≡ Ok x → ranges type ≡ true → is_mark m.Colon (kind_at x.1) ≡ true
+      → kind_at us ≡ type_kind type → identifier (drop 1 us) ≡ Ok x → ranges type ≡ true
       → range_behind inner room (here ts) (is_auto type) x.0 x.1 ≡ Err (Grammar n) → Viable (LowStmt (room + 1)) stmt_written ts n
   unfolding range_behind
-  range-begun type ts us x n opened e name may sees h =
+  range-begun type ts us x n opened e name may h =
       let P : Type 0 = Viable (LowStmt (room + 1)) stmt_written ts n in
       let front = opened ⨾ (one_plain us (type_kind type) (element_word (is_auto type)) e (type-fixed type ∙ ap Some (element-word type may))
-          ⨾ identifier_took (drop 1 us) x name) in
+      ⨾ identifier_took (drop 1 us) x name) in
       let of_range = λ (v : Identifier) (body : Stmt). t.range_for (here ts) (is_auto type) x.0 v body in
       faulted (mark m.Colon x.1) _ n P h
       (λ h1. viable (of_range some_name some_stmt) (tt, omega (arith, high)) (front ⨠ at_once _ x.1 n (mark_fault m.Colon x.1 n h1)))
@@ -145,12 +143,12 @@ module _ (inner : Reader (Tall Stmt)) (room : ℕ) (f : Finds inner room) (high 
       let colon_mark = mark_plain m.Colon x.1 u colon in
       faulted (identifier u.1) _ n P h1
       (λ h2. viable (of_range some_name some_stmt) (tt, omega (arith, high))
-          (front ⨠ (colon_mark ⨠ at_once _ u.1 n (identifier_fault u.1 n h2))))
+      (front ⨠ (colon_mark ⨠ at_once _ u.1 n (identifier_fault u.1 n h2))))
       (λ v container h2.
       let given = identifier_took u.1 v container in
       faulted (mark m.RightParenthesis v.1) _ n P h2
       (λ h3. viable (of_range v.0 some_stmt) (tt, omega (arith, high))
-          (front ⨠ (colon_mark ⨠ (given ⨠ at_once _ v.1 n (mark_fault m.RightParenthesis v.1 n h3)))))
+      (front ⨠ (colon_mark ⨠ (given ⨠ at_once _ v.1 n (mark_fault m.RightParenthesis v.1 n h3)))))
       (λ d close h3.
       faulted (inner d.1) _ n P h3
       (λ h4.
@@ -201,13 +199,12 @@ module _ (inner : Reader (Tall Stmt)) (room : ℕ) (f : Finds inner room) (high 
       let P : Type 0 = Viable (LowStmt (room + 1)) stmt_written ts n in
       faulted (identifier (drop 1 us)) _ n P h
       (λ h1. value-begun type ts us some_name some_expr n tt high
-          (opened ⨠ (one_word us (type_kind type) (type_word type) e (type-fixed type)
-          ⨠ at_once _ (drop 1 us) n (identifier_fault (drop 1 us) n h1))))
+      (opened ⨠ (one_word us (type_kind type) (type_word type) e (type-fixed type)
+      ⨠ at_once _ (drop 1 us) n (identifier_fault (drop 1 us) n h1))))
       (λ x name h1.
       either (ranges type && is_mark m.Colon (kind_at x.1)) _ _ n P h1
       (λ range h2.
-      let tests = both (ranges type) (is_mark m.Colon (kind_at x.1)) range in
-      range-begun type ts us x n opened e name tests.0 tests.1 h2)
+      range-begun type ts us x n opened e name (both (ranges type) (is_mark m.Colon (kind_at x.1)) range).0 h2)
       (λ other h2. valued-begun type ts us x n opened e name h2))
 
   effect-begun : (ts us : List Token) (n : ℕ) → Spelled (opened_written (here ts)) ts us → for_by inner room (here ts) k.End us ≡ Err (Grammar n)
@@ -242,7 +239,7 @@ for-begun inner room f g ts n e h =
     let high : 0 < room = ltb-true 0 room test in
     faulted (mark m.LeftParenthesis (drop 1 ts)) _ n P h1
     (λ h2. viable (t.for (here ts) None None None some_stmt) ((tt, tt, tt, tt), omega (arith, high))
-        (word ⨠ at_once _ (drop 1 ts) n (mark_fault m.LeftParenthesis (drop 1 ts) n h2)))
+    (word ⨠ at_once _ (drop 1 ts) n (mark_fault m.LeftParenthesis (drop 1 ts) n h2)))
     (λ u opened h2.
     for-by inner room f high (inner-stops inner room g high) (kind_at u.1) ts u.1 n (word ⨾ mark_plain m.LeftParenthesis (drop 1 ts) u opened) refl h2))
     (λ _ same. viable some_stmt (tt, omega arith) (at_once _ ts n same))

@@ -2,30 +2,29 @@
 use Rattle.std.proofs.Common.{Err, List, [], arith, drop, refl, ℕ, ◌∷◌, ◌≡◌, ◌≤◌}
 use Rattle.std.specs.Prelude.{codes, ⊤}
 use Rattle.sl_base.specs.declared.form.Form.{Form}
+use Rattle.sl_base.specs.declared.form.Form.TheVariants as f
+use Rattle.sl_base.specs.declared.mark.Mark.TheVariants as m
 use Rattle.sl_base.specs.declared.scalar.Scalar.{Scalar}
+use Rattle.sl_base.specs.declared.scalar.Scalar.TheVariants as c
 use Rattle.sl_base.specs.declared.token.Token.{Token}
-use Rattle.sl_syntax.specs.Blank.{nowhere}
-use Rattle.sl_syntax.specs.Depth.{highest, param_height}
-use Rattle.sl_syntax.specs.Written.{Written, container_written, param_written, params_written, scalar_word}
+use Rattle.sl_base.specs.declared.word.Word.TheVariants as w
 use Rattle.sl_syntax.specs.declared.kind.Kind.{Kind}
+use Rattle.sl_syntax.specs.declared.kind.Kind.TheVariants as k
 use Rattle.sl_syntax.specs.declared.tree.declaration.ContainerType.{ContainerType}
 use Rattle.sl_syntax.specs.declared.tree.function.Param.{Param}
+use Rattle.sl_syntax.specs.declared.tree.function.Param.TheVariants as r
+use Rattle.sl_syntax.specs.Blank.{nowhere}
+use Rattle.sl_syntax.specs.Depth.{highest, param_height}
+use Rattle.sl_syntax.specs.Written as s
+use Rattle.sl_syntax.specs.Written.{Written, container_written, param_written, params_written, scalar_word}
+use Rattle.sl_grammar.specs.declared.fault.Fault.TheVariants.{Grammar}
+use Rattle.sl_grammar.specs.Declarations.{comma_param, const_param, container_by, container_param, container_type, param, param_by, params, scalar_param}
+use Rattle.sl_grammar.specs.Steps.{here, identifier, is_mark, kind_at, mark}
 use Rattle.sl_grammar.proofs.SoundDeclarations.{AnyParam, AnyParams}
 use Rattle.sl_grammar.proofs.SoundSteps.{mark_plain, one_word, seen, ◌⨾◌}
 use Rattle.sl_grammar.proofs.ViableDeclarations.{type-begun}
 use Rattle.sl_grammar.proofs.ViableSteps.{Stops, Viable, at_once, begun, behind-viable, either, faulted, identifier_fault, mark_fault, no_fault, one_fault, some_name, unfinished, viable, ◌⨠◌}
 use Rattle.sl_grammar.proofs.ViableTaken.{by-took, comma-part, comma_written, param-part, type-took}
-use Rattle.sl_grammar.specs.Declarations.{comma_param, const_param, container_by, container_param, container_type, param, param_by, params, scalar_param}
-use Rattle.sl_grammar.specs.Expressions.{named}
-use Rattle.sl_grammar.specs.Steps.{here, identifier, is_mark, kind_at, mark}
-use Rattle.sl_grammar.specs.declared.fault.Fault.TheVariants.{Grammar}
-use Rattle.sl_syntax.specs.Written as s
-use Rattle.sl_base.specs.declared.mark.Mark.TheVariants as m
-use Rattle.sl_base.specs.declared.form.Form.TheVariants as f
-use Rattle.sl_syntax.specs.declared.kind.Kind.TheVariants as k
-use Rattle.sl_base.specs.declared.scalar.Scalar.TheVariants as c
-use Rattle.sl_syntax.specs.declared.tree.function.Param.TheVariants as r
-use Rattle.sl_base.specs.declared.word.Word.TheVariants as w
 
 -- a parameter that is no higher than any
 abbrev LowParam : Param → Type 0
@@ -41,7 +40,7 @@ scalar_param-begun scalar ts n e h =
     (λ sees h1.
     faulted (identifier (drop 1 (drop 1 ts))) _ n P h1
     (λ h2. viable (r.Reference (here ts) scalar some_name) (tt, omega arith)
-        (word ⨠ (seen m.And (drop 1 ts) sees ⨠ at_once _ (drop 1 (drop 1 ts)) n (identifier_fault (drop 1 (drop 1 ts)) n h2))))
+    (word ⨠ (seen m.And (drop 1 ts) sees ⨠ at_once _ (drop 1 (drop 1 ts)) n (identifier_fault (drop 1 (drop 1 ts)) n h2))))
     (λ x name h2. no_fault _ n P h2))
     (λ other h1.
     faulted (identifier (drop 1 ts)) _ n P h1
@@ -67,7 +66,7 @@ container_param-begun form ts n e h =
     (λ u and h2.
     faulted (identifier u.1) _ n P h2
     (λ h3. viable (r.Container c.0 some_name) (tt, omega arith)
-        (word ⨠ (mark_plain m.And c.1 u and ⨠ at_once (s.named some_name ∷ []) u.1 n (identifier_fault u.1 n h3))))
+    (word ⨠ (mark_plain m.And c.1 u and ⨠ at_once (s.named some_name ∷ []) u.1 n (identifier_fault u.1 n h3))))
     (λ x name h3. no_fault _ n P h3)))
 
 -- a type of a container, as far as it is there
@@ -92,7 +91,7 @@ const_param-begun ts n e h =
     (λ u and h2.
     faulted (identifier u.1) _ n P h2
     (λ h3. viable (r.ConstContainer (here ts) c.0 some_name) (tt, omega arith)
-        (front ⨠ (mark_plain m.And c.1 u and ⨠ at_once (s.named some_name ∷ []) u.1 n (identifier_fault u.1 n h3))))
+    (front ⨠ (mark_plain m.And c.1 u and ⨠ at_once (s.named some_name ∷ []) u.1 n (identifier_fault u.1 n h3))))
     (λ x name h3. no_fault _ n P h3)))
 
 -- where no parameter begins

@@ -1,18 +1,26 @@
 -- The words before a fault in a program begin one that follows the grammar: a reader stops at the first word that can't stand there.
 use Rattle.std.proofs.Common.{Err, List, [], arith, drop, refl, ℕ, ◌-◌, ◌∷◌, ◌≡◌, ◌≤◌}
 use Rattle.sl_base.specs.declared.limits.TheConstants.{TREE_DEPTH}
+use Rattle.sl_base.specs.declared.mark.Mark.TheVariants as m
 use Rattle.sl_base.specs.declared.place.Place.{Place}
-use Rattle.sl_base.specs.declared.scalar.Scalar.{Scalar}
 use Rattle.sl_base.specs.declared.token.Token.{Token}
+use Rattle.sl_syntax.specs.declared.kind.Kind.{Kind}
+use Rattle.sl_syntax.specs.declared.kind.Kind.TheVariants as k
+use Rattle.sl_syntax.specs.declared.tree.function.Param.{Param}
+use Rattle.sl_syntax.specs.declared.tree.function.ResultType.{ResultType}
+use Rattle.sl_syntax.specs.declared.tree.function.ResultType.TheVariants as z
+use Rattle.sl_syntax.specs.declared.tree.identifier.Identifier.{Identifier}
 use Rattle.sl_syntax.specs.Blank.{nowhere}
 use Rattle.sl_syntax.specs.Depth.{function_height}
 use Rattle.sl_syntax.specs.Shaped.{IsFunction, Shaped}
+use Rattle.sl_syntax.specs.Tree as t
 use Rattle.sl_syntax.specs.Tree.{Function, Items, Program}
+use Rattle.sl_syntax.specs.Written as s
 use Rattle.sl_syntax.specs.Written.{Written, function_written, program_written, result_word}
-use Rattle.sl_syntax.specs.declared.kind.Kind.{Kind}
-use Rattle.sl_syntax.specs.declared.tree.function.Param.{Param}
-use Rattle.sl_syntax.specs.declared.tree.function.ResultType.{ResultType}
-use Rattle.sl_syntax.specs.declared.tree.identifier.Identifier.{Identifier}
+use Rattle.sl_grammar.specs.declared.fault.Fault.TheVariants.{Grammar}
+use Rattle.sl_grammar.specs.Declarations.{params}
+use Rattle.sl_grammar.specs.Statements.{braced, function, function_behind, function_by, is_more, program, stmt}
+use Rattle.sl_grammar.specs.Steps.{here, identifier, kind_at, mark}
 use Rattle.sl_grammar.proofs.SoundBlocks.{block_written}
 use Rattle.sl_grammar.proofs.SoundDeclarations.{params-part}
 use Rattle.sl_grammar.proofs.SoundPrograms.{function-part}
@@ -23,16 +31,6 @@ use Rattle.sl_grammar.proofs.ViableParams.{params-begun}
 use Rattle.sl_grammar.proofs.ViableStatements.{stmt-faults}
 use Rattle.sl_grammar.proofs.ViableSteps.{Viable, at_once, begun, behind-viable, faulted, identifier_fault, mark_fault, no_fault, one_fault, some_name, unfinished, viable, ◌⨠◌}
 use Rattle.sl_grammar.proofs.ViableTaken.{result-fixed, result_kind}
-use Rattle.sl_grammar.specs.Declarations.{params}
-use Rattle.sl_grammar.specs.Effects.{read}
-use Rattle.sl_grammar.specs.Statements.{braced, function, function_behind, function_by, is_more, program, stmt}
-use Rattle.sl_grammar.specs.Steps.{here, identifier, kind_at, mark}
-use Rattle.sl_grammar.specs.declared.fault.Fault.TheVariants.{Grammar}
-use Rattle.sl_syntax.specs.Tree as t
-use Rattle.sl_syntax.specs.Written as s
-use Rattle.sl_syntax.specs.declared.kind.Kind.TheVariants as k
-use Rattle.sl_base.specs.declared.mark.Mark.TheVariants as m
-use Rattle.sl_syntax.specs.declared.tree.function.ResultType.TheVariants as z
 
 -- a block, for one that is missing
 abbrev some_block : Place × Items × Place
@@ -55,7 +53,7 @@ function-begun result ts n e h =
     let word = one_word ts (result_kind result) (result_word result) e (result-fixed result) in
     faulted (identifier (drop 1 ts)) _ n P h
     (λ h1. viable (made (here ts) result some_name [] some_block) (tt, omega arith)
-        (word ⨠ at_once _ (drop 1 ts) n (identifier_fault (drop 1 ts) n h1)))
+    (word ⨠ at_once _ (drop 1 ts) n (identifier_fault (drop 1 ts) n h1)))
     (λ x name h1.
     let front = word ⨾ identifier_took (drop 1 ts) x name in
     faulted (mark m.LeftParenthesis x.1) _ n P h1
@@ -71,7 +69,7 @@ function-begun result ts n e h =
     let given = params-part u.1 ps read in
     faulted (mark m.RightParenthesis ps.1) _ n P h3
     (λ h4. viable (made (here ts) result x.0 ps.0.0 some_block) (tt, omega (arith, given.size, given.low))
-        (head ⨠ (given.spelled ⨠ at_once others ps.1 n (mark_fault m.RightParenthesis ps.1 n h4))))
+    (head ⨠ (given.spelled ⨠ at_once others ps.1 n (mark_fault m.RightParenthesis ps.1 n h4))))
     (λ v closed h4.
     faulted (braced (stmt (TREE_DEPTH - 2)) (TREE_DEPTH - 2) v.1) _ n P h4
     (λ h5.

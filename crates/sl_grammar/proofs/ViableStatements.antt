@@ -2,14 +2,24 @@
 use Rattle.std.proofs.Common.{Err, List, Some, [], arith, drop, length, refl, suc, zero, ℕ, ◌++◌, ◌+◌, ◌<◌, ◌∙◌, ◌∷◌, ◌≡◌, ◌≤◌}
 use Rattle.std.proofs.lemmas.Bool.{ltb-true}
 use Rattle.std.specs.Prelude.{codes, nat_lt}
-use Rattle.sl_base.specs.declared.mark.Mark.{Mark}
+use Rattle.sl_base.specs.declared.mark.Mark.TheVariants as m
 use Rattle.sl_base.specs.declared.place.Place.{Place}
 use Rattle.sl_base.specs.declared.token.Token.{Token}
+use Rattle.sl_base.specs.declared.word.Word.TheVariants as w
+use Rattle.sl_syntax.specs.declared.kind.Kind.{Kind}
+use Rattle.sl_syntax.specs.declared.kind.Kind.TheVariants as k
 use Rattle.sl_syntax.specs.Depth.{stmt_height}
 use Rattle.sl_syntax.specs.Shaped.{IsStmt, ends_open}
+use Rattle.sl_syntax.specs.Tree as t
 use Rattle.sl_syntax.specs.Tree.{Cond, Stmt}
+use Rattle.sl_syntax.specs.Written as s
 use Rattle.sl_syntax.specs.Written.{Written, from_place, plain, stmt_written, tested}
-use Rattle.sl_syntax.specs.declared.kind.Kind.{Kind}
+use Rattle.sl_syntax.proofs.WrittenLaws.{words_of-from_place}
+use Rattle.sl_grammar.specs.declared.fault.Fault.TheVariants.{Grammar}
+use Rattle.sl_grammar.specs.Effects.{effect}
+use Rattle.sl_grammar.specs.Expressions.{expr}
+use Rattle.sl_grammar.specs.Statements.{block, braced, choice, condition, effect_stmt, is_else, loop, otherwise, return_stmt, stmt, stmt_by, word_stmt}
+use Rattle.sl_grammar.specs.Steps.{Reader, Tall, here, is_mark, kind_at, mark}
 use Rattle.sl_grammar.proofs.SoundBlocks.{Finds, condition-part, condition_written, tested-written}
 use Rattle.sl_grammar.proofs.SoundEffects.{effect-part}
 use Rattle.sl_grammar.proofs.SoundExpressions.{expr-part}
@@ -19,20 +29,9 @@ use Rattle.sl_grammar.proofs.ViableBlocks.{Faults, LowStmt, braced-begun, condit
 use Rattle.sl_grammar.proofs.ViableDeclarations.{value-stops}
 use Rattle.sl_grammar.proofs.ViableEffects.{effect-viable}
 use Rattle.sl_grammar.proofs.ViableFors.{for-begun}
-use Rattle.sl_grammar.proofs.ViableSteps.{Begun, Viable, at_once, begun, either, faulted, mark_fault, no_fault, one_fault, rewritten, unfinished, viable, ◌⨠◌}
 use Rattle.sl_grammar.proofs.ViableSteps as steps
-use Rattle.sl_syntax.proofs.WrittenLaws.{words_of-from_place}
+use Rattle.sl_grammar.proofs.ViableSteps.{Begun, Viable, at_once, begun, either, faulted, mark_fault, no_fault, one_fault, rewritten, unfinished, viable, ◌⨠◌}
 use Rattle.sl_grammar.proofs.ViableTaken.{is_else_kind, not_open}
-use Rattle.sl_grammar.specs.Effects.{effect, read}
-use Rattle.sl_grammar.specs.Expressions.{expr}
-use Rattle.sl_grammar.specs.Statements.{block, braced, choice, condition, effect_stmt, is_else, loop, otherwise, return_stmt, stmt, stmt_by, word_stmt}
-use Rattle.sl_grammar.specs.Steps.{Reader, Tall, here, is_mark, kind_at, mark}
-use Rattle.sl_grammar.specs.declared.fault.Fault.TheVariants.{Grammar}
-use Rattle.sl_syntax.specs.Written as s
-use Rattle.sl_base.specs.declared.mark.Mark.TheVariants as m
-use Rattle.sl_syntax.specs.declared.kind.Kind.TheVariants as k
-use Rattle.sl_base.specs.declared.word.Word.TheVariants as w
-use Rattle.sl_syntax.specs.Tree as t
 
 -- the place of the first word is none of the words
 placed-begun : {xs : List Written} {ts : List Token} {n : ℕ} (place : Place) → Begun xs ts n → Begun (from_place place xs) ts n
@@ -89,9 +88,10 @@ module _ (inner : Reader (Tall Stmt)) (room : ℕ) (f : Finds inner room) (g : F
       faulted (inner (drop 1 a.1)) _ n P h4
       (λ h5.
       let v = stops (drop 1 a.1) n h5 in
-      viable (t.choice_else (here ts) c.0.0 a.0.0 v.tree)
-      ((asked.fits, first.part.fits, not_open (ends_open a.0.0) (is_else (kind_at a.1)) first.closed sees, v.fits.0),
-      omega (arith, asked.size, asked.low, first.part.size, first.part.low, v.fits.1))
+      viable (t.choice_else (here ts) c.0.0 a.0.0 v.tree) (
+        (asked.fits, first.part.fits, not_open (ends_open a.0.0) (is_else (kind_at a.1)) first.closed sees, v.fits.0),
+        omega (arith, asked.size, asked.low, first.part.size, first.part.low, v.fits.1),
+      )
       (word ⨠ rewritten (tested-written c.0.0 (stmt_written a.0.0 ++ plain (w.Key (codes "else")) ∷ stmt_written v.tree))
       (asked.spelled ⨠ (first.part.spelled ⨠ (other ⨠ begun v)))))
       (λ b read h5. no_fault _ n P h5))
@@ -140,7 +140,7 @@ module _ (inner : Reader (Tall Stmt)) (room : ℕ) (f : Finds inner room) (g : F
       let found = expr-part room 1 (omega arith) (omega arith) (drop 1 ts) v read in
       faulted (mark m.Semicolon v.1) _ n P h2
       (λ h3. viable (t.gives_back (here ts) (Some v.0.0)) (found.fits, omega (arith, found.size, found.low))
-          (word ⨠ (found.spelled ⨠ at_once close v.1 n (mark_fault m.Semicolon v.1 n h3))))
+      (word ⨠ (found.spelled ⨠ at_once close v.1 n (mark_fault m.Semicolon v.1 n h3))))
       (λ u read h3. no_fault _ n P h3)))
 
   effect-begun : (ts : List Token) (n : ℕ) → effect_stmt inner room ts ≡ Err (Grammar n) → Viable (LowStmt (room + 1)) stmt_written ts n
@@ -156,7 +156,7 @@ module _ (inner : Reader (Tall Stmt)) (room : ℕ) (f : Finds inner room) (g : F
       let found = effect-part room ts x read in
       faulted (mark m.Semicolon x.1) _ n P h1
       (λ h2. viable (t.does (here ts) x.0.0) (found.fits, omega (arith, found.size, found.low))
-          (placed-begun (here ts) (found.spelled ⨠ at_once close x.1 n (mark_fault m.Semicolon x.1 n h2))))
+      (placed-begun (here ts) (found.spelled ⨠ at_once close x.1 n (mark_fault m.Semicolon x.1 n h2))))
       (λ u read h2. no_fault _ n P h2))
 
   break-begun : (ts : List Token) (n : ℕ) → kind_at ts ≡ k.Break → word_stmt inner room t.break ts ≡ Err (Grammar n)
@@ -166,7 +166,7 @@ module _ (inner : Reader (Tall Stmt)) (room : ℕ) (f : Finds inner room) (g : F
       let P : Type 0 = Viable (LowStmt (room + 1)) stmt_written ts n in
       faulted (mark m.Semicolon (drop 1 ts)) _ n P h
       (λ h1. viable (t.break (here ts)) (tt, omega arith)
-          (one_word ts k.Break (w.Key (codes "break")) e refl ⨠ at_once _ (drop 1 ts) n (mark_fault m.Semicolon (drop 1 ts) n h1)))
+      (one_word ts k.Break (w.Key (codes "break")) e refl ⨠ at_once _ (drop 1 ts) n (mark_fault m.Semicolon (drop 1 ts) n h1)))
       (λ u close h1. no_fault _ n P h1)
 
   continue-begun : (ts : List Token) (n : ℕ) → kind_at ts ≡ k.Continue → word_stmt inner room t.continue ts ≡ Err (Grammar n)
@@ -176,7 +176,7 @@ module _ (inner : Reader (Tall Stmt)) (room : ℕ) (f : Finds inner room) (g : F
       let P : Type 0 = Viable (LowStmt (room + 1)) stmt_written ts n in
       faulted (mark m.Semicolon (drop 1 ts)) _ n P h
       (λ h1. viable (t.continue (here ts)) (tt, omega arith)
-          (one_word ts k.Continue (w.Key (codes "continue")) e refl ⨠ at_once _ (drop 1 ts) n (mark_fault m.Semicolon (drop 1 ts) n h1)))
+      (one_word ts k.Continue (w.Key (codes "continue")) e refl ⨠ at_once _ (drop 1 ts) n (mark_fault m.Semicolon (drop 1 ts) n h1)))
       (λ u close h1. no_fault _ n P h1)
 
   stmt-by : (kind : Kind) (ts : List Token) (n : ℕ) → kind_at ts ≡ kind → stmt_by inner room kind ts ≡ Err (Grammar n)

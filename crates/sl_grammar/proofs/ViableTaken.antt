@@ -1,38 +1,37 @@
 -- What single readers took, for what stops behind them.
-use Rattle.std.proofs.Common.{Bool, List, None, Ok, Option, Some, [], ap, arith, cond, drop, false, map, max, refl, sym, true, ℕ, ◌++◌, ◌+◌, ◌-◌, ◌<◌, ◌∙◌, ◌∷◌, ◌≡◌}
+use Rattle.std.proofs.Common.{Bool, List, None, Ok, Option, Some, [], ap, arith, drop, false, max, refl, sym, true, ℕ, ◌++◌, ◌+◌, ◌-◌, ◌<◌, ◌∙◌, ◌∷◌, ◌≡◌}
 use Rattle.std.proofs.lemmas.Bool.{false≢true, ltb-true}
 use Rattle.std.specs.Prelude.{codes, flat_map, nat_lt}
 use Rattle.sl_base.specs.declared.form.Form.{Form}
+use Rattle.sl_base.specs.declared.mark.Mark.TheVariants as m
 use Rattle.sl_base.specs.declared.place.Place.{Place}
 use Rattle.sl_base.specs.declared.scalar.Scalar.{Scalar}
+use Rattle.sl_base.specs.declared.scalar.Scalar.TheVariants as c
 use Rattle.sl_base.specs.declared.token.Token.{Token}
 use Rattle.sl_base.specs.declared.word.Word.{Word}
-use Rattle.sl_syntax.specs.Depth.{cond_height, declaration_height, effect_height, first_height, height, highest, item_height, items_height, option_height, param_height}
-use Rattle.sl_syntax.specs.Shaped.{AreItems, Each, IfThere, IsCond, IsDeclaration, IsEffect, IsExpr, IsFirst, IsItem}
-use Rattle.sl_syntax.specs.Tree.{Cond, Declaration, Effect, Expr, Item, Stmt, items_from}
-use Rattle.sl_syntax.specs.Written.{Written, at, cond_written, container_written, declaration_written, effect_written, element_word, elements_written, first_written, form_word, is_map, item_written, items_written, option_written, param_written, plain, result_word, scalar_word, value_written}
+use Rattle.sl_base.specs.declared.word.Word.TheVariants as w
 use Rattle.sl_syntax.specs.declared.kind.Kind.{Kind}
+use Rattle.sl_syntax.specs.declared.kind.Kind.TheVariants as k
 use Rattle.sl_syntax.specs.declared.tree.declaration.ContainerType.{ContainerType}
 use Rattle.sl_syntax.specs.declared.tree.function.Param.{Param}
 use Rattle.sl_syntax.specs.declared.tree.function.ResultType.{ResultType}
+use Rattle.sl_syntax.specs.declared.tree.function.ResultType.TheVariants as z
 use Rattle.sl_syntax.specs.declared.tree.identifier.Identifier.{Identifier}
+use Rattle.sl_syntax.specs.Depth.{cond_height, declaration_height, effect_height, first_height, height, highest, item_height, items_height, option_height, param_height}
+use Rattle.sl_syntax.specs.Shaped.{AreItems, Each, IfThere, IsCond, IsDeclaration, IsEffect, IsExpr, IsFirst, IsItem}
+use Rattle.sl_syntax.specs.Tree.{Cond, Declaration, Effect, Expr, Item, Stmt, items_from}
+use Rattle.sl_syntax.specs.Written as s
+use Rattle.sl_syntax.specs.Written.{Written, at, cond_written, container_written, declaration_written, effect_written, element_word, elements_written, first_written, form_word, is_map, item_written, items_written, option_written, param_written, plain, result_word, scalar_word, value_written}
+use Rattle.sl_grammar.specs.Declarations.{auto_declaration, comma_param, const_param, container_by, container_declaration, container_param, container_type, elements_by, int, int_by, param, param_by, scalar_declaration, scalar_param}
+use Rattle.sl_grammar.specs.Effects as effects
+use Rattle.sl_grammar.specs.Effects.{effect}
+use Rattle.sl_grammar.specs.Statements.{declared, first_of, is_auto, is_else, item, item_by, optional_cond, optional_effect, ranges}
+use Rattle.sl_grammar.specs.Steps.{Reader, Tall, here, identifier, is_mark, kind_at, mark}
 use Rattle.sl_grammar.proofs.KindLaws.{fixed}
 use Rattle.sl_grammar.proofs.SoundBlocks.{Finds, ItemAt}
 use Rattle.sl_grammar.proofs.SoundDeclarations.{AnyParam, ParamAt, auto-part, container-part, scalar-part}
 use Rattle.sl_grammar.proofs.SoundEffects.{cond-part, effect-part}
 use Rattle.sl_grammar.proofs.SoundSteps.{Part, Parts, Spelled, Took, answered, bound, chosen, guarded, identifier_took, mark_plain, no_words, one_plain, one_word, seen, ◌⨾◌}
-use Rattle.sl_grammar.specs.Declarations.{auto_declaration, comma_param, const_param, container_by, container_declaration, container_param, container_type, elements_by, int, int_by, param, param_by, scalar_declaration, scalar_param}
-use Rattle.sl_grammar.specs.Effects.{effect, read}
-use Rattle.sl_grammar.specs.Expressions.{named}
-use Rattle.sl_grammar.specs.Statements.{declared, first_of, is_auto, is_else, item, item_by, optional_cond, optional_effect, ranges}
-use Rattle.sl_grammar.specs.Steps.{Reader, Tall, here, identifier, is_mark, kind_at, mark}
-use Rattle.sl_base.specs.declared.scalar.Scalar.TheVariants as c
-use Rattle.sl_syntax.specs.declared.kind.Kind.TheVariants as k
-use Rattle.sl_base.specs.declared.word.Word.TheVariants as w
-use Rattle.sl_syntax.specs.Written as s
-use Rattle.sl_syntax.specs.declared.tree.function.ResultType.TheVariants as z
-use Rattle.sl_grammar.specs.Effects as effects
-use Rattle.sl_base.specs.declared.mark.Mark.TheVariants as m
 
 int-by : (kind : Kind) (ts : List Token) (y : Unit {0} × List Token) → kind_at ts ≡ kind → int_by kind ts ≡ Ok y
     → Spelled (plain (scalar_word c.Int) ∷ []) ts y.1
