@@ -11,7 +11,7 @@ use Rattle.sl_syntax.specs.Placed.{Placed}
 use Rattle.sl_syntax.specs.Shaped.{Shaped}
 use Rattle.sl_syntax.specs.Tree.{Program}
 use Rattle.sl_syntax.specs.Written.{words, program_written}
-use Rattle.sl_syntax.proofs.BlankLaws.{blank-placed_alone}
+use Rattle.sl_syntax.proofs.BlankLaws.{blank-placed_alone, placed-words}
 use Rattle.sl_syntax.proofs.BlankShape.{blank-shaped}
 use Rattle.sl_grammar.specs.declared.fault.Fault.TheVariants.{Grammar}
 use Rattle.sl_grammar.specs.Statements.{program}
@@ -71,7 +71,7 @@ module _ (ts : List Token) (n : ℕ) (fault : program ts ≡ Err (Grammar n)) wh
       let p = whole.0 in
       let us : List Token = map blank_token (words p) in
       no_reading n n Level (program ts) (program us) _
-        (near_program n ts us (same_front n (length ts - n + 1) ts us more (omega (arith, within)) (omega (arith, within)) (words_of_blank (words p) ∙ whole.2))) fault (omega arith) (reads_blank p whole.1)
+      (near_program n ts us (same_front n (length ts - n + 1) ts us more (omega (arith, within)) (omega (arith, within)) (words_of_blank (words p) ∙ whole.2))) fault (omega arith) (reads_blank p whole.1)
 
 one_ok : {A E : Type 0} {a b : A} → ◌≡◌ {A = Result A E} (Ok a) (Ok b) → a ≡ b
 one_ok h = cc
@@ -109,4 +109,8 @@ one_program ts p q shaped other placed also =
 pub one_shape : (p q : Program) → Shaped p → Shaped q → words p ≡ words q → blank p ≡ blank q
 one_shape p q shaped other e =
     same_read (blank p) (blank q) (depth (blank p)) (depth (blank q))
-      (sym (reads_blank p shaped) ∙ ap (λ (ws : List Word). program (map blank_token ws)) e ∙ reads_blank q other)
+    (sym (reads_blank p shaped) ∙ ap (λ (ws : List Word). program (map blank_token ws)) e ∙ reads_blank q other)
+
+-- tokens that a program is placed by are the words of one
+pub is_program : (ts : List Token) (p : Program) → Shaped p → Placed p ts → IsProgram (words_in ts)
+is_program ts p shaped placed = (p, shaped, sym (placed-words p ts placed))

@@ -6,3 +6,4 @@ pub mod ListLaws
 pub mod CallLaws
 pub mod ExprLaws
 pub mod StatementLaws
+pub mod ParseLaws

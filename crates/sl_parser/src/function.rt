@@ -18,10 +18,7 @@ use std::alloc::Global;
 
 /// The functions up to the last token, at least one, and the height of the highest.
 #[tactic(auto, unfolding(crate::specs::Reader::program))]
-pub fn functions(
-    alloc: Global,
-    tokens: &mut Tokens<'_>,
-) -> Result<(Vec<Function>, usize), Fault>
+pub fn functions(alloc: Global, tokens: &mut Tokens<'_>) -> Result<(Vec<Function>, usize), Fault>
     ensures reads { Reads tall_functions (spec.program tokens.old) result tokens.new }
     ensures low { IfOk result (λ x. x.1 ≤ TREE_DEPTH) }
 {

@@ -9,4 +9,4 @@ abbrev pub invariant-loop-turn : goal.invariant-loop-turn
 invariant-loop-turn l =
     (l.height ≤ TREE_DEPTH)
     × (repeat is_more function (length l.fn.tokens) (map function_of l.fn.list.items, l.fn.height) l.fn.tokens
-      ≡ repeat is_more function (l._turn-end - l._turn) (map function_of l.list.items, l.height) l.tokens)
+    ≡ repeat is_more function (l._turn-end - l._turn) (map function_of l.list.items, l.height) l.tokens)
