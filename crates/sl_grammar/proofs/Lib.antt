@@ -32,3 +32,10 @@ pub mod ViableOperands
 pub mod ViableLonger
 pub mod ViableExpressions
 pub mod ViableEffects
+pub mod ViableTaken
+pub mod ViableDeclarations
+pub mod ViableParams
+pub mod ViableBlocks
+pub mod ViableFors
+pub mod ViableStatements
+pub mod ViablePrograms

@@ -1,0 +1,177 @@
+-- The words before a fault in a block begin one.
+use Rattle.std.proofs.Common.{Err, List, Ok, [], arith, length, max, refl, suc, zero, ℕ, ◌++◌, ◌+◌, ◌-◌, ◌<◌, ◌∷◌, ◌≡◌, ◌≤◌}
+use Rattle.std.proofs.lemmas.Bool.{ltb-true}
+use Rattle.std.specs.Prelude.{flat_map, nat_lt}
+use Rattle.sl_base.specs.declared.mark.Mark.TheVariants as m
+use Rattle.sl_base.specs.declared.place.Place.{Place}
+use Rattle.sl_base.specs.declared.token.Token.{Token}
+use Rattle.sl_base.specs.declared.word.Word.TheVariants as w
+use Rattle.sl_syntax.specs.declared.kind.Kind.{Kind}
+use Rattle.sl_syntax.specs.declared.kind.Kind.TheVariants as k
+use Rattle.sl_syntax.specs.Blank.{nowhere}
+use Rattle.sl_syntax.specs.Depth.{cond_height, declaration_height, item_height, stmt_height}
+use Rattle.sl_syntax.specs.Shaped.{IsCond, IsDeclaration, IsItem, IsStmt}
+use Rattle.sl_syntax.specs.Tree as t
+use Rattle.sl_syntax.specs.Tree.{Cond, Declaration, Item, Items, Stmt, items_from}
+use Rattle.sl_syntax.specs.Written as s
+use Rattle.sl_syntax.specs.Written.{Written, at, declaration_written, item_written, stmt_written}
+use Rattle.sl_grammar.specs.declared.fault.Fault.TheVariants.{Grammar}
+use Rattle.sl_grammar.specs.Declarations.{auto_declaration, container_declaration, scalar_declaration}
+use Rattle.sl_grammar.specs.Effects as effects
+use Rattle.sl_grammar.specs.Statements.{braced, condition, declared, is_item, item, item_by}
+use Rattle.sl_grammar.specs.Steps.{Reader, Tall, all_behind, here, kind_at, mark, repeat}
+use Rattle.sl_grammar.proofs.SoundBlocks.{Finds, IsBlock, block_height, block_written, condition_written}
+use Rattle.sl_grammar.proofs.SoundDeclarations.{auto-part, container-part, scalar-part}
+use Rattle.sl_grammar.proofs.SoundEffects.{cond-part}
+use Rattle.sl_grammar.proofs.SoundSteps.{Part, Took, behind, mark_here, mark_plain, respelled}
+use Rattle.sl_grammar.proofs.ViableDeclarations.{LowDeclaration, auto-begun, container-begun, scalar-begun}
+use Rattle.sl_grammar.proofs.ViableEffects.{cond-viable}
+use Rattle.sl_grammar.proofs.ViableSteps.{Begun, Low, Stops, Viable, at_once, begun, either, faulted, mark_fault, no_fault, one_fault, rewritten, some_expr, tested, unfinished, viable, ◌⨠◌}
+use Rattle.sl_grammar.proofs.ViableTaken.{are_items, item-part, items-height, items-written}
+
+-- a statement that follows the grammar and is at most so high
+abbrev pub LowStmt : ℕ → Stmt → Type 0
+LowStmt room x = IsStmt x × (stmt_height x ≤ room)
+
+-- What a reader of statements stops in: no word stands before the fault, or a statement begins.
+abbrev pub Faults : Reader (Tall Stmt) → ℕ → Type 1
+Faults inner room = (ts : List Token) (n : ℕ) (P : Type 0) → inner ts ≡ Err (Grammar n) → (length ts ≡ n → P)
+    → (Viable (LowStmt room) stmt_written ts n → P) → P
+
+-- a statement, for one that is missing
+abbrev pub some_stmt : Stmt
+some_stmt = t.break nowhere
+
+-- Where there is room, a statement may stand where none begins.
+pub inner-stops : (inner : Reader (Tall Stmt)) (room : ℕ) → Faults inner room → 0 < room → Stops stmt_written IsStmt stmt_height room inner
+inner-stops inner room g high ts n h =
+    let P : Type 0 = Viable (LowStmt room) stmt_written ts n in
+    g ts n P h (λ e. viable some_stmt (tt, omega (arith, high)) (at_once _ ts n e)) (λ v. v)
+
+module _ (inner : Reader (Tall Stmt)) (room : ℕ) (f : Finds inner room) (g : Faults inner room) where
+  -- items that begin
+  abbrev BegunItems : List Token → ℕ → Type 0
+  BegunItems ts n = Viable (Low IsItem item_height room) (flat_map item_written) ts n
+
+  no_item : (ts : List Token) (n : ℕ) → length ts ≡ n → BegunItems ts n
+  no_item ts n e = viable [] (tt, omega arith) (at_once [] ts n e)
+
+  an_item : (ts : List Token) (n : ℕ) (x : Item) → IsItem x → item_height x ≤ room → Begun (item_written x) ts n → BegunItems ts n
+  an_item ts n x fits low b = viable (x ∷ []) ((fits, tt), omega (arith, low)) (unfinished b [])
+
+  -- a declaration that begins is an item that begins
+  declares-begun : (ts : List Token) (n : ℕ) → 1 < room → Viable (LowDeclaration (room - 2 + 1)) declaration_written ts n → BegunItems ts n
+  declares-begun ts n high v =
+      an_item ts n (t.declares v.tree) v.fits.0 (omega (arith, v.fits.1, high)) (unfinished (begun v) (s.mark m.Semicolon ∷ []))
+
+  declared-begun : (declaration : Reader (Tall Declaration)) (ts : List Token) (n : ℕ) → 1 < room
+      → ((x : Took Declaration) → declaration ts ≡ Ok x → Part declaration_written IsDeclaration declaration_height (room - 2 + 1) ts x.0 x.1)
+      → (declaration ts ≡ Err (Grammar n) → BegunItems ts n) → declared room declaration ts ≡ Err (Grammar n) → BegunItems ts n
+  declared-begun declaration ts n high part first h =
+      let P : Type 0 = BegunItems ts n in
+      faulted (declaration ts) _ n P h first (λ x read h1.
+      let found = part x read in
+      faulted (mark m.Semicolon x.1) _ n P h1
+      (λ h2. an_item ts n (t.declares x.0.0) found.fits (omega (arith, found.size, found.low, high))
+      (found.spelled ⨠ at_once _ x.1 n (mark_fault m.Semicolon x.1 n h2)))
+      (λ v closed h2. no_fault _ n P h2))
+
+  states-begun : (ts : List Token) (n : ℕ) → item_by room inner k.End ts ≡ Err (Grammar n) → BegunItems ts n
+  states-begun ts n h =
+      let P : Type 0 = BegunItems ts n in
+      faulted (inner ts) _ n P h
+      (λ h1. g ts n P h1 (λ e. no_item ts n e) (λ v. an_item ts n (t.states v.tree) v.fits.0 v.fits.1 (begun v)))
+      (λ x read h1. no_fault _ n P h1)
+
+  item-by : (kind : Kind) (ts : List Token) (n : ℕ) → kind_at ts ≡ kind → item_by room inner kind ts ≡ Err (Grammar n) → BegunItems ts n
+  item-by (k.Scalar scalar) ts n e h =
+      tested (nat_lt 1 room) _ (length ts) n (BegunItems ts n) h
+      (λ high h1.
+      let above : 1 < room = ltb-true 1 room high in
+      declared-begun (scalar_declaration (room - 2) scalar) ts n above (λ x read. scalar-part (room - 2) scalar ts x e read)
+      (λ h2. declares-begun ts n above (scalar-begun (room - 2) scalar ts n e h2)) h1)
+      (λ _ same. no_item ts n same)
+  item-by k.Auto ts n e h =
+      tested (nat_lt 1 room) _ (length ts) n (BegunItems ts n) h
+      (λ high h1.
+      let above : 1 < room = ltb-true 1 room high in
+      declared-begun (auto_declaration (room - 2)) ts n above (λ x read. auto-part (room - 2) ts x e read)
+      (λ h2. declares-begun ts n above (auto-begun (room - 2) ts n e h2)) h1)
+      (λ _ same. no_item ts n same)
+  item-by (k.Container form) ts n e h =
+      tested (nat_lt 1 room) _ (length ts) n (BegunItems ts n) h
+      (λ high h1.
+      let above : 1 < room = ltb-true 1 room high in
+      declared-begun (container_declaration (room - 2) form) ts n above (λ x read. container-part (room - 2) form ts x e read)
+      (λ h2. container-begun (room - 2) form ts n (BegunItems ts n) e h2 (λ same. no_item ts n same) (λ v. declares-begun ts n above v)) h1)
+      (λ _ same. no_item ts n same)
+  item-by _ ts n e h = states-begun ts n h
+
+  item-begun : (ts : List Token) (n : ℕ) → item room inner ts ≡ Err (Grammar n) → BegunItems ts n
+  unfolding item
+  item-begun ts n h = item-by (kind_at ts) ts n refl h
+
+  -- the items of a block: where none begins, the block may end
+  items-begun : (turns : ℕ) (done : Tall (List Item)) (ts : List Token) (n : ℕ)
+      → repeat is_item (item room inner) turns done ts ≡ Err (Grammar n) → BegunItems ts n
+  unfolding repeat
+  items-begun zero done ts n h =
+      let P : Type 0 = BegunItems ts n in
+      either (is_item (kind_at ts)) _ _ n P h
+      (λ on h1. no_item ts n (one_fault {A = Tall (List Item)} _ n h1))
+      (λ stop h1. no_fault _ n P h1)
+  items-begun (suc turns) done ts n h =
+      let P : Type 0 = BegunItems ts n in
+      either (is_item (kind_at ts)) _ _ n P h
+      (λ on h1.
+      faulted (item room inner ts) _ n P h1 (λ h2. item-begun ts n h2) (λ x read h2.
+      let first = item-part inner room f ts x read in
+      let others = items-begun turns (done.0 ++ x.0.0 ∷ [], max done.1 x.0.1) x.1 n h2 in
+      viable (x.0.0 ∷ others.tree) ((first.fits, others.fits.0), omega (arith, first.size, first.low, others.fits.1))
+      (first.spelled ⨠ begun others)))
+      (λ stop h1. no_fault _ n P h1)
+
+  -- a block that is no higher
+  abbrev pub LowBlock : Place × Items × Place → Type 0
+  LowBlock b = IsBlock b × (block_height b ≤ room + 1)
+
+  pub braced-begun : (ts : List Token) (n : ℕ) → braced inner room ts ≡ Err (Grammar n) → Viable LowBlock block_written ts n
+  unfolding braced
+  braced-begun ts n h =
+      let P : Type 0 = Viable LowBlock block_written ts n in
+      let close : List Written = at nowhere (w.Mark m.RightBrace) ∷ [] in
+      faulted (mark m.LeftBrace ts) _ n P h
+      (λ h1. viable (here ts, t.no_more, nowhere) (tt, omega arith) (at_once _ ts n (mark_fault m.LeftBrace ts n h1)))
+      (λ u opened h1.
+      let open_brace = mark_here m.LeftBrace ts u opened in
+      faulted (all_behind is_item (item room inner) ([], 0) u.1) _ n P h1
+      (λ h2.
+      let v = items-begun (length u.1) ([], 0) u.1 n h2 in
+      viable (here ts, items_from v.tree, nowhere) (are_items v.tree v.fits.0, omega (arith, v.fits.1, items-height v.tree))
+      (open_brace ⨠ unfinished (rewritten (items-written v.tree) (begun v)) close))
+      (λ xs read h2.
+      let found = behind item_written IsItem item_height room is_item (item room inner) (item-part inner room f) ([], 0) u.1 xs read in
+      faulted (mark m.RightBrace xs.1) _ n P h2
+      (λ h3. viable (here ts, items_from found.items, nowhere)
+      (are_items found.items found.each, omega (arith, found.low, items-height found.items))
+      (open_brace ⨠ (respelled (items-written found.items) found.spelled ⨠ at_once close xs.1 n (mark_fault m.RightBrace xs.1 n h3))))
+      (λ v closed h3. no_fault _ n P h3)))
+
+  pub condition-begun : Stops condition_written IsCond cond_height room (condition inner room)
+  unfolding condition
+  condition-begun ts n h =
+      let P : Type 0 = Viable (λ (x : Cond). IsCond x × (cond_height x ≤ room)) condition_written ts n in
+      faulted (mark m.LeftParenthesis ts) _ n P h
+      (λ h1. viable (t.tests some_expr) (tt, omega arith) (at_once _ ts n (mark_fault m.LeftParenthesis ts n h1)))
+      (λ u opened h1.
+      let first = mark_plain m.LeftParenthesis ts u opened in
+      faulted (effects.cond room u.1) _ n P h1
+      (λ h2.
+      let v = cond-viable room u.1 n h2 in
+      viable v.tree v.fits (first ⨠ unfinished (begun v) (s.mark m.RightParenthesis ∷ [])))
+      (λ x read h2.
+      let found = cond-part room u.1 x read in
+      faulted (mark m.RightParenthesis x.1) _ n P h2
+      (λ h3. viable x.0.0 (found.fits, omega (arith, found.size, found.low))
+      (first ⨠ (found.spelled ⨠ at_once _ x.1 n (mark_fault m.RightParenthesis x.1 n h3))))
+      (λ v closed h3. no_fault _ n P h3)))
