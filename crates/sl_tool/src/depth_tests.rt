@@ -9,7 +9,13 @@ use std::process::Abort;
 use std::test::Fail;
 
 /// What opens, how often, what is inside, what closes, and the place at which it stops.
-type Nest = (&'static str, usize, &'static str, &'static str, &'static str);
+type Nest = (
+    &'static str,
+    usize,
+    &'static str,
+    &'static str,
+    &'static str,
+);
 
 /// In `int x = ..`, which leaves room for 60 nodes.
 const SIGNS: [Nest; 14] = [
@@ -275,7 +281,7 @@ fn rooms(rt: HostRuntime) -> Result<(), Fail> {
         ("int main() { for (;;\n", ") x; }", 61, "2:62"),
     ];
     for (head, tail, most, place) in cases {
-        let more = most.saturating_add(1);
+        let more = usize::saturating_add(most, 1);
         let cases = [("(", most, "1", ")", ""), ("(", more, "1", ")", place)];
         check_nests(&rt, rt.alloc(), head, tail, &cases)?;
     }
@@ -284,17 +290,9 @@ fn rooms(rt: HostRuntime) -> Result<(), Fail> {
     check_nests(&rt, rt.alloc(), "int main() {\n", "=1; }", &cases)
 }
 
-// A row that stands 100 times in a text.
-fn check_wide(
-    rt: &impl Abort,
-    alloc: Global,
-    (head, piece, tail): (&str, &str, &str),
-) -> Result<(), Fail> {
-    check_nests(rt, alloc, head, tail, &[(piece, 100, "", "", "")])
-}
-
 #[test]
 fn wide_is_not_deep(rt: HostRuntime) -> Result<(), Fail> {
+    // A head, a piece that stands there 100 times, and a tail.
     let cases = [
         ("", "int f() {} ", ""),
         ("int main(", "int& a, ", "std::set<int>& b) {}"),
@@ -305,8 +303,9 @@ fn wide_is_not_deep(rt: HostRuntime) -> Result<(), Fail> {
         ("int main() { std::cin", " >> x", "; }"),
         ("int main() { std::cout", " << x << \"t\"", "; }"),
     ];
-    for case in cases {
-        check_wide(&rt, rt.alloc(), case)?;
+    for (head, piece, tail) in cases {
+        let cases = [(piece, 100, "", "", "")];
+        check_nests(&rt, rt.alloc(), head, tail, &cases)?;
     }
     Ok(())
 }

@@ -11,7 +11,10 @@ const READS: [(&str, &str); 40] = [
     ("while (std::cin >> x >> y) z;", ""),
     ("if (!(std::cin >> x)) y;", ""),
     ("if (!(std::cin >> x >> y)) z; else w;", ""),
-    ("if (!x) y; while (!(x)) y; if (!(x + 1) == 2) y; if (!(x) && y) z; if (!!(x)) y; if (!f(x)) y;", ""),
+    (
+        "if (!x) y; while (!(x)) y; if (!(x + 1) == 2) y; if (!(x) && y) z; if (!!(x)) y; if (!f(x)) y;",
+        "",
+    ),
     ("std::cin;", "2:9"),
     ("std::cin << x;", "2:10"),
     ("std::cin .get();", "2:10"),
@@ -51,8 +54,14 @@ const READS: [(&str, &str); 40] = [
 /// Prints, texts and ends of lines.
 const PRINTS: [(&str, &str); 39] = [
     ("std::cout << x;", ""),
-    ("std::cout << \"t\" << 1 + 2 << std::endl << 'c' << -x * 2;", ""),
-    ("std::cout << (a < b) << f(x, y) << std::max(1, 2) << *it++;", ""),
+    (
+        "std::cout << \"t\" << 1 + 2 << std::endl << 'c' << -x * 2;",
+        "",
+    ),
+    (
+        "std::cout << (a < b) << f(x, y) << std::max(1, 2) << *it++;",
+        "",
+    ),
     ("std::cout;", "2:10"),
     ("std::cout >> x;", "2:11"),
     ("std::cout .flush();", "2:11"),
@@ -94,7 +103,10 @@ const PRINTS: [(&str, &str); 39] = [
 /// Assignments.
 const ASSIGNMENTS: [(&str, &str); 21] = [
     ("x = 1; x += 2; x -= 3; x *= 4; x /= 5; x %= 6;", ""),
-    ("*it = 1; v[0] += 2; it->second = a < b; v.at(0) *= f(); ++x = 1;", ""),
+    (
+        "*it = 1; v[0] += 2; it->second = a < b; v.at(0) *= f(); ++x = 1;",
+        "",
+    ),
     ("1 = 2; a + b = c || d; f() -= 1; (x) = 1;", ""),
     ("x = (1); x == 1;", ""),
     ("a = b = c;", "2:7"),
@@ -118,9 +130,15 @@ const ASSIGNMENTS: [(&str, &str); 21] = [
 
 /// Binary operators.
 const OPERATORS: [(&str, &str); 31] = [
-    ("a || b && c == d != e < f <= g > h >= i + j - k * l / m % n;", ""),
+    (
+        "a || b && c == d != e < f <= g > h >= i + j - k * l / m % n;",
+        "",
+    ),
     ("a < b < c; a == b == c; a || b || c; a - b - c;", ""),
-    ("a - -b; a - --b; a * *b; a && !b; a+++b; a - - - b; a % ++b; a < !b;", ""),
+    (
+        "a - -b; a - --b; a * *b; a && !b; a+++b; a - - - b; a % ++b; a < !b;",
+        "",
+    ),
     ("a b;", "2:3"),
     ("a 1;", "2:3"),
     ("a , b;", "2:3"),
@@ -154,9 +172,18 @@ const OPERATORS: [(&str, &str); 31] = [
 /// Signs, pieces behind an operand, and members.
 const SIGNS: [(&str, &str); 43] = [
     ("!a; -a; *a; ++a; --a; !-*++--a; -1; !true; *it++;", ""),
-    ("a++; a--; a++--; ++a++; v[1][2]++; a[b[c]]; f()[1]; (a)[1]; 1[2];", ""),
-    ("v.f(); v.f(1); v.f(1, 2); v.f(1, 2, 3); f().g(); (v).g().h();", ""),
-    ("p.first; p.second; it->second; it->first.x->y; v.insert(1).second; v.at(0).x[1]; 1 .x;", ""),
+    (
+        "a++; a--; a++--; ++a++; v[1][2]++; a[b[c]]; f()[1]; (a)[1]; 1[2];",
+        "",
+    ),
+    (
+        "v.f(); v.f(1); v.f(1, 2); v.f(1, 2, 3); f().g(); (v).g().h();",
+        "",
+    ),
+    (
+        "p.first; p.second; it->second; it->first.x->y; v.insert(1).second; v.at(0).x[1]; 1 .x;",
+        "",
+    ),
     ("!;", "2:2"),
     ("-;", "2:2"),
     ("++;", "2:3"),
@@ -244,7 +271,10 @@ const OPERANDS: [(&str, &str); 40] = [
 
 /// Functions of the library, and the names that are none.
 const LIBRARY_CALLS: [(&str, &str); 32] = [
-    ("std::sort(a, b); std::f(); std::find(a, b, 1)++; std::nothing(1)[2]; std::int(); std::main();", ""),
+    (
+        "std::sort(a, b); std::f(); std::find(a, b, 1)++; std::nothing(1)[2]; std::int(); std::main();",
+        "",
+    ),
     ("x = std::distance(a, b) + 1; x = -std::f(std::g());", ""),
     ("std::sort x;", "2:11"),
     ("std::sort;", "2:10"),

@@ -126,7 +126,10 @@ const PARAMS: [(&str, &str); 29] = [
     ("void f(int& a, std::size_t & b) {}", ""),
     ("void f(std::vector<int>& v) {}", ""),
     ("void f(const std::vector<int>& v) {}", ""),
-    ("void f(std::map<int, int>& m, const std::unordered_map<int, int>& n, int a, bool& b) {}", ""),
+    (
+        "void f(std::map<int, int>& m, const std::unordered_map<int, int>& n, int a, bool& b) {}",
+        "",
+    ),
     ("void f(const int a) {}", "1:14"),
     ("void f(const int& a) {}", "1:14"),
     ("void f(std::vector<int> v) {}", "1:25"),
@@ -154,8 +157,14 @@ const PARAMS: [(&str, &str); 29] = [
 
 /// Container types.
 const CONTAINERS: [(&str, &str); 24] = [
-    ("std::vector<int> a; std::deque<int> b; std::list<int> c; std::set<int> d;", ""),
-    ("std::unordered_set<int> a; std::map<int, int> b; std::unordered_map<int, int> c;", ""),
+    (
+        "std::vector<int> a; std::deque<int> b; std::list<int> c; std::set<int> d;",
+        "",
+    ),
+    (
+        "std::unordered_set<int> a; std::map<int, int> b; std::unordered_map<int, int> c;",
+        "",
+    ),
     ("std::vector<bool> a;", "2:13"),
     ("std::vector<int, int> a;", "2:16"),
     ("std::deque<int, int> a;", "2:15"),
@@ -183,7 +192,10 @@ const CONTAINERS: [(&str, &str); 24] = [
 /// Declarations of scalars and with `auto`.
 const SCALARS: [(&str, &str); 26] = [
     ("int x; bool b; std::size_t n; std::ptrdiff_t d;", ""),
-    ("int x = 1; bool b = x == 1; std::size_t n = v.size(); std::ptrdiff_t d = -n;", ""),
+    (
+        "int x = 1; bool b = x == 1; std::size_t n = v.size(); std::ptrdiff_t d = -n;",
+        "",
+    ),
     ("int ;", "2:5"),
     ("int 1;", "2:5"),
     ("int & r = x;", "2:5"),
@@ -214,9 +226,18 @@ const SCALARS: [(&str, &str); 26] = [
 const INITIALIZERS: [(&str, &str); 28] = [
     ("std::vector<int> v; std::map<int, int> m;", ""),
     ("std::vector<int> v = w;", ""),
-    ("std::vector<int> v = {}; std::set<int> s = {1}; std::list<int> l = {1, 2, 3};", ""),
-    ("std::vector<int> v{}; std::set<int> s{w}; std::list<int> l{1, 2, 3};", ""),
-    ("std::vector<int> v(3); std::deque<int> d(w.begin(), w.end()); std::list<int> l(1, 2, 3);", ""),
+    (
+        "std::vector<int> v = {}; std::set<int> s = {1}; std::list<int> l = {1, 2, 3};",
+        "",
+    ),
+    (
+        "std::vector<int> v{}; std::set<int> s{w}; std::list<int> l{1, 2, 3};",
+        "",
+    ),
+    (
+        "std::vector<int> v(3); std::deque<int> d(w.begin(), w.end()); std::list<int> l(1, 2, 3);",
+        "",
+    ),
     ("std::vector<int> v();", "2:20"),
     ("std::vector<int> v = 3;", "2:22"),
     ("std::vector<int> v = (1);", "2:22"),
@@ -311,7 +332,10 @@ const LOOPS: [(&str, &str); 37] = [
     ("for (std::size_t i = 0;; i += 2) for (i = 1;;) x;", ""),
     ("for (f(); g(); h()) {}", ""),
     ("for (std::cin >> x; std::cin >> y; std::cin >> z) {}", ""),
-    ("for (std::cout << x; !(std::cin >> y); std::cout << z << std::endl) {}", ""),
+    (
+        "for (std::cout << x; !(std::cin >> y); std::cout << z << std::endl) {}",
+        "",
+    ),
     ("for (; ; i = 1) x;", ""),
     ("for (;; i < 2) x;", ""),
     ("for ;;) x;", "2:5"),

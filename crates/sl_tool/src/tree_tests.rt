@@ -92,39 +92,12 @@ fn head(alloc: Global, x: &Expr) -> Result<String, AllocError> {
         Expr::Prefix { operator, .. } => String::from_str(alloc, prefix_text(*operator)),
         Expr::Binary { operator, .. } => String::from_str(alloc, binary_text(*operator)),
         Expr::Postfix { operator, .. } => String::from_str(alloc, postfix_text(*operator)),
-        Expr::MemberCall { function, .. } => {
-            format!(in alloc; ".{}", name_text(&function.name))
-        }
+        Expr::MemberCall { function, .. } => { format!(in alloc; ".{}", name_text(&function.name)) }
         Expr::Member {
-            selector, member, ..
-        } => {
-            format!(in alloc; "{}{}", selector_text(*selector), name_text(&member.name))
-        }
-        Expr::Parentheses { .. } | Expr::Index { .. } => Ok(String::new(alloc)),
-    }
-}
-
-// What an expression adds to the expressions in it: its operator or its name.
-fn head(alloc: Global, x: &Expr) -> Result<String, AllocError> {
-    match x {
-        Expr::Number { value, .. } => format!(in alloc; "{value}"),
-        Expr::Truth { value, .. } => format!(in alloc; "{value}"),
-        Expr::Name(name) => String::from_str(alloc, name_text(&name.name)),
-        Expr::Call { function, .. } => String::from_str(alloc, name_text(&function.name)),
-        Expr::LibraryCall { function, .. } => {
-            format!(in alloc; "std::{}", name_text(&function.name))
-        }
-        Expr::Prefix { operator, .. } => String::from_str(alloc, prefix_text(*operator)),
-        Expr::Binary { operator, .. } => String::from_str(alloc, binary_text(*operator)),
-        Expr::Postfix { operator, .. } => String::from_str(alloc, postfix_text(*operator)),
-        Expr::MemberCall { function, .. } => {
-            format!(in alloc; ".{}", name_text(&function.name))
-        }
-        Expr::Member {
-            selector, member, ..
-        } => {
-            format!(in alloc; "{}{}", selector_text(*selector), name_text(&member.name))
-        }
+            selector,
+            member,
+            ..
+        } => { format!(in alloc; "{}{}", selector_text(*selector), name_text(&member.name)) }
         Expr::Parentheses { .. } | Expr::Index { .. } => Ok(String::new(alloc)),
     }
 }
@@ -160,7 +133,9 @@ fn grouped(alloc: Global, x: &Expr) -> Result<String, AllocError> {
             format!(in alloc; "[{object}[{index}]]")
         }
         Expr::MemberCall {
-            object, arguments, ..
+            object,
+            arguments,
+            ..
         } => {
             let object = grouped(alloc, object)?;
             let call = grouped_call(alloc, &head, arguments)?;
@@ -215,8 +190,14 @@ const GROUPS: [(&str, &str); 48] = [
     ("-a++", "[-[a++]]"),
     ("++a--", "[++[a--]]"),
     // All of them, up and down.
-    ("a || b && c == d < e + f * !g++", "[a||[b&&[c==[d<[e+[f*[![g++]]]]]]]]"),
-    ("!a++ * b + c < d == e && f || g", "[[[[[[[![a++]]*b]+c]<d]==e]&&f]||g]"),
+    (
+        "a || b && c == d < e + f * !g++",
+        "[a||[b&&[c==[d<[e+[f*[![g++]]]]]]]]",
+    ),
+    (
+        "!a++ * b + c < d == e && f || g",
+        "[[[[[[[![a++]]*b]+c]<d]==e]&&f]||g]",
+    ),
     ("1 * 2 + 3 * 4 < 5 - 6", "[[[1*2]+[3*4]]<[5-6]]"),
     ("a == b && c != d || e < f", "[[[a==b]&&[c!=d]]||[e<f]]"),
     // Signs, and what else their marks are.
@@ -236,7 +217,10 @@ const GROUPS: [(&str, &str); 48] = [
     ("-a->b * 2", "[[-[a->b]]*2]"),
     ("*v.at(1)", "[*[v.at(1)]]"),
     ("v.at(1 + 2)[3]++", "[[[v.at([1+2])][3]]++]"),
-    ("v.insert(x).second || true", "[[[v.insert(x)].second]||true]"),
+    (
+        "v.insert(x).second || true",
+        "[[[v.insert(x)].second]||true]",
+    ),
     // Parentheses and arguments hold their own.
     ("1 - (2 - 3)", "[1-([2-3])]"),
     ("-(1 + 2) * 3", "[[-([1+2])]*3]"),
@@ -271,7 +255,9 @@ fn groups(rt: HostRuntime) -> Result<(), Fail> {
 fn nested(alloc: Global, x: &Stmt) -> Result<String, AllocError> {
     match x {
         Stmt::If {
-            then, otherwise, ..
+            then,
+            otherwise,
+            ..
         } => {
             let then = nested(alloc, then)?;
             match otherwise {
@@ -312,9 +298,18 @@ fn nested_items(alloc: Global, items: &[Item]) -> Result<String, AllocError> {
 #[test]
 fn elses(rt: HostRuntime) -> Result<(), Fail> {
     let cases = [
-        ("if (1) if (2) break; else continue;", "if [if [b] else [c]];"),
-        ("if (1) { if (2) break; } else continue;", "if [if [b];] else [c];"),
-        ("if (1) { if (2) break; else continue; }", "if [if [b] else [c];];"),
+        (
+            "if (1) if (2) break; else continue;",
+            "if [if [b] else [c]];",
+        ),
+        (
+            "if (1) { if (2) break; } else continue;",
+            "if [if [b];] else [c];",
+        ),
+        (
+            "if (1) { if (2) break; else continue; }",
+            "if [if [b] else [c];];",
+        ),
         (
             "if (1) if (2) break; else continue; else return;",
             "if [if [b] else [c]] else [r];",
