@@ -108,8 +108,9 @@ fn grouped(alloc: Global, x: &Expr) -> Result<String, AllocError> {
     let head = head(alloc, x)?;
     match x {
         Expr::Number { .. } | Expr::Truth { .. } | Expr::Name(_) => Ok(head),
-        Expr::Call { arguments, .. } => grouped_call(alloc, &head, arguments),
-        Expr::LibraryCall { arguments, .. } => grouped_call(alloc, &head, arguments),
+        Expr::Call { arguments, .. } | Expr::LibraryCall { arguments, .. } => {
+            grouped_call(alloc, &head, arguments)
+        }
         Expr::Parentheses { inner, .. } => {
             let inner = grouped(alloc, inner)?;
             format!(in alloc; "({inner})")
@@ -118,20 +119,16 @@ fn grouped(alloc: Global, x: &Expr) -> Result<String, AllocError> {
             let operand = grouped(alloc, operand)?;
             format!(in alloc; "[{head}{operand}]")
         }
-        Expr::Binary { left, right, .. } => {
-            let left = grouped(alloc, left)?;
-            let right = grouped(alloc, right)?;
-            format!(in alloc; "[{left}{head}{right}]")
-        }
-        Expr::Postfix { operand, .. } => {
+        Expr::Binary { left, right, .. } => grouped_pair(alloc, left, &head, right, ""),
+        Expr::Postfix { operand, .. }
+        | Expr::Member {
+            object: operand,
+            ..
+        } => {
             let operand = grouped(alloc, operand)?;
             format!(in alloc; "[{operand}{head}]")
         }
-        Expr::Index { object, index, .. } => {
-            let object = grouped(alloc, object)?;
-            let index = grouped(alloc, index)?;
-            format!(in alloc; "[{object}[{index}]]")
-        }
+        Expr::Index { object, index, .. } => grouped_pair(alloc, object, "[", index, "]"),
         Expr::MemberCall {
             object,
             arguments,
@@ -141,11 +138,20 @@ fn grouped(alloc: Global, x: &Expr) -> Result<String, AllocError> {
             let call = grouped_call(alloc, &head, arguments)?;
             format!(in alloc; "[{object}{call}]")
         }
-        Expr::Member { object, .. } => {
-            let object = grouped(alloc, object)?;
-            format!(in alloc; "[{object}{head}]")
-        }
     }
+}
+
+#[cycle(grouping)]
+fn grouped_pair(
+    alloc: Global,
+    left: &Expr,
+    between: &str,
+    right: &Expr,
+    behind: &str,
+) -> Result<String, AllocError> {
+    let left = grouped(alloc, left)?;
+    let right = grouped(alloc, right)?;
+    format!(in alloc; "[{left}{between}{right}{behind}]")
 }
 
 #[cycle(grouping)]
@@ -295,43 +301,45 @@ fn nested_items(alloc: Global, items: &[Item]) -> Result<String, AllocError> {
     Ok(all)
 }
 
+/// Statements, and how they stand in one another: an `else` belongs to the nearest `if` that has none.
+const ELSES: [(&str, &str); 8] = [
+    (
+        "if (1) if (2) break; else continue;",
+        "if [if [b] else [c]];",
+    ),
+    (
+        "if (1) { if (2) break; } else continue;",
+        "if [if [b];] else [c];",
+    ),
+    (
+        "if (1) { if (2) break; else continue; }",
+        "if [if [b] else [c];];",
+    ),
+    (
+        "if (1) if (2) break; else continue; else return;",
+        "if [if [b] else [c]] else [r];",
+    ),
+    (
+        "if (1) break; else if (2) continue; else return;",
+        "if [b] else [if [c] else [r]];",
+    ),
+    (
+        "if (1) while (2) if (3) break; else continue;",
+        "if [loop [if [b] else [c]]];",
+    ),
+    (
+        "if (1) for (;;) if (3) break; else continue; else return;",
+        "if [loop [if [b] else [c]]] else [r];",
+    ),
+    (
+        "for (int x : v) if (1) {} else if (2) {} int x; if (3) x; else {}",
+        "loop [if [] else [if []]];d;if [e] else [];",
+    ),
+];
+
 #[test]
 fn elses(rt: HostRuntime) -> Result<(), Fail> {
-    let cases = [
-        (
-            "if (1) if (2) break; else continue;",
-            "if [if [b] else [c]];",
-        ),
-        (
-            "if (1) { if (2) break; } else continue;",
-            "if [if [b];] else [c];",
-        ),
-        (
-            "if (1) { if (2) break; else continue; }",
-            "if [if [b] else [c];];",
-        ),
-        (
-            "if (1) if (2) break; else continue; else return;",
-            "if [if [b] else [c]] else [r];",
-        ),
-        (
-            "if (1) break; else if (2) continue; else return;",
-            "if [b] else [if [c] else [r]];",
-        ),
-        (
-            "if (1) while (2) if (3) break; else continue;",
-            "if [loop [if [b] else [c]]];",
-        ),
-        (
-            "if (1) for (;;) if (3) break; else continue; else return;",
-            "if [loop [if [b] else [c]]] else [r];",
-        ),
-        (
-            "for (int x : v) if (1) {} else if (2) {} int x; if (3) x; else {}",
-            "loop [if [] else [if []]];d;if [e] else [];",
-        ),
-    ];
-    for (statements, want) in cases {
+    for (statements, want) in ELSES {
         let text = format!(in rt.alloc(); "int main() {{ {statements} }}")?;
         let p = parsed(&rt, rt.alloc(), &text)?;
         let got = nested_items(rt.alloc(), items_of(&p))?;
@@ -361,7 +369,7 @@ fn words(rt: HostRuntime) -> Result<(), Fail> {
 }
 
 /// A program as people write them.
-const REALISTIC: &str = "#include <iostream>
+pub const REALISTIC: &str = "#include <iostream>
 #include <vector>
 #include <map>
 #include <algorithm>
