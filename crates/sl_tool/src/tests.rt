@@ -195,54 +195,56 @@ fn main_of(alloc: Global, statements: &str) -> Result<String, AllocError> {
     Ok(text)
 }
 
+/// Statements of `main`, and the answer to them.
+const REPORTS: [(&str, &str); 10] = [
+    (
+        "std::vector<int> v; v.push_back(1); auto it = v.begin(); int x = *it;",
+        PASSED,
+    ),
+    (
+        "std::vector<int> v; v.push_back(1); auto it = v.begin(); v.push_back(2); int x = *it;",
+        "a.cpp:6:11: invalid iterator in *: it, invalidated at 5:5\na.cpp: warnings: 1\n",
+    ),
+    // What was dereferenced is valid in each run that goes on.
+    (
+        "std::vector<int> v; v.push_back(1); auto it = v.begin(); v.push_back(2); int x = *it; int y = *it;",
+        "a.cpp:6:11: invalid iterator in *: it, invalidated at 5:5\na.cpp: warnings: 1\n",
+    ),
+    (
+        "std::vector<int> v; v.push_back(1); auto it = v.begin(); v.push_back(2); v.push_back(3); int x = *it;",
+        "a.cpp:7:11: invalid iterator in *: it, invalidated at 5:5, 6:5\na.cpp: warnings: 1\n",
+    ),
+    // An iterator from behind the growth is valid.
+    (
+        "std::vector<int> v; v.push_back(1); auto it = v.begin(); v.push_back(2); auto at = v.begin(); int x = *at; int y = *it;",
+        "a.cpp:8:11: invalid iterator in *: it, invalidated at 5:5\na.cpp: warnings: 1\n",
+    ),
+    // Two iterators are invalid, each by its own calls.
+    (
+        "std::vector<int> v; auto a = v.begin(); v.push_back(1); auto b = v.begin(); v.push_back(2); int x = *b; int y = *a;",
+        "a.cpp:7:11: invalid iterator in *: b, invalidated at 6:5\na.cpp:8:11: invalid iterator in *: a, invalidated at 4:5, 6:5\na.cpp: warnings: 2\n",
+    ),
+    (
+        "std::vector<int> v; auto it = v.begin(); int x = *it;",
+        "a.cpp:4:11: end iterator in *: it\na.cpp: warnings: 1\n",
+    ),
+    (
+        "std::vector<int> v; auto it = v.begin(); v.push_back(1); int x = *it;",
+        "a.cpp:5:11: invalid iterator in *: it, invalidated at 4:5\na.cpp: warnings: 1\n",
+    ),
+    (
+        "std::vector<int> v; std::vector<int> w; v.push_back(1); auto it = v.begin(); w.push_back(2); int x = *it;",
+        PASSED,
+    ),
+    (
+        "std::vector<int> v; std::vector<int> w; auto a = v.begin(); auto b = w.begin(); v.push_back(2147483647); int x = *a; int y = *b;",
+        "a.cpp:7:11: invalid iterator in *: a, invalidated at 6:5\na.cpp:8:11: end iterator in *: b\na.cpp: warnings: 2\n",
+    ),
+];
+
 #[test]
 fn reports(rt: HostRuntime) -> Result<(), Fail> {
-    let cases = [
-        (
-            "std::vector<int> v; v.push_back(1); auto it = v.begin(); int x = *it;",
-            PASSED,
-        ),
-        (
-            "std::vector<int> v; v.push_back(1); auto it = v.begin(); v.push_back(2); int x = *it;",
-            "a.cpp:6:11: invalid iterator in *: it, invalidated at 5:5\na.cpp: warnings: 1\n",
-        ),
-        // What was dereferenced is valid in each run that goes on.
-        (
-            "std::vector<int> v; v.push_back(1); auto it = v.begin(); v.push_back(2); int x = *it; int y = *it;",
-            "a.cpp:6:11: invalid iterator in *: it, invalidated at 5:5\na.cpp: warnings: 1\n",
-        ),
-        (
-            "std::vector<int> v; v.push_back(1); auto it = v.begin(); v.push_back(2); v.push_back(3); int x = *it;",
-            "a.cpp:7:11: invalid iterator in *: it, invalidated at 5:5, 6:5\na.cpp: warnings: 1\n",
-        ),
-        // An iterator from behind the growth is valid.
-        (
-            "std::vector<int> v; v.push_back(1); auto it = v.begin(); v.push_back(2); auto at = v.begin(); int x = *at; int y = *it;",
-            "a.cpp:8:11: invalid iterator in *: it, invalidated at 5:5\na.cpp: warnings: 1\n",
-        ),
-        // Two iterators are invalid, each by its own calls.
-        (
-            "std::vector<int> v; auto a = v.begin(); v.push_back(1); auto b = v.begin(); v.push_back(2); int x = *b; int y = *a;",
-            "a.cpp:7:11: invalid iterator in *: b, invalidated at 6:5\na.cpp:8:11: invalid iterator in *: a, invalidated at 4:5, 6:5\na.cpp: warnings: 2\n",
-        ),
-        (
-            "std::vector<int> v; auto it = v.begin(); int x = *it;",
-            "a.cpp:4:11: end iterator in *: it\na.cpp: warnings: 1\n",
-        ),
-        (
-            "std::vector<int> v; auto it = v.begin(); v.push_back(1); int x = *it;",
-            "a.cpp:5:11: invalid iterator in *: it, invalidated at 4:5\na.cpp: warnings: 1\n",
-        ),
-        (
-            "std::vector<int> v; std::vector<int> w; v.push_back(1); auto it = v.begin(); w.push_back(2); int x = *it;",
-            PASSED,
-        ),
-        (
-            "std::vector<int> v; std::vector<int> w; auto a = v.begin(); auto b = w.begin(); v.push_back(2147483647); int x = *a; int y = *b;",
-            "a.cpp:7:11: invalid iterator in *: a, invalidated at 6:5\na.cpp:8:11: end iterator in *: b\na.cpp: warnings: 2\n",
-        ),
-    ];
-    for (statements, answer) in cases {
+    for (statements, answer) in REPORTS {
         let text = main_of(rt.alloc(), statements)?;
         let ran = check(rt.alloc(), text.as_bytes())?;
         let status = if answer == PASSED {
@@ -594,6 +596,11 @@ fn write_faults(rt: HostRuntime) -> Result<(), Fail> {
             "write {call}, room {room}"
         );
     }
+    Ok(())
+}
+
+#[test]
+fn cut_answers(rt: HostRuntime) -> Result<(), Fail> {
     // A report may be cut.
     let statements =
         "std::vector<int> v; v.push_back(1); auto it = v.begin(); v.push_back(2); int x = *it;";

@@ -415,7 +415,10 @@ int main() {
 
 // Without the blanks at its end.
 fn trimmed(mut text: &[u8]) -> &[u8] {
-    while let [front @ .., b' ' | b'\n'] = text {
+    for _ in 0..text.len() {
+        let [front @ .., b' ' | b'\n'] = text else {
+            break;
+        };
         text = front;
     }
     text
