@@ -5,6 +5,7 @@ use crate::tool::run_tool;
 use crate::tree_tests::REALISTIC;
 use sl_base::{MemFiles, MemSink, RealFiles, StdSink};
 use std::alloc::{AllocError, Global};
+use std::process::Abort;
 use std::test::Fail;
 
 /// What a run is given besides its words: the text of `a.cpp`, how many bytes a read gives, the numbers of the calls
@@ -74,7 +75,7 @@ fn refused_at(alloc: Global, place: &str, why: &str) -> Result<String, AllocErro
 }
 
 /// Texts, each with the place at which it is refused and the reason. No place: the text passes.
-const TEXTS: [(&str, &str, &str); 37] = [
+const TEXTS: [(&str, &str, &str); 36] = [
     ("int main() {}", "", ""),
     ("int main() {}\n", "", ""),
     ("int main() {\r\n}\r\n", "", ""),
@@ -128,23 +129,38 @@ const TEXTS: [(&str, &str, &str); 37] = [
     ("int mein() { return }", "1:21", "grammar"),
     ("int mein() { return 0; }", "1:5", "not built"),
     ("int main() { f(1, 2); g(3; }", "1:26", "grammar"),
-    (REALISTIC, "7:5", "not built"),
 ];
+
+fn check_text(
+    rt: &impl Abort,
+    alloc: Global,
+    text: &[u8],
+    place: &str,
+    why: &str,
+) -> Result<(), Fail> {
+    let ran = check(alloc, text)?;
+    let status = if place.is_empty() {
+        Status::Passed
+    } else {
+        Status::Refused
+    };
+    let line = answer_at(alloc, place, why)?;
+    assert_eq!(rt; ran.status, status, "{text:?}");
+    assert_eq!(rt; ran.out.bytes(), line.as_bytes(), "{text:?}");
+    Ok(())
+}
+
+fn check_texts(rt: &impl Abort, alloc: Global, cases: &[(&str, &str, &str)]) -> Result<(), Fail> {
+    for (text, place, why) in cases {
+        check_text(rt, alloc, text.as_bytes(), place, why)?;
+    }
+    Ok(())
+}
 
 #[test]
 fn texts(rt: HostRuntime) -> Result<(), Fail> {
-    for (text, place, why) in TEXTS {
-        let ran = check(rt.alloc(), text.as_bytes())?;
-        let status = if place.is_empty() {
-            Status::Passed
-        } else {
-            Status::Refused
-        };
-        let line = answer_at(rt.alloc(), place, why)?;
-        assert_eq!(rt; ran.status, status, "{text:?}");
-        assert_eq!(rt; ran.out.bytes(), line.as_bytes(), "{text:?}");
-    }
-    Ok(())
+    check_texts(&rt, rt.alloc(), &TEXTS)?;
+    check_text(&rt, rt.alloc(), REALISTIC, "7:5", "not built")
 }
 
 #[test]

@@ -111,24 +111,20 @@ fn grouped(alloc: Global, x: &Expr) -> Result<String, AllocError> {
         Expr::Call { arguments, .. } | Expr::LibraryCall { arguments, .. } => {
             grouped_call(alloc, &head, arguments)
         }
-        Expr::Parentheses { inner, .. } => {
-            let inner = grouped(alloc, inner)?;
-            format!(in alloc; "({inner})")
+        Expr::Parentheses { inner, .. } => format!(in alloc; "({})", grouped(alloc, inner)?),
+        Expr::Prefix { operand, .. } => format!(in alloc; "[{head}{}]", grouped(alloc, operand)?),
+        Expr::Postfix { operand, .. } => format!(in alloc; "[{}{head}]", grouped(alloc, operand)?),
+        Expr::Member { object, .. } => format!(in alloc; "[{}{head}]", grouped(alloc, object)?),
+        Expr::Binary { left, right, .. } => {
+            let left = grouped(alloc, left)?;
+            let right = grouped(alloc, right)?;
+            format!(in alloc; "[{left}{head}{right}]")
         }
-        Expr::Prefix { operand, .. } => {
-            let operand = grouped(alloc, operand)?;
-            format!(in alloc; "[{head}{operand}]")
+        Expr::Index { object, index, .. } => {
+            let object = grouped(alloc, object)?;
+            let index = grouped(alloc, index)?;
+            format!(in alloc; "[{object}[{index}]]")
         }
-        Expr::Binary { left, right, .. } => grouped_pair(alloc, left, &head, right, ""),
-        Expr::Postfix { operand, .. }
-        | Expr::Member {
-            object: operand,
-            ..
-        } => {
-            let operand = grouped(alloc, operand)?;
-            format!(in alloc; "[{operand}{head}]")
-        }
-        Expr::Index { object, index, .. } => grouped_pair(alloc, object, "[", index, "]"),
         Expr::MemberCall {
             object,
             arguments,
@@ -139,19 +135,6 @@ fn grouped(alloc: Global, x: &Expr) -> Result<String, AllocError> {
             format!(in alloc; "[{object}{call}]")
         }
     }
-}
-
-#[cycle(grouping)]
-fn grouped_pair(
-    alloc: Global,
-    left: &Expr,
-    between: &str,
-    right: &Expr,
-    behind: &str,
-) -> Result<String, AllocError> {
-    let left = grouped(alloc, left)?;
-    let right = grouped(alloc, right)?;
-    format!(in alloc; "[{left}{between}{right}{behind}]")
 }
 
 #[cycle(grouping)]
@@ -369,7 +352,7 @@ fn words(rt: HostRuntime) -> Result<(), Fail> {
 }
 
 /// A program as people write them.
-pub const REALISTIC: &str = "#include <iostream>
+pub const REALISTIC: &[u8] = b"#include <iostream>
 #include <vector>
 #include <map>
 #include <algorithm>
@@ -426,15 +409,14 @@ fn trimmed(mut text: &[u8]) -> &[u8] {
 
 #[test]
 fn cuts(rt: HostRuntime) -> Result<(), Fail> {
-    let text = REALISTIC.as_bytes();
-    assert_eq!(rt; answer(&rt, rt.alloc(), text)?.as_str(), "");
-    assert_eq!(rt; answer(&rt, rt.alloc(), trimmed(text))?.as_str(), "");
-    assert!(rt; text.len() <= TEXT_BYTES);
-    let tokens = lex(rt.alloc(), text)?;
+    assert_eq!(rt; answer(&rt, rt.alloc(), REALISTIC)?.as_str(), "");
+    assert_eq!(rt; answer(&rt, rt.alloc(), trimmed(REALISTIC))?.as_str(), "");
+    assert!(rt; REALISTIC.len() <= TEXT_BYTES);
+    let tokens = lex(rt.alloc(), REALISTIC)?;
     let mut whole: u32 = 0;
     // The text before each token but the first, without the blanks there, ends directly behind the token before.
     for token in tokens.as_slice().iter().skip(1) {
-        let Some(front) = text.get(..token.offset as usize) else {
+        let Some(front) = REALISTIC.get(..token.offset as usize) else {
             return Err("no such offset".into());
         };
         let cut = trimmed(front);
