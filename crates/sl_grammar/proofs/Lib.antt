@@ -29,10 +29,8 @@ pub mod Laws
 pub mod ViableSteps
 pub mod ViableLists
 pub mod ViableOperands
-pub mod ViableLonger
 pub mod ViableExpressions
 pub mod ViableEffects
-pub mod ViableTaken
 pub mod ViableDeclarations
 pub mod ViableParams
 pub mod ViableBlocks

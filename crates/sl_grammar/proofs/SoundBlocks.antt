@@ -32,15 +32,15 @@ abbrev pub Finds : Reader (Tall Stmt) → ℕ → Type 0
 Finds inner room = (ts : List Token) (y : Took Stmt) → inner ts ≡ Ok y → FoundStmt room ts y.0 y.1
 
 -- items in their order
-items-written : (xs : List Item) → flat_map item_written xs ≡ items_written (items_from xs)
+pub items-written : (xs : List Item) → flat_map item_written xs ≡ items_written (items_from xs)
 items-written [] = refl
 items-written (x ∷ xs) = ap (λ (l : List Written). item_written x ++ l) (items-written xs)
 
-items-height : (xs : List Item) → items_height (items_from xs) ≡ highest item_height xs
+pub items-height : (xs : List Item) → items_height (items_from xs) ≡ highest item_height xs
 items-height [] = refl
 items-height (x ∷ xs) = ap (max (item_height x)) (items-height xs)
 
-are_items : (xs : List Item) → Each IsItem xs → AreItems (items_from xs)
+pub are_items : (xs : List Item) → Each IsItem xs → AreItems (items_from xs)
 are_items [] h = tt
 are_items (x ∷ xs) h = (h.0, are_items xs h.1)
 
@@ -100,7 +100,7 @@ module _ (inner : Reader (Tall Stmt)) (room : ℕ) (f : Finds inner room) where
       declared-part (container_declaration (room - 2) form) ts y (ltb-true 1 room high) (λ x read. container-part (room - 2) form ts x e read) h1)
   item-by _ ts y e h = states-part ts y h
 
-  item-part : Parts item_written IsItem item_height room (item room inner)
+  pub item-part : Parts item_written IsItem item_height room (item room inner)
   unfolding item
   item-part ts y h = item-by (kind_at ts) ts y refl h
 

@@ -48,7 +48,7 @@ int-by (k.Scalar c.Int) ts y e h = answered _ y (λ z. Spelled (plain (scalar_wo
 int-by (k.Scalar _) ts y e h = absurd cc
 int-by _ ts y e h = absurd cc
 
-int-took : (ts : List Token) (y : Unit {0} × List Token) → int ts ≡ Ok y → Spelled (plain (scalar_word c.Int) ∷ []) ts y.1
+pub int-took : (ts : List Token) (y : Unit {0} × List Token) → int ts ≡ Ok y → Spelled (plain (scalar_word c.Int) ∷ []) ts y.1
 unfolding int
 int-took ts y h = int-by (kind_at ts) ts y refl h
 
@@ -69,13 +69,28 @@ elements-took true ts y h =
     answered _ y P h5 (mark_plain m.Less ts u less
     ⨾ (int-took u.1 x one ⨾ (mark_plain m.Comma x.1 a comma ⨾ (int-took a.1 b two ⨾ mark_plain m.Greater b.1 v greater)))))))))
 
-type-took : (form : Form) (ts : List Token) (y : ContainerType × List Token) → kind_at ts ≡ k.Container form → container_type form ts ≡ Ok y
+pub type-took : (form : Form) (ts : List Token) (y : ContainerType × List Token) → kind_at ts ≡ k.Container form → container_type form ts ≡ Ok y
     → Spelled (container_written y.0) ts y.1
 unfolding container_type
 type-took form ts y e h =
     let P : ContainerType × List Token → Type 0 = λ z. Spelled (container_written z.0) ts z.1 in
     bound (elements_by (is_map form) (drop 1 ts)) _ y P h (λ u elements h1.
     answered _ y P h1 (one_word ts (k.Container form) (form_word form) e refl ⨾ elements-took (is_map form) (drop 1 ts) u elements))
+
+pub scalar-written : (place : Place) (scalar : Scalar) (x : Identifier) (v : Option Expr)
+    → at place (scalar_word scalar) ∷ s.named x ∷ option_written value_written v ≡ declaration_written (t.declares_scalar place scalar x v)
+scalar-written place scalar x None = refl
+scalar-written place scalar x (Some v) = refl
+
+-- what stands before the elements
+abbrev pub opening : Bool → List Written
+opening true = s.mark m.Equal ∷ s.mark m.LeftBrace ∷ []
+opening false = s.mark m.LeftBrace ∷ []
+
+pub braces-written : (equal : Bool) (xs : Exprs)
+    → opening equal ++ (list_written xs ++ s.mark m.RightBrace ∷ []) ≡ initializer_written (t.braces equal xs)
+braces-written true xs = refl
+braces-written false xs = refl
 
 module _ (room : ℕ) where
   value-part : Parts (option_written value_written) (IfThere IsExpr) (option_height height) room (optional_value room)
@@ -88,11 +103,6 @@ module _ (room : ℕ) where
       let found = expr-part room 1 (omega arith) (omega arith) (drop 1 ts) x read in
       answered _ y P h2 (record { spelled = seen m.Equal ts equal ⨾ found.spelled; fits = found.fits; size = found.size; low = found.low })))
       (λ bare h1. answered _ y P h1 (record { spelled = no_words ts; fits = tt; size = refl; low = omega arith }))
-
-  scalar-written : (place : Place) (scalar : Scalar) (x : Identifier) (v : Option Expr)
-      → at place (scalar_word scalar) ∷ s.named x ∷ option_written value_written v ≡ declaration_written (t.declares_scalar place scalar x v)
-  scalar-written place scalar x None = refl
-  scalar-written place scalar x (Some v) = refl
 
   pub scalar-part : (scalar : Scalar) (ts : List Token) (y : Took Declaration) → kind_at ts ≡ k.Scalar scalar
       → scalar_declaration room scalar ts ≡ Ok y
@@ -128,20 +138,10 @@ module _ (room : ℕ) where
         low = omega (arith, found.low);
       }))))
 
-  inner-part : (ts : List Token) (y : Took Expr) → expr room 1 ts ≡ Ok y → (0 < room) × Part written IsExpr height (room - 1) ts y.0 y.1
+  pub inner-part : (ts : List Token) (y : Took Expr) → expr room 1 ts ≡ Ok y → (0 < room) × Part written IsExpr height (room - 1) ts y.0 y.1
   inner-part ts y h =
       let found = sound room 1 ts y (omega arith) (omega arith) h in
       (found.0, found.1.part)
-
-  -- what stands before the elements
-  abbrev opening : Bool → List Written
-  opening true = s.mark m.Equal ∷ s.mark m.LeftBrace ∷ []
-  opening false = s.mark m.LeftBrace ∷ []
-
-  braces-written : (equal : Bool) (xs : Exprs)
-      → opening equal ++ (list_written xs ++ s.mark m.RightBrace ∷ []) ≡ initializer_written (t.braces equal xs)
-  braces-written true xs = refl
-  braces-written false xs = refl
 
   braces-part : (equal : Bool) (ts us : List Token) (y : Took Initializer) → Spelled (opening equal) ts us → braces room equal us ≡ Ok y
       → InitializerAt room ts y
@@ -256,7 +256,7 @@ container_param-part form ts y e h =
       low = omega arith;
     }))))
 
-by-took : (kind : Kind) (ts : List Token) (y : ContainerType × List Token) → kind_at ts ≡ kind → container_by kind ts ≡ Ok y
+pub by-took : (kind : Kind) (ts : List Token) (y : ContainerType × List Token) → kind_at ts ≡ kind → container_by kind ts ≡ Ok y
     → Spelled (container_written y.0) ts y.1
 by-took (k.Container form) ts y e h = type-took form ts y e h
 by-took _ ts y e h = absurd cc
@@ -282,15 +282,15 @@ param-by (k.Container form) ts y e h = container_param-part form ts y e h
 param-by k.Const ts y e h = const_param-part ts y e h
 param-by _ ts y e h = absurd cc
 
-param-part : Parts param_written AnyParam param_height 2 param
+pub param-part : Parts param_written AnyParam param_height 2 param
 unfolding param
 param-part ts y h = param-by (kind_at ts) ts y refl h
 
 -- a parameter behind a comma
-abbrev comma_written : Param → List Written
+abbrev pub comma_written : Param → List Written
 comma_written x = s.mark m.Comma ∷ param_written x
 
-comma-part : Parts comma_written AnyParam param_height 2 comma_param
+pub comma-part : Parts comma_written AnyParam param_height 2 comma_param
 comma-part ts y h =
     let P : Took Param → Type 0 = λ z. Part comma_written AnyParam param_height 2 ts z.0 z.1 in
     bound (mark m.Comma ts) _ y P h (λ u comma h1.

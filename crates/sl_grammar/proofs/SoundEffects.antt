@@ -25,16 +25,16 @@ use Rattle.sl_grammar.proofs.SoundExpressions.{sound, expr-part}
 use Rattle.sl_grammar.proofs.SoundSteps.{Took, bound, some_one, both, chosen, guarded, answered, ◌⨾◌, one_word, one_text, mark_plain, mark_rest, identifier_took, Part, Parts, behind}
 
 -- `>> x`
-abbrev name_written : Identifier → List Written
+abbrev pub name_written : Identifier → List Written
 name_written x = s.mark m.ShiftRight ∷ s.named x ∷ []
 
-abbrev Anything : Identifier → Type 0
+abbrev pub Anything : Identifier → Type 0
 Anything x = ⊤
 
-abbrev flat : Identifier → ℕ
+abbrev pub flat : Identifier → ℕ
 flat x = 0
 
-shifted_name-part : Parts name_written Anything flat 0 shifted_name
+pub shifted_name-part : Parts name_written Anything flat 0 shifted_name
 unfolding shifted_name
 shifted_name-part ts y h =
     let P : Took Identifier → Type 0 = λ z. Part name_written Anything flat 0 ts z.0 z.1 in
@@ -81,6 +81,18 @@ read-part room ts y e h =
       low = omega arith;
     }))))
 
+-- `<< x`
+abbrev pub shifted_written : Out → List Written
+shifted_written x = s.mark m.ShiftLeft ∷ out_written x
+
+pub is_input_kind : (kind : Kind) → is_input kind ≡ true → kind ≡ k.Input
+is_input_kind k.Input h = refl
+is_input_kind _ h = absurd (false≢true h)
+
+pub drop_twice : (ts : List Token) → drop 2 ts ≡ drop 1 (drop 1 ts)
+drop_twice [] = refl
+drop_twice (x ∷ ts) = refl
+
 module _ (room : ℕ) where
   value-out : (ts : List Token) (y : Took Expr) → expr room 5 ts ≡ Ok y → Part out_written IsOut out_height (room - 1) ts (t.value y.0.0, y.0.1) y.1
   value-out ts y h =
@@ -99,11 +111,7 @@ module _ (room : ℕ) where
       (record { spelled = one_word ts k.EndLine (w.Lib (codes "endl")) e refl; fits = tt; size = refl; low = omega arith })
   out-by _ ts y e h = value-part ts y h
 
-  -- `<< x`
-  abbrev shifted_written : Out → List Written
-  shifted_written x = s.mark m.ShiftLeft ∷ out_written x
-
-  shifted-part : Parts shifted_written IsOut out_height (room - 1) (shifted_out room)
+  pub shifted-part : Parts shifted_written IsOut out_height (room - 1) (shifted_out room)
   unfolding shifted_out
   shifted-part ts y h =
       let P : Took Out → Type 0 = λ z. Part shifted_written IsOut out_height (room - 1) ts z.0 z.1 in
@@ -129,7 +137,7 @@ module _ (room : ℕ) where
         low = omega (arith, above, first.size, first.low, others.size, others.low);
       }))))
 
-  assignment-mark : (kind : Kind) (op : Assignment) → assignment_of room kind ≡ Some op → kind ≡ k.Mark (assignment_mark op)
+  pub assignment-mark : (kind : Kind) (op : Assignment) → assignment_of room kind ≡ Some op → kind ≡ k.Mark (assignment_mark op)
   assignment-mark (k.Mark m.Equal) op h = ap (λ (o : Assignment). k.Mark (assignment_mark o)) (some_one h)
   assignment-mark (k.Mark m.PlusEqual) op h = ap (λ (o : Assignment). k.Mark (assignment_mark o)) (some_one h)
   assignment-mark (k.Mark m.MinusEqual) op h = ap (λ (o : Assignment). k.Mark (assignment_mark o)) (some_one h)
@@ -177,14 +185,6 @@ module _ (room : ℕ) where
   pub effect-part : Parts effect_written IsEffect effect_height room (effect room)
   unfolding effect
   effect-part ts y h = effect-by (kind_at ts) ts y refl h
-
-  is_input_kind : (kind : Kind) → is_input kind ≡ true → kind ≡ k.Input
-  is_input_kind k.Input h = refl
-  is_input_kind _ h = absurd (false≢true h)
-
-  drop_twice : (ts : List Token) → drop 2 ts ≡ drop 1 (drop 1 ts)
-  drop_twice [] = refl
-  drop_twice (x ∷ ts) = refl
 
   no_read-part : (ts : List Token) (y : Took Cond) → 1 < room → is_mark m.Not (kind_at ts) ≡ true → is_input (kind_at (drop 2 ts)) ≡ true
       → no_read room ts ≡ Ok y

@@ -147,7 +147,7 @@ module _ (inner smaller : ℕ → Reader (Tall Expr)) (room : ℕ) (f : Finds in
   operation-by (Some op) y first below goes e h = binary-longer op y first below goes e h
   operation-by None y first below goes e h = piece-by (kind_at us) y first below goes refl h
 
-  operation-longer : (y : Took Expr) → Left room 1 ts left us → left.1 < room → operation inner smaller room left us ≡ Ok y
+  pub operation-longer : (y : Took Expr) → Left room 1 ts left us → left.1 < room → operation inner smaller room left us ≡ Ok y
       → Longer (goes_on (kind_at us)) y
   unfolding operation
   operation-longer y first below h = operation-by (infix_of (kind_at us)) y first.part below first.goes refl h

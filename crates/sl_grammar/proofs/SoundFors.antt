@@ -30,44 +30,48 @@ use Rattle.sl_grammar.proofs.SoundSteps.{Took, bound, both, chosen, guarded, ans
 use Rattle.sl_grammar.proofs.SoundBlocks.{FoundStmt, Finds}
 
 -- what stands before the first `;` of a `for`
-abbrev head_written : Place → Option First → List Written
+abbrev pub head_written : Place → Option First → List Written
 head_written place first = at place (w.Key (codes "for")) ∷ s.mark m.LeftParenthesis ∷ option_written first_written first
 
 -- the word of a type, where None is `auto`
-abbrev type_word : Option Scalar → Word
+abbrev pub type_word : Option Scalar → Word
 type_word None = w.Key (codes "auto")
 type_word (Some scalar) = scalar_word scalar
 
-abbrev type_kind : Option Scalar → Kind
+abbrev pub type_kind : Option Scalar → Kind
 type_kind None = k.Auto
 type_kind (Some scalar) = k.Scalar scalar
 
-type-fixed : (type : Option Scalar) → fixed (type_kind type) ≡ Some (type_word type)
+pub type-fixed : (type : Option Scalar) → fixed (type_kind type) ≡ Some (type_word type)
 type-fixed None = refl
 type-fixed (Some scalar) = refl
 
 -- a type that a range-for's variable may have
-element-word : (type : Option Scalar) → ranges type ≡ true → type_word type ≡ element_word (is_auto type)
+pub element-word : (type : Option Scalar) → ranges type ≡ true → type_word type ≡ element_word (is_auto type)
 element-word None h = refl
 element-word (Some c.Int) h = refl
 element-word (Some _) h = absurd (false≢true h)
 
 -- a first part that declares a variable
-first-written : (type : Option Scalar) (place : Place) (x : Identifier) (v : Expr)
+pub first-written : (type : Option Scalar) (place : Place) (x : Identifier) (v : Expr)
     → at place (type_word type) ∷ s.named x ∷ value_written v ≡ first_written (first_of type place x v)
 first-written None place x v = refl
 first-written (Some scalar) place x v = refl
 
-first-fits : (type : Option Scalar) (place : Place) (x : Identifier) (v : Expr) → IsExpr v → IsFirst (first_of type place x v)
+pub first-fits : (type : Option Scalar) (place : Place) (x : Identifier) (v : Expr) → IsExpr v → IsFirst (first_of type place x v)
 first-fits None place x v h = h
 first-fits (Some scalar) place x v h = h
 
-first-height : (type : Option Scalar) (place : Place) (x : Identifier) (v : Expr) → first_height (first_of type place x v) ≡ height v + 1
+pub first-height : (type : Option Scalar) (place : Place) (x : Identifier) (v : Expr) → first_height (first_of type place x v) ≡ height v + 1
 first-height None place x v = refl
 first-height (Some scalar) place x v = refl
 
+-- what stands before the first part
+abbrev pub opened_written : Place → List Written
+opened_written place = at place (w.Key (codes "for")) ∷ s.mark m.LeftParenthesis ∷ []
+
 module _ (inner : Reader (Tall Stmt)) (room : ℕ) (f : Finds inner room) where
-  cond-option : Parts (option_written cond_written) (IfThere IsCond) (option_height cond_height) room (optional_cond inner room)
+  pub cond-option : Parts (option_written cond_written) (IfThere IsCond) (option_height cond_height) room (optional_cond inner room)
   unfolding optional_cond
   cond-option ts y h =
       let P : Took (Option Cond) → Type 0 = λ z. Part (option_written cond_written) (IfThere IsCond) (option_height cond_height) room ts z.0 z.1 in
@@ -78,7 +82,7 @@ module _ (inner : Reader (Tall Stmt)) (room : ℕ) (f : Finds inner room) where
       let found = cond-part room ts x read in
       answered _ y P h2 (record { spelled = found.spelled; fits = found.fits; size = found.size; low = found.low })))
 
-  effect-option : Parts (option_written effect_written) (IfThere IsEffect) (option_height effect_height) room (optional_effect inner room)
+  pub effect-option : Parts (option_written effect_written) (IfThere IsEffect) (option_height effect_height) room (optional_effect inner room)
   unfolding optional_effect
   effect-option ts y h =
       let P : Took (Option Effect) → Type 0 =
@@ -115,10 +119,6 @@ module _ (inner : Reader (Tall Stmt)) (room : ℕ) (f : Finds inner room) where
         };
         closed = body.closed;
       })))))))
-
-  -- what stands before the first part
-  abbrev opened_written : Place → List Written
-  opened_written place = at place (w.Key (codes "for")) ∷ s.mark m.LeftParenthesis ∷ []
 
   range-found : (type : Option Scalar) (ts us : List Token) (x : Identifier × List Token) (y : Took Stmt) → Spelled (opened_written (here ts)) ts us
       → kind_at us ≡ type_kind type → identifier (drop 1 us) ≡ Ok x → ranges type ≡ true

@@ -16,18 +16,18 @@ use Rattle.sl_grammar.specs.Steps.{Reader, Tall, kind_at, is_mark, mark, all_beh
 use Rattle.sl_grammar.proofs.SoundSteps.{Took, bound, chosen, guarded, answered, ◌⨾◌, no_words, respelled, mark_plain, Part, Parts, behind, some_items}
 
 -- a list behind its first expression
-abbrev comma_written : Expr → List Written
+abbrev pub comma_written : Expr → List Written
 comma_written x = s.mark m.Comma ∷ written x
 
-rest-written : (xs : List Expr) → flat_map comma_written xs ≡ rest_written (exprs_from xs)
+pub rest-written : (xs : List Expr) → flat_map comma_written xs ≡ rest_written (exprs_from xs)
 rest-written [] = refl
 rest-written (x ∷ xs) = ap (λ (l : List Written). s.mark m.Comma ∷ (written x ++ l)) (rest-written xs)
 
-rest-height : (xs : List Expr) → rest_height (exprs_from xs) ≡ highest height xs
+pub rest-height : (xs : List Expr) → rest_height (exprs_from xs) ≡ highest height xs
 rest-height [] = refl
 rest-height (x ∷ xs) = ap (max (height x)) (rest-height xs)
 
-are_exprs : (xs : List Expr) → Each IsExpr xs → AreExprs (exprs_from xs)
+pub are_exprs : (xs : List Expr) → Each IsExpr xs → AreExprs (exprs_from xs)
 are_exprs [] h = tt
 are_exprs (x ∷ xs) h = (h.0, are_exprs xs h.1)
 
@@ -49,7 +49,7 @@ ListAt room ts y = Part list_written AreExprs list_height room ts y.0 y.1
 -- expressions that are read by one, and by more behind a comma, one node deeper
 module _ (one more : Reader (Tall Expr)) (room : ℕ) (f : Parts written IsExpr height room one)
     (g : (ts : List Token) (y : Took Expr) → more ts ≡ Ok y → (0 < room) × Part written IsExpr height (room - 1) ts y.0 y.1) where
-  comma-part : Parts comma_written IsExpr height (room - 1) (comma_expr one more room)
+  pub comma-part : Parts comma_written IsExpr height (room - 1) (comma_expr one more room)
   comma-part ts y h =
       let P : Took Expr → Type 0 = λ z. Part comma_written IsExpr height (room - 1) ts z.0 z.1 in
       bound (mark m.Comma ts) _ y P h (λ u comma h1.

@@ -22,11 +22,11 @@ use Rattle.sl_grammar.proofs.SoundBlocks.{FoundStmt, Finds, braced-part, conditi
 use Rattle.sl_grammar.proofs.SoundFors.{for-found}
 
 -- where no `else` follows what may end in an open `if`, and one follows, it doesn't
-not_open : (open_end next : Bool) → (open_end ≡ true → next ≡ false) → next ≡ true → open_end ≡ false
+pub not_open : (open_end next : Bool) → (open_end ≡ true → next ≡ false) → next ≡ true → open_end ≡ false
 not_open true next h e = absurd (false≢true (sym (h refl) ∙ e))
 not_open false next h e = refl
 
-is_else_kind : (kind : Kind) → is_else kind ≡ true → kind ≡ k.Else
+pub is_else_kind : (kind : Kind) → is_else kind ≡ true → kind ≡ k.Else
 is_else_kind k.Else h = refl
 is_else_kind _ h = absurd (false≢true h)
 

@@ -1,7 +1,7 @@
 -- Where an effect or a condition stops at a fault, the tokens before it begin one.
-use Rattle.std.proofs.Common.{◌≡◌, ℕ, ◌+◌, ◌-◌, ◌<◌, ◌≤◌, length, true, List, [], ◌∷◌, ◌++◌, Option, Some, None, Ok, Err, refl, sym, ap, ◌∙◌, arith, drop}
+use Rattle.std.proofs.Common.{◌≡◌, ℕ, ◌+◌, ◌-◌, ◌<◌, ◌≤◌, length, true, List, [], ◌∷◌, ◌++◌, Option, Some, None, Err, refl, sym, ap, ◌∙◌, arith, drop}
 use Rattle.std.specs.Prelude.{nat_lt, ◌&&◌, codes}
-use Rattle.std.proofs.lemmas.Bool.{ltb-true, false≢true}
+use Rattle.std.proofs.lemmas.Bool.{ltb-true}
 use Rattle.sl_base.specs.declared.mark.Mark.TheVariants as m
 use Rattle.sl_base.specs.declared.token.Token.{Token}
 use Rattle.sl_base.specs.declared.word.Word.TheVariants as w
@@ -23,34 +23,11 @@ use Rattle.sl_grammar.specs.Effects as effects
 use Rattle.sl_grammar.specs.Expressions.{expr}
 use Rattle.sl_grammar.specs.Steps.{Tall, kind_at, here, is_mark, mark, identifier, all_behind}
 use Rattle.sl_grammar.proofs.KindLaws.{is_mark_kind}
-use Rattle.sl_grammar.proofs.SoundEffects.{read-part}
-use Rattle.sl_grammar.proofs.SoundExpressions.{sound, expr-part}
-use Rattle.sl_grammar.proofs.SoundSteps.{Took, Spelled, bound, some_one, both, answered, ◌⨾◌, one_word, one_text, mark_plain, mark_rest, identifier_took, Part, Parts}
+use Rattle.sl_grammar.proofs.SoundEffects.{read-part, name_written, Anything, flat, shifted_name-part, shifted_written, shifted-part, assignment-mark, is_input_kind, drop_twice}
+use Rattle.sl_grammar.proofs.SoundExpressions.{expr-part}
+use Rattle.sl_grammar.proofs.SoundSteps.{Spelled, both, one_word, mark_plain, mark_rest, Part}
 use Rattle.sl_grammar.proofs.ViableExpressions.{expr-viable, expr-stops}
 use Rattle.sl_grammar.proofs.ViableSteps.{Viable, viable, begun, at_once, ◌⨠◌, unfinished, ended, some_name, some_expr, faulted, either, tested, no_fault, mark_fault, identifier_fault, Stops, behind-viable}
-
--- `>> x`
-abbrev name_written : Identifier → List Written
-name_written x = s.mark m.ShiftRight ∷ s.named x ∷ []
-
-abbrev Anything : Identifier → Type 0
-Anything x = Unit {0}
-
-abbrev flat : Identifier → ℕ
-flat x = 0
-
-shifted_name-part : Parts name_written Anything flat 0 shifted_name
-unfolding shifted_name
-shifted_name-part ts y h =
-    let P : Took Identifier → Type 0 = λ z. Part name_written Anything flat 0 ts z.0 z.1 in
-    bound (mark m.ShiftRight ts) _ y P h (λ u shift h1.
-    bound (identifier u.1) _ y P h1 (λ x name h2.
-    answered _ y P h2 (record {
-      spelled = mark_plain m.ShiftRight ts u shift ⨾ identifier_took u.1 x name;
-      fits = tt;
-      size = refl;
-      low = omega arith;
-    })))
 
 shifted_name-stops : Stops name_written Anything flat 0 shifted_name
 unfolding shifted_name
@@ -107,26 +84,6 @@ module _ (room : ℕ) where
   no_cond : (ts : List Token) (n : ℕ) → length ts ≡ n → Viable CondLow cond_written ts n
   no_cond ts n e = viable (t.tests some_expr) (tt, omega arith) (at_once (cond_written (t.tests some_expr)) ts n e)
 
-  value-part : (ts : List Token) (y : Took Out) → out_by room k.End ts ≡ Ok y → Part out_written IsOut out_height (room - 1) ts y.0 y.1
-  value-part ts y h =
-      let P : Took Out → Type 0 = λ z. Part out_written IsOut out_height (room - 1) ts z.0 z.1 in
-      bound (expr room 5 ts) _ y P h (λ x read h1.
-      let found = sound room 5 ts x (omega arith) (omega arith) read in
-      answered _ y P h1 (record {
-        spelled = found.1.part.spelled;
-        fits = (found.1.tight, found.1.part.fits);
-        size = found.1.part.size;
-        low = found.1.part.low;
-      }))
-
-  out-by : (kind : Kind) (ts : List Token) (y : Took Out) → kind_at ts ≡ kind → out_by room kind ts ≡ Ok y
-      → Part out_written IsOut out_height (room - 1) ts y.0 y.1
-  out-by k.Text ts y e h = answered _ y (λ z. Part out_written IsOut out_height (room - 1) ts z.0 z.1) h
-      (record { spelled = one_text ts e; fits = tt; size = refl; low = omega arith })
-  out-by k.EndLine ts y e h = answered _ y (λ z. Part out_written IsOut out_height (room - 1) ts z.0 z.1) h
-      (record { spelled = one_word ts k.EndLine (w.Lib (codes "endl")) e refl; fits = tt; size = refl; low = omega arith })
-  out-by _ ts y e h = value-part ts y h
-
   -- an item that is less high than the room
   abbrev OutLow : Out → Type 0
   OutLow x = IsOut x × (out_height x ≤ room - 1)
@@ -144,18 +101,6 @@ module _ (room : ℕ) where
   out-viable high k.Text ts n h = no_fault _ n (Viable OutLow out_written ts n) h
   out-viable high k.EndLine ts n h = no_fault _ n (Viable OutLow out_written ts n) h
   out-viable high _ ts n h = value-out high ts n h
-
-  -- `<< x`
-  abbrev shifted_written : Out → List Written
-  shifted_written x = s.mark m.ShiftLeft ∷ out_written x
-
-  shifted-part : Parts shifted_written IsOut out_height (room - 1) (shifted_out room)
-  unfolding shifted_out
-  shifted-part ts y h =
-      let P : Took Out → Type 0 = λ z. Part shifted_written IsOut out_height (room - 1) ts z.0 z.1 in
-      bound (mark m.ShiftLeft ts) _ y P h (λ u shift h1.
-      let found = out-by (kind_at u.1) u.1 y refl h1 in
-      record { spelled = mark_plain m.ShiftLeft ts u shift ⨾ found.spelled; fits = found.fits; size = found.size; low = found.low })
 
   shifted-stops : 0 < room → Stops shifted_written IsOut out_height (room - 1) (shifted_out room)
   unfolding shifted_out
@@ -181,25 +126,16 @@ module _ (room : ℕ) where
       viable (t.prints (here ts) (v.tree ∷ [])) ((omega arith, (v.fits.0, tt)), omega (arith, above, v.fits.1))
       (output ⨠ unfinished (begun v) []))
       (λ x one h2.
-      let first = shifted-part (drop 1 ts) x one in
+      let first = shifted-part room (drop 1 ts) x one in
       faulted (all_behind (is_mark m.ShiftLeft) (shifted_out room) (x.0.0 ∷ [], x.0.1) x.1) _ n P h2
       (λ h3.
-      let v = behind-viable shifted_written IsOut out_height (room - 1) (is_mark m.ShiftLeft) (shifted_out room) shifted-part
+      let v = behind-viable shifted_written IsOut out_height (room - 1) (is_mark m.ShiftLeft) (shifted_out room) (shifted-part room)
       (shifted-stops above) (x.0.0 ∷ [], x.0.1) x.1 n h3 in
       viable (t.prints (here ts) (x.0.0 ∷ v.tree))
       ((omega arith, (first.fits, v.fits.0)), omega (arith, above, first.size, first.low, v.fits.1))
       (output ⨠ first.spelled ⨠ begun v))
       (λ xs more h3. no_fault _ n P h3)))
       (λ _ e1. no_effect ts n e1)
-
-  assignment-mark : (kind : Kind) (op : Assignment) → assignment_of room kind ≡ Some op → kind ≡ k.Mark (assignment_mark op)
-  assignment-mark (k.Mark m.Equal) op h = ap (λ (o : Assignment). k.Mark (assignment_mark o)) (some_one h)
-  assignment-mark (k.Mark m.PlusEqual) op h = ap (λ (o : Assignment). k.Mark (assignment_mark o)) (some_one h)
-  assignment-mark (k.Mark m.MinusEqual) op h = ap (λ (o : Assignment). k.Mark (assignment_mark o)) (some_one h)
-  assignment-mark (k.Mark m.StarEqual) op h = ap (λ (o : Assignment). k.Mark (assignment_mark o)) (some_one h)
-  assignment-mark (k.Mark m.SlashEqual) op h = ap (λ (o : Assignment). k.Mark (assignment_mark o)) (some_one h)
-  assignment-mark (k.Mark m.PercentEqual) op h = ap (λ (o : Assignment). k.Mark (assignment_mark o)) (some_one h)
-  assignment-mark _ op h = absurd cc
 
   assigned-by : (op : Option Assignment) (ts us : List Token) (left : Tall Expr) (n : ℕ) → Part written IsExpr height room ts left us
       → assignment_of room (kind_at us) ≡ op → assigned_by room left op us ≡ Err (Grammar n) → Viable EffectLow effect_written ts n
@@ -212,7 +148,7 @@ module _ (room : ℕ) where
       (λ h2.
       let v = expr-viable room 1 (drop 1 us) n (omega arith) (omega arith) (omega arith) h2 in
       viable (t.assigns left.0 op (here us) v.tree) ((first.fits, v.fits.0), omega (arith, lower, first.size, v.fits.1))
-      (first.spelled ⨠ one_word us (k.Mark (assignment_mark op)) (w.Mark (assignment_mark op)) (assignment-mark (kind_at us) op e) refl ⨠ begun v))
+      (first.spelled ⨠ one_word us (k.Mark (assignment_mark op)) (w.Mark (assignment_mark op)) (assignment-mark room (kind_at us) op e) refl ⨠ begun v))
       (λ x read h2. no_fault _ n P h2))
       (λ _ e1. viable (t.evaluates left.0) (first.fits, omega (arith, first.size, first.low)) (ended first.spelled e1))
   assigned-by None ts us left n first e h = no_fault _ n (Viable EffectLow effect_written ts n) h
@@ -250,14 +186,6 @@ module _ (room : ℕ) where
       (λ r reads h1. no_fault _ n P h1)
   effect-by k.Output ts n e h = print-viable ts n e h
   effect-by _ ts n e h = value-effect ts n h
-
-  is_input_kind : (kind : Kind) → is_input kind ≡ true → kind ≡ k.Input
-  is_input_kind k.Input h = refl
-  is_input_kind _ h = absurd (false≢true h)
-
-  drop_twice : (ts : List Token) → drop 2 ts ≡ drop 1 (drop 1 ts)
-  drop_twice [] = refl
-  drop_twice (x ∷ ts) = refl
 
   no_read-viable : (ts : List Token) (n : ℕ) → 1 < room → is_mark m.Not (kind_at ts) ≡ true → is_input (kind_at (drop 2 ts)) ≡ true
       → no_read room ts ≡ Err (Grammar n) → Viable CondLow cond_written ts n

@@ -18,10 +18,9 @@ use Rattle.sl_syntax.specs.Written.{binary_mark, written}
 use Rattle.sl_grammar.specs.declared.fault.Fault.TheVariants.{Grammar}
 use Rattle.sl_grammar.specs.Expressions.{infix_of, binds_or, piece_level, goes_on, arguments, operand, indexed, dotted, pointed, piece_by, piece, combined, operation_by, operation, climb, from_operand, expr}
 use Rattle.sl_grammar.specs.Steps.{Reader, Tall, kind_at, here, is_mark, mark, identifier}
-use Rattle.sl_grammar.proofs.SoundExpressions.{sound}
+use Rattle.sl_grammar.proofs.SoundExpressions.{sound, operation-longer}
 use Rattle.sl_grammar.proofs.SoundOperands.{Left, Finds, binary-low, infix-mark, operand-left}
 use Rattle.sl_grammar.proofs.SoundSteps.{one_word, one_plain, identifier_took, Part}
-use Rattle.sl_grammar.proofs.ViableLonger.{operation-longer}
 use Rattle.sl_grammar.proofs.ViableOperands.{Tight, Lower, StopsIn, arguments-viable, operand-viable}
 use Rattle.sl_grammar.proofs.ViableSteps.{Viable, viable, begun, refitted, at_once, ◌⨠◌, unfinished, ended, some_name, faulted, either, tested, one_fault, no_fault, mark_fault, identifier_fault, Stops}
 

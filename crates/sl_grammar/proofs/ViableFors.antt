@@ -1,5 +1,5 @@
 -- The words before a fault in a `for` begin one.
-use Rattle.std.proofs.Common.{Err, List, None, Ok, Option, Some, [], ap, arith, drop, length, refl, true, ℕ, ◌++◌, ◌+◌, ◌<◌, ◌∙◌, ◌∷◌, ◌≡◌, ◌≤◌}
+use Rattle.std.proofs.Common.{Err, List, None, Ok, Option, Some, ap, arith, drop, length, refl, true, ℕ, ◌++◌, ◌+◌, ◌<◌, ◌∙◌, ◌∷◌, ◌≡◌, ◌≤◌}
 use Rattle.std.proofs.lemmas.Bool.{ltb-true}
 use Rattle.std.specs.Prelude.{codes, nat_lt, ◌&&◌}
 use Rattle.sl_base.specs.declared.mark.Mark.TheVariants as m
@@ -30,14 +30,7 @@ use Rattle.sl_grammar.proofs.ViableBlocks.{Faults, LowStmt, inner-stops, some_st
 use Rattle.sl_grammar.proofs.ViableEffects.{cond-viable, effect-viable}
 use Rattle.sl_grammar.proofs.ViableExpressions.{expr-viable}
 use Rattle.sl_grammar.proofs.ViableSteps.{Begun, Stops, Viable, at_once, begun, either, faulted, identifier_fault, mark_fault, no_fault, rewritten, some_expr, some_name, tested, unfinished, viable, ◌⨠◌}
-use Rattle.sl_grammar.proofs.ViableTaken.{cond-option, effect-option, element-word, first-fits, first-height, first-written, type-fixed, type_kind, type_word}
-
--- what stands before the first part, and before the first `;`
-abbrev opened_written : Place → List Written
-opened_written place = at place (w.Key (codes "for")) ∷ s.mark m.LeftParenthesis ∷ []
-
-abbrev head_written : Place → Option First → List Written
-head_written place first = at place (w.Key (codes "for")) ∷ s.mark m.LeftParenthesis ∷ option_written first_written first
+use Rattle.sl_grammar.proofs.SoundFors.{cond-option, effect-option, element-word, first-fits, first-height, first-written, type-fixed, type_kind, type_word, head_written, opened_written}
 
 -- what may stand behind the first part
 abbrev others_written : List Written

@@ -23,7 +23,7 @@ use Rattle.sl_grammar.specs.Steps.{Reader, Tall, here, is_mark, kind_at, mark}
 use Rattle.sl_grammar.proofs.SoundBlocks.{Finds, condition-part, condition_written, tested-written}
 use Rattle.sl_grammar.proofs.SoundEffects.{effect-part}
 use Rattle.sl_grammar.proofs.SoundExpressions.{expr-part}
-use Rattle.sl_grammar.proofs.SoundStatements.{stmt-sound}
+use Rattle.sl_grammar.proofs.SoundStatements.{stmt-sound, is_else_kind, not_open}
 use Rattle.sl_grammar.proofs.SoundSteps.{one_plain, one_word}
 use Rattle.sl_grammar.proofs.ViableBlocks.{Faults, LowStmt, braced-begun, condition-begun, inner-stops, some_stmt}
 use Rattle.sl_grammar.proofs.ViableDeclarations.{value-stops}
@@ -31,7 +31,6 @@ use Rattle.sl_grammar.proofs.ViableEffects.{effect-viable}
 use Rattle.sl_grammar.proofs.ViableFors.{for-begun}
 use Rattle.sl_grammar.proofs.ViableSteps as steps
 use Rattle.sl_grammar.proofs.ViableSteps.{Begun, Viable, at_once, begun, either, faulted, mark_fault, no_fault, one_fault, rewritten, unfinished, viable, ◌⨠◌}
-use Rattle.sl_grammar.proofs.ViableTaken.{is_else_kind, not_open}
 
 -- the place of the first word is none of the words
 placed-begun : {xs : List Written} {ts : List Token} {n : ℕ} (place : Place) → Begun xs ts n → Begun (from_place place xs) ts n
