@@ -15,7 +15,8 @@ use Rattle.sl_grammar.specs.Steps.{Reader, Tall, kind_at, mark, all_behind}
 use Rattle.sl_grammar.proofs.CompleteBegins.{stmt-begins, item-begins, item-not_else, item-goes_on, item-some, declaration-height_some, declared-kind, stated-kind}
 use Rattle.sl_grammar.proofs.CompleteDeclarations.{declaration-complete}
 use Rattle.sl_grammar.proofs.CompleteLists.{zero-max}
-use Rattle.sl_grammar.proofs.CompleteSteps.{Spelled, split, at_word, plain_word, Turn, row, all-row}
+use Rattle.sl_grammar.proofs.CompleteSteps.{Turn, row, all-row}
+use Rattle.sl_grammar.proofs.Spelling.{Spelled, split, at_word, plain_word}
 
 -- statements that are at most so high are read as they are
 pub record ReadsStmts (room : ℕ) (reader : Reader (Tall Stmt)) : Type 0 where

@@ -22,7 +22,8 @@ use Rattle.sl_grammar.specs.Expressions.{expr}
 use Rattle.sl_grammar.specs.Steps.{and_then, ◌>>=◌, pure, kind_at, is_mark, mark, identifier, all_behind}
 use Rattle.sl_grammar.proofs.CompleteExpressions.{expr-complete, whole-complete}
 use Rattle.sl_grammar.proofs.CompleteKinds.{Ends, assignment-mark, assignment-ends, begins_expr, expr-begins, expr-some}
-use Rattle.sl_grammar.proofs.CompleteSteps.{Spelled, split, at_word, plain_word, Turn, row, all-row}
+use Rattle.sl_grammar.proofs.CompleteSteps.{Turn, row, all-row}
+use Rattle.sl_grammar.proofs.Spelling.{Spelled, split, at_word, plain_word}
 
 -- what follows an effect or a condition
 pub record EndsEffect (kind : Kind) : Type 0 where

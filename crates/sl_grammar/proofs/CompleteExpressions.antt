@@ -25,7 +25,7 @@ use Rattle.sl_grammar.specs.Expressions.{goes_on, arguments, library_call, paren
 use Rattle.sl_grammar.specs.Steps.{Reader, Tall, kind_at, is_mark, mark, identifier, library}
 use Rattle.sl_grammar.proofs.CompleteKinds.{Ends, truth-kind, infix-mark, binary-level, binary-level_some, binary-not_call, sign-level}
 use Rattle.sl_grammar.proofs.CompleteLists.{ReadsWhole, parenthesis-close, list_before-reads}
-use Rattle.sl_grammar.proofs.CompleteSteps.{token, Spelled, split, at_word, plain_word}
+use Rattle.sl_grammar.proofs.Spelling.{token, Spelled, split, at_word, plain_word}
 
 pub level-some : (r : Expr) → 1 ≤ level r
 level-some (t.binary x op place y) = binary-level_some op

@@ -24,7 +24,7 @@ use Rattle.sl_syntax.specs.Written.{binary_mark, prefix_mark, assignment_mark, t
 use Rattle.sl_grammar.specs.Effects.{assignment_of}
 use Rattle.sl_grammar.specs.Expressions.{infix_of, goes_on}
 use Rattle.sl_grammar.specs.Steps.{kind_at, is_mark}
-use Rattle.sl_grammar.proofs.CompleteSteps.{Spelled, split, at_word}
+use Rattle.sl_grammar.proofs.Spelling.{Spelled, split, at_word}
 
 pub truth-kind : (v : Bool) → kind_of (truth_word v) ≡ k.Truth v
 truth-kind true = refl

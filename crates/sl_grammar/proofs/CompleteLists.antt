@@ -15,7 +15,8 @@ use Rattle.sl_syntax.specs.Written as v
 use Rattle.sl_grammar.specs.Expressions.{comma_expr, list_behind, list, list_before}
 use Rattle.sl_grammar.specs.Steps.{Reader, Tall, kind_at, is_mark, all_behind, mark}
 use Rattle.sl_grammar.proofs.CompleteKinds.{Ends, begins_expr, expr-begins}
-use Rattle.sl_grammar.proofs.CompleteSteps.{Spelled, split, plain_word, Turn, row, all-row}
+use Rattle.sl_grammar.proofs.CompleteSteps.{Turn, row, all-row}
+use Rattle.sl_grammar.proofs.Spelling.{Spelled, split, plain_word}
 
 -- a whole expression that is less high than this is read as it is
 pub record ReadsWhole (bound : ℕ) (reader : Reader (Tall Expr)) : Type 0 where

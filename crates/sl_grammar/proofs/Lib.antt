@@ -1,4 +1,6 @@
 mod Examples
+pub mod KindLaws
+pub mod Spelling
 pub mod CompleteSteps
 pub mod CompleteKinds
 pub mod CompleteLists
@@ -14,7 +16,6 @@ pub mod NearExpressions
 pub mod NearDeclarations
 pub mod NearEffects
 pub mod NearStatements
-pub mod KindLaws
 pub mod SoundSteps
 pub mod SoundLists
 pub mod SoundOperands

@@ -25,7 +25,8 @@ use Rattle.sl_grammar.specs.Expressions.{expr, list, list_before}
 use Rattle.sl_grammar.specs.Steps.{kind_at, here, is_mark, mark, identifier}
 use Rattle.sl_grammar.proofs.SoundExpressions.{sound, expr-part}
 use Rattle.sl_grammar.proofs.SoundLists.{list-part, list-before-part}
-use Rattle.sl_grammar.proofs.SoundSteps.{Took, bound, chosen, guarded, answered, Spelled, ◌⨾◌, no_words, respelled, one_word, one_plain, seen, mark_plain, identifier_took, Part, Parts, behind}
+use Rattle.sl_grammar.proofs.SoundSteps.{Took, bound, chosen, guarded, answered, one_word, one_plain, seen, mark_plain, identifier_took, Part, Parts, behind}
+use Rattle.sl_grammar.proofs.Spelling.{Spelled, ◌⨾◌, no_words, respelled}
 
 -- of a parameter nothing more is asked
 abbrev pub AnyParam : Param → Type 0

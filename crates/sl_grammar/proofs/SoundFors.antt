@@ -26,8 +26,9 @@ use Rattle.sl_grammar.specs.Steps.{Reader, Tall, kind_at, here, is_mark, mark, i
 use Rattle.sl_grammar.proofs.KindLaws.{fixed}
 use Rattle.sl_grammar.proofs.SoundEffects.{effect-part, cond-part}
 use Rattle.sl_grammar.proofs.SoundExpressions.{sound}
-use Rattle.sl_grammar.proofs.SoundSteps.{Took, bound, both, chosen, guarded, answered, Spelled, ◌⨾◌, no_words, respelled, one_word, one_plain, mark_plain, identifier_took, Part, Parts}
+use Rattle.sl_grammar.proofs.SoundSteps.{Took, bound, both, chosen, guarded, answered, one_word, one_plain, mark_plain, identifier_took, Part, Parts}
 use Rattle.sl_grammar.proofs.SoundBlocks.{FoundStmt, Finds}
+use Rattle.sl_grammar.proofs.Spelling.{Spelled, ◌⨾◌, no_words, respelled}
 
 -- what stands before the first `;` of a `for`
 abbrev pub head_written : Place → Option First → List Written

@@ -13,7 +13,8 @@ use Rattle.sl_syntax.specs.Written as s
 use Rattle.sl_syntax.specs.Written.{Written, at, binary_mark, prefix_mark, postfix_mark, written, list_written, rest_written}
 use Rattle.sl_grammar.specs.Expressions.{comma_expr, list_behind, list, list_before}
 use Rattle.sl_grammar.specs.Steps.{Reader, Tall, kind_at, is_mark, mark, all_behind}
-use Rattle.sl_grammar.proofs.SoundSteps.{Took, bound, chosen, guarded, answered, ◌⨾◌, no_words, respelled, mark_plain, Part, Parts, behind, some_items}
+use Rattle.sl_grammar.proofs.SoundSteps.{Took, bound, chosen, guarded, answered, mark_plain, Part, Parts, behind, some_items}
+use Rattle.sl_grammar.proofs.Spelling.{◌⨾◌, no_words, respelled}
 
 -- a list behind its first expression
 abbrev pub comma_written : Expr → List Written

@@ -17,9 +17,10 @@ use Rattle.sl_grammar.specs.Statements.{is_else, braced, block, condition, other
 use Rattle.sl_grammar.specs.Steps.{Reader, Tall, kind_at, is_mark, mark}
 use Rattle.sl_grammar.proofs.SoundEffects.{effect-part}
 use Rattle.sl_grammar.proofs.SoundExpressions.{expr-part}
-use Rattle.sl_grammar.proofs.SoundSteps.{Took, bound, chosen, guarded, answered, ◌⨾◌, respelled, one_word, one_plain, seen, mark_plain, begun}
+use Rattle.sl_grammar.proofs.SoundSteps.{Took, bound, chosen, guarded, answered, one_word, one_plain, seen, mark_plain}
 use Rattle.sl_grammar.proofs.SoundBlocks.{FoundStmt, Finds, braced-part, condition-part, tested-written}
 use Rattle.sl_grammar.proofs.SoundFors.{for-found}
+use Rattle.sl_grammar.proofs.Spelling.{◌⨾◌, respelled, begun}
 
 -- where no `else` follows what may end in an open `if`, and one follows, it doesn't
 pub not_open : (open_end next : Bool) → (open_end ≡ true → next ≡ false) → next ≡ true → open_end ≡ false

@@ -23,10 +23,11 @@ use Rattle.sl_grammar.specs.Steps.{Reader, Tall, all_behind, here, kind_at, mark
 use Rattle.sl_grammar.proofs.SoundBlocks.{Finds, IsBlock, block_height, block_written, condition_written, are_items, item-part, items-height, items-written}
 use Rattle.sl_grammar.proofs.SoundDeclarations.{auto-part, container-part, scalar-part}
 use Rattle.sl_grammar.proofs.SoundEffects.{cond-part}
-use Rattle.sl_grammar.proofs.SoundSteps.{Part, Took, behind, mark_here, mark_plain, respelled}
+use Rattle.sl_grammar.proofs.SoundSteps.{Part, Took, behind, mark_here, mark_plain}
 use Rattle.sl_grammar.proofs.ViableDeclarations.{LowDeclaration, auto-begun, container-begun, scalar-begun}
 use Rattle.sl_grammar.proofs.ViableEffects.{cond-viable}
 use Rattle.sl_grammar.proofs.ViableSteps.{Begun, Low, Stops, Viable, at_once, begun, either, faulted, mark_fault, no_fault, one_fault, rewritten, some_expr, tested, unfinished, viable, ◌⨠◌}
+use Rattle.sl_grammar.proofs.Spelling.{respelled}
 
 -- a statement that follows the grammar and is at most so high
 abbrev pub LowStmt : ℕ → Stmt → Type 0

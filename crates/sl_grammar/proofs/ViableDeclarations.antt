@@ -23,11 +23,12 @@ use Rattle.sl_grammar.specs.Expressions.{expr, list, list_before}
 use Rattle.sl_grammar.specs.Steps.{here, identifier, is_mark, kind_at, mark}
 use Rattle.sl_grammar.proofs.SoundExpressions.{expr-part}
 use Rattle.sl_grammar.proofs.SoundLists.{list-before-part, list-part}
-use Rattle.sl_grammar.proofs.SoundSteps.{Parts, Spelled, identifier_took, mark_plain, one_plain, one_word, seen, ◌⨾◌}
+use Rattle.sl_grammar.proofs.SoundSteps.{Parts, identifier_took, mark_plain, one_plain, one_word, seen}
 use Rattle.sl_grammar.proofs.ViableExpressions.{expr-viable}
 use Rattle.sl_grammar.proofs.ViableLists.{list-before-viable, list-viable}
 use Rattle.sl_grammar.proofs.ViableSteps.{Begun, Stops, Viable, at_once, begun, either, faulted, identifier_fault, mark_fault, no_fault, one_fault, refitted, rewritten, some_expr, some_name, tested, unfinished, viable, ◌⨠◌}
 use Rattle.sl_grammar.proofs.SoundDeclarations.{int-took, type-took, inner-part, scalar-written, opening, braces-written}
+use Rattle.sl_grammar.proofs.Spelling.{Spelled, ◌⨾◌}
 
 -- a declaration and an initializer that follow the grammar and are at most so high
 abbrev pub LowDeclaration : ℕ → Declaration → Type 0

@@ -25,9 +25,10 @@ use Rattle.sl_grammar.specs.Steps.{Tall, kind_at, here, is_mark, mark, identifie
 use Rattle.sl_grammar.proofs.KindLaws.{is_mark_kind}
 use Rattle.sl_grammar.proofs.SoundEffects.{read-part, name_written, Anything, flat, shifted_name-part, shifted_written, shifted-part, assignment-mark, is_input_kind, drop_twice}
 use Rattle.sl_grammar.proofs.SoundExpressions.{expr-part}
-use Rattle.sl_grammar.proofs.SoundSteps.{Spelled, both, one_word, mark_plain, mark_rest, Part}
+use Rattle.sl_grammar.proofs.SoundSteps.{both, one_word, mark_plain, mark_rest, Part}
 use Rattle.sl_grammar.proofs.ViableExpressions.{expr-viable, expr-stops}
 use Rattle.sl_grammar.proofs.ViableSteps.{Viable, viable, begun, at_once, ◌⨠◌, unfinished, ended, some_name, some_expr, faulted, either, tested, no_fault, mark_fault, identifier_fault, Stops, behind-viable}
+use Rattle.sl_grammar.proofs.Spelling.{Spelled}
 
 shifted_name-stops : Stops name_written Anything flat 0 shifted_name
 unfolding shifted_name

@@ -18,7 +18,8 @@ use Rattle.sl_syntax.specs.Written.{Written, words_of}
 use Rattle.sl_syntax.proofs.WrittenLaws.{words_of-append}
 use Rattle.sl_grammar.specs.declared.fault.Fault.TheVariants.{Grammar}
 use Rattle.sl_grammar.specs.Steps.{Outcome, Reader, Tall, and_then, kind_at, is_mark, mark, identifier_by, identifier, library_by, library, repeat, all_behind}
-use Rattle.sl_grammar.proofs.SoundSteps.{Spelled, Parts}
+use Rattle.sl_grammar.proofs.SoundSteps.{Parts}
+use Rattle.sl_grammar.proofs.Spelling.{Spelled}
 
 -- the words of tokens
 abbrev pub token_words : List Token → List Word
