@@ -1,14 +1,16 @@
 -- The laws of the reader of programs, put together: what it reads and where it stops, against the definitions of the grammar.
-use Rattle.std.proofs.Common.{◌≡◌, ℕ, zero, suc, ◌+◌, ◌-◌, ◌<◌, ◌≤◌, List, [], ◌∷◌, ◌++◌, length, take, map, Result, Ok, Err, refl, sym, ap, ◌∙◌, subst, arith}
+use Rattle.std.proofs.Common.{◌≡◌, ℕ, zero, suc, ◌+◌, ◌-◌, ◌<◌, ◌≤◌, List, [], ◌∷◌, ◌++◌, length, take, map, Result, Ok, Err, refl, sym, ap, ◌∙◌, subst, arith, length-append}
+use Rattle.std.proofs.lemmas.List.{length-map, map-append}
+use Rattle.std.proofs.Math.Seq.{take-append_seam}
 use Rattle.sl_base.specs.declared.token.Token.{Token}
 use Rattle.sl_base.specs.declared.word.Word.{Word}
-use Rattle.sl_syntax.specs.Begins.{IsProgram, Begins, words_in}
+use Rattle.sl_syntax.specs.Begins.{IsProgram, Begins, Stops, words_in}
 use Rattle.sl_syntax.specs.Blank.{blank, blank_token}
 use Rattle.sl_syntax.specs.Depth.{depth}
 use Rattle.sl_syntax.specs.Placed.{Placed}
 use Rattle.sl_syntax.specs.Shaped.{Shaped}
 use Rattle.sl_syntax.specs.Tree.{Program}
-use Rattle.sl_syntax.specs.Written.{words}
+use Rattle.sl_syntax.specs.Written.{words, program_written}
 use Rattle.sl_syntax.proofs.BlankLaws.{blank-placed_alone}
 use Rattle.sl_syntax.proofs.BlankShape.{blank-shaped}
 use Rattle.sl_grammar.specs.declared.fault.Fault.TheVariants.{Grammar}
@@ -17,6 +19,8 @@ use Rattle.sl_grammar.specs.Steps.{Outcome, Tall}
 use Rattle.sl_grammar.proofs.CompletePrograms.{reads_program}
 use Rattle.sl_grammar.proofs.NearSteps.{Same, step, end, cut, Agree, in_step, at_fault, past, left_over, Level}
 use Rattle.sl_grammar.proofs.NearStatements.{near_program, program-shrinks}
+use Rattle.sl_grammar.proofs.ViablePrograms.{viable_program}
+use Rattle.sl_grammar.proofs.ViableSteps.{Viable}
 
 -- a program's words as tokens whose places are all the same are read as the program with all its places set to that
 pub reads_blank : (p : Program) → Shaped p → program (map blank_token (words p)) ≡ Ok ((blank p, depth (blank p)), [])
@@ -54,7 +58,7 @@ same_front b (suc m) (t ∷ ts) (u ∷ us) more some long e =
 
 -- Where the reader stops, a token further nothing begins a program, and all the words aren't one's.
 module _ (ts : List Token) (n : ℕ) (fault : program ts ≡ Err (Grammar n)) where
-  within : n ≤ length ts
+  pub within : n ≤ length ts
   within = subst (λ k. k ≤ length ts) (ap left_over fault) (program-shrinks ts)
 
   pub no_program : IsProgram (words_in ts) → ⊥
@@ -74,6 +78,27 @@ one_ok h = cc
 
 same_read : (a b : Program) (h k : ℕ) → ◌≡◌ {A = Outcome (Tall Program)} (Ok ((a, h), [])) (Ok ((b, k), [])) → a ≡ b
 same_read a b h k e = ap (λ (y : Tall Program × List Token). y.0.0) (one_ok e)
+
+-- the words before the last of two lists, where the first has all the others
+words_before : (ts front rest : List Token) → ts ≡ front ++ rest → take (length ts - length rest) (words_in ts) ≡ words_in front
+words_before ts front rest e =
+    let n : length ts - length rest ≡ length (words_in front) = omega (arith, ap length e, length-append front rest, length-map front (λ (t : Token). t.word)) in
+    let ws : words_in ts ≡ words_in front ++ words_in rest = ap words_in e ∙ map-append (λ (t : Token). t.word) front rest in
+    rw (n, ws) (take-append_seam (words_in front) (words_in rest))
+
+-- Where the reader of programs stops, the words stop beginning a program.
+pub stops : (ts : List Token) (n : ℕ) → program ts ≡ Err (Grammar n) → Stops IsProgram (words_in ts) (length ts - n)
+stops ts n fault =
+    let v : Viable Shaped program_written ts n = viable_program ts n fault in
+    let n_is : length ts - length v.rest ≡ length ts - n = rw v.left refl in
+    let words_are : take (length ts - n) (words_in ts) ≡ words_in v.front = rw n_is at (words_before ts v.front v.rest v.whole) in
+    let long : length (words_in ts) ≡ length ts = length-map ts (λ (t : Token). t.word) in
+    record {
+      inside = omega (arith, long);
+      before = (v.more, (v.tree, v.fits, v.words ∙ ap (λ (l : List Word). l ++ v.more) (sym words_are)));
+      behind = λ h. nothing_begins ts n fault (omega (arith, h, long));
+      ends = λ e. no_program ts n fault;
+    }
 
 -- tokens write one program alone
 pub one_program : (ts : List Token) (p q : Program) → Shaped p → Shaped q → Placed p ts → Placed q ts → p ≡ q
