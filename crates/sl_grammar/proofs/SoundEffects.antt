@@ -20,9 +20,9 @@ use Rattle.sl_grammar.specs.Effects.{shifted_name, read, is_input, out_by, shift
 use Rattle.sl_grammar.specs.Effects as effects
 use Rattle.sl_grammar.specs.Expressions.{expr}
 use Rattle.sl_grammar.specs.Steps.{Tall, kind_at, is_mark, mark, identifier, all_behind}
-use Rattle.sl_grammar.proofs.KindLaws.{is_mark_kind}
+use Rattle.sl_grammar.proofs.KindLaws.{is_mark_kind, some_one, both}
 use Rattle.sl_grammar.proofs.SoundExpressions.{sound, expr-part}
-use Rattle.sl_grammar.proofs.SoundSteps.{Took, bound, some_one, both, chosen, guarded, answered, one_word, one_text, mark_plain, mark_rest, identifier_took, Part, Parts, behind}
+use Rattle.sl_grammar.proofs.SoundSteps.{Took, bound, chosen, guarded, answered, one_word, one_text, mark_plain, mark_rest, identifier_took, Part, Parts, behind}
 use Rattle.sl_grammar.proofs.Spelling.{◌⨾◌}
 
 -- `>> x`

@@ -1,6 +1,6 @@
 -- What follows from the answer of a step: which words it took.
 use Rattle.std.proofs.Common.{drop, length, ◌≡◌, ℕ, zero, suc, ◌≤◌, max, Bool, true, false, cond, List, [], ◌∷◌, ◌++◌, Some, Result, Ok, Err, refl, sym, ap, subst, ◌∙◌, arith, append_assoc}
-use Rattle.std.specs.Prelude.{flat_map, ◌&&◌}
+use Rattle.std.specs.Prelude.{flat_map}
 use Rattle.std.proofs.lemmas.Bool.{false≢true}
 use Rattle.std.proofs.lemmas.List.{append-nil}
 use Rattle.sl_base.specs.declared.mark.Mark.{Mark}
@@ -48,14 +48,6 @@ ok_one h = cc
 
 pub answered : {A : Type 0} (a y : A × List Token) (P : A × List Token → Type 0) → ◌≡◌ {A = Outcome A} (Ok a) (Ok y) → P a → P y
 answered a y P h p = subst P (ok_one h) p
-
-pub some_one : {A : Type 0} {a b : A} → Some a ≡ Some b → a ≡ b
-some_one h = cc
-
--- both of two tests
-pub both : (a b : Bool) → a && b ≡ true → (a ≡ true) × (b ≡ true)
-both true b h = (refl, h)
-both false b h = absurd (false≢true h)
 
 -- one word, at its place
 pub one_word : (ts : List Token) (kind : Kind) (x : Word) → kind_at ts ≡ kind → fixed kind ≡ Some x → Spelled (at (here ts) x ∷ []) ts (drop 1 ts)

@@ -22,10 +22,10 @@ use Rattle.sl_grammar.specs.Effects.{shifted_name, read, is_input, out_by, shift
 use Rattle.sl_grammar.specs.Effects as effects
 use Rattle.sl_grammar.specs.Expressions.{expr}
 use Rattle.sl_grammar.specs.Steps.{Tall, kind_at, here, is_mark, mark, identifier, all_behind}
-use Rattle.sl_grammar.proofs.KindLaws.{is_mark_kind}
+use Rattle.sl_grammar.proofs.KindLaws.{is_mark_kind, both}
 use Rattle.sl_grammar.proofs.SoundEffects.{read-part, name_written, Anything, flat, shifted_name-part, shifted_written, shifted-part, assignment-mark, is_input_kind, drop_twice}
 use Rattle.sl_grammar.proofs.SoundExpressions.{expr-part}
-use Rattle.sl_grammar.proofs.SoundSteps.{both, one_word, mark_plain, mark_rest, Part}
+use Rattle.sl_grammar.proofs.SoundSteps.{one_word, mark_plain, mark_rest, Part}
 use Rattle.sl_grammar.proofs.ViableExpressions.{expr-viable, expr-stops}
 use Rattle.sl_grammar.proofs.ViableSteps.{Viable, viable, begun, at_once, ◌⨠◌, unfinished, ended, some_name, some_expr, faulted, either, tested, no_fault, mark_fault, identifier_fault, Stops, behind-viable}
 use Rattle.sl_grammar.proofs.Spelling.{Spelled}

@@ -25,13 +25,14 @@ use Rattle.sl_grammar.specs.Steps.{Reader, Tall, here, identifier, is_mark, kind
 use Rattle.sl_grammar.proofs.SoundBlocks.{Finds}
 use Rattle.sl_grammar.proofs.SoundEffects.{effect-part}
 use Rattle.sl_grammar.proofs.SoundExpressions.{sound}
-use Rattle.sl_grammar.proofs.SoundSteps.{Part, both, identifier_took, mark_plain, one_plain, one_word}
+use Rattle.sl_grammar.proofs.SoundSteps.{Part, identifier_took, mark_plain, one_plain, one_word}
 use Rattle.sl_grammar.proofs.ViableBlocks.{Faults, LowStmt, inner-stops, some_stmt}
 use Rattle.sl_grammar.proofs.ViableEffects.{cond-viable, effect-viable}
 use Rattle.sl_grammar.proofs.ViableExpressions.{expr-viable}
 use Rattle.sl_grammar.proofs.ViableSteps.{Begun, Stops, Viable, at_once, begun, either, faulted, identifier_fault, mark_fault, no_fault, rewritten, some_expr, some_name, tested, unfinished, viable, ◌⨠◌}
 use Rattle.sl_grammar.proofs.SoundFors.{cond-option, effect-option, element-word, first-fits, first-height, first-written, type-fixed, type_kind, type_word, head_written, opened_written}
 use Rattle.sl_grammar.proofs.Spelling.{Spelled, respelled, ◌⨾◌}
+use Rattle.sl_grammar.proofs.KindLaws.{both}
 
 -- what may stand behind the first part
 abbrev others_written : List Written
