@@ -1,5 +1,5 @@
 -- The laws of the reader of programs, put together: what it reads and where it stops, against the definitions of the grammar.
-use Rattle.std.proofs.Common.{◌≡◌, ℕ, zero, suc, ◌+◌, ◌-◌, ◌<◌, ◌≤◌, List, [], ◌∷◌, ◌++◌, length, take, map, Result, Ok, Err, refl, sym, ap, ◌∙◌, subst, arith, length-append}
+use Rattle.std.proofs.Common.{◌≡◌, ℕ, zero, suc, ◌+◌, ◌-◌, ◌<◌, ◌≤◌, List, [], ◌∷◌, ◌++◌, length, take, map, Ok, Err, refl, sym, ap, ◌∙◌, subst, arith, length-append}
 use Rattle.std.proofs.lemmas.List.{length-map, map-append}
 use Rattle.std.proofs.Math.Seq.{take-append_seam}
 use Rattle.sl_base.specs.declared.token.Token.{Token}
@@ -21,6 +21,7 @@ use Rattle.sl_grammar.proofs.NearSteps.{Same, step, end, cut, Agree, in_step, at
 use Rattle.sl_grammar.proofs.NearStatements.{near_program, program-shrinks}
 use Rattle.sl_grammar.proofs.ViablePrograms.{viable_program}
 use Rattle.sl_grammar.proofs.ViableSteps.{Viable}
+use Rattle.sl_grammar.proofs.SoundSteps.{ok_one}
 
 -- a program's words as tokens whose places are all the same are read as the program with all its places set to that
 pub reads_blank : (p : Program) → Shaped p → program (map blank_token (words p)) ≡ Ok ((blank p, depth (blank p)), [])
@@ -73,11 +74,8 @@ module _ (ts : List Token) (n : ℕ) (fault : program ts ≡ Err (Grammar n)) wh
       no_reading n n Level (program ts) (program us) _
         (near_program n ts us (same_front n (length ts - n + 1) ts us more (omega (arith, within)) (omega (arith, within)) (words_of_blank (words p) ∙ whole.2))) fault (omega arith) (reads_blank p whole.1)
 
-one_ok : {A E : Type 0} {a b : A} → ◌≡◌ {A = Result A E} (Ok a) (Ok b) → a ≡ b
-one_ok h = cc
-
 same_read : (a b : Program) (h k : ℕ) → ◌≡◌ {A = Outcome (Tall Program)} (Ok ((a, h), [])) (Ok ((b, k), [])) → a ≡ b
-same_read a b h k e = ap (λ (y : Tall Program × List Token). y.0.0) (one_ok e)
+same_read a b h k e = ap (λ (y : Tall Program × List Token). y.0.0) (ok_one e)
 
 -- the words before the last of two lists, where the first has all the others
 words_before : (ts front rest : List Token) → ts ≡ front ++ rest → take (length ts - length rest) (words_in ts) ≡ words_in front

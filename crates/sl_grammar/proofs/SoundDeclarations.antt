@@ -98,7 +98,7 @@ module _ (room : ℕ) where
   unfolding optional_value
   value-part ts y h =
       let P : Took (Option Expr) → Type 0 = λ z. Part (option_written value_written) (IfThere IsExpr) (option_height height) room ts z.0 z.1 in
-      chosen (is_mark m.Equal (kind_at ts)) _ _ y P h
+      chosen (is_mark m.Equal (kind_at ts)) _ _ _ (P y) h
       (λ equal h1.
       bound (expr (room + 1) 1 (drop 1 ts)) _ y P h1 (λ x read h2.
       let found = expr-part room 1 (omega arith) (omega arith) (drop 1 ts) x read in
@@ -229,7 +229,7 @@ unfolding scalar_param
 scalar_param-part scalar ts y e h =
     let P : Took Param → Type 0 = ParamAt 2 ts in
     let first = one_word ts (k.Scalar scalar) (scalar_word scalar) e refl in
-    chosen (is_mark m.And (kind_at (drop 1 ts))) _ _ y P h
+    chosen (is_mark m.And (kind_at (drop 1 ts))) _ _ _ (P y) h
     (λ sees h1.
     bound (identifier (drop 1 (drop 1 ts))) _ y P h1 (λ x name h2.
     answered _ y P h2 (record {
@@ -305,7 +305,7 @@ pub params-part : Parts params_written AnyParams (highest param_height) 2 params
 unfolding params
 params-part ts y h =
     let P : Took (List Param) → Type 0 = λ z. Part params_written AnyParams (highest param_height) 2 ts z.0 z.1 in
-    chosen (is_mark m.RightParenthesis (kind_at ts)) _ _ y P h
+    chosen (is_mark m.RightParenthesis (kind_at ts)) _ _ _ (P y) h
     (λ closes h1. answered _ y P h1 (record { spelled = no_words ts; fits = tt; size = refl; low = omega arith }))
     (λ opens h1.
     bound (param ts) _ y P h1 (λ x one h2.

@@ -210,7 +210,7 @@ module _ (room : ℕ) where
   value-cond : (ts : List Token) (y : Took Cond) → cond_by room k.End ts ≡ Ok y → CondAt room ts y
   value-cond ts y h =
       let P : Took Cond → Type 0 = CondAt room ts in
-      chosen (nat_lt 1 room && begins_no_read room ts) _ _ y P h
+      chosen (nat_lt 1 room && begins_no_read room ts) _ _ _ (P y) h
       (λ begins h1.
       let high = both (nat_lt 1 room) (begins_no_read room ts) begins in
       let input = both (is_mark m.Not (kind_at ts) && is_mark m.LeftParenthesis (kind_at (drop 1 ts))) (is_input (kind_at (drop 2 ts))) high.1 in

@@ -75,7 +75,7 @@ module _ (inner smaller : ℕ → Reader (Tall Expr)) (room : ℕ) (f : Finds in
       let P : Took Expr → Type 0 = Longer 8 in
       bound (identifier (drop 1 us)) _ y P h (λ x name h1.
       let member = identifier_took (drop 1 us) x name in
-      chosen (is_mark m.LeftParenthesis (kind_at x.1)) _ _ y P h1
+      chosen (is_mark m.LeftParenthesis (kind_at x.1)) _ _ _ (P y) h1
       (λ calls h2.
       bound (arguments inner smaller room x.1) _ y P h2 (λ xs read h3.
       let found = arguments-part inner smaller room f g (omega arith) x.1 xs read in
@@ -163,7 +163,7 @@ module _ (inner smaller : ℕ → Reader (Tall Expr)) (room : ℕ) (f : Finds in
       answered _ y P h1 (record { part = first.part; tight = first.tight; stops = ltb-true (goes_on (kind_at us)) least stop }))
   climb-found (suc n) least ts left us y one first h =
       let P : Took Expr → Type 0 = λ z. Found room least ts z.0 z.1 in
-      chosen (nat_lt (goes_on (kind_at us)) least) _ _ y P h
+      chosen (nat_lt (goes_on (kind_at us)) least) _ _ _ (P y) h
       (λ stop h1. answered _ y P h1 (record { part = first.part; tight = first.tight; stops = ltb-true (goes_on (kind_at us)) least stop }))
       (λ on h1.
       let some : least ≤ goes_on (kind_at us) = ltb-false (goes_on (kind_at us)) least on in

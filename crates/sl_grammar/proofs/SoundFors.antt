@@ -76,7 +76,7 @@ module _ (inner : Reader (Tall Stmt)) (room : ℕ) (f : Finds inner room) where
   unfolding optional_cond
   cond-option ts y h =
       let P : Took (Option Cond) → Type 0 = λ z. Part (option_written cond_written) (IfThere IsCond) (option_height cond_height) room ts z.0 z.1 in
-      chosen (is_mark m.Semicolon (kind_at ts)) _ _ y P h
+      chosen (is_mark m.Semicolon (kind_at ts)) _ _ _ (P y) h
       (λ left_out h1. answered _ y P h1 (record { spelled = no_words ts; fits = tt; size = refl; low = omega arith }))
       (λ there h1.
       bound (effects.cond room ts) _ y P h1 (λ x read h2.
@@ -88,7 +88,7 @@ module _ (inner : Reader (Tall Stmt)) (room : ℕ) (f : Finds inner room) where
   effect-option ts y h =
       let P : Took (Option Effect) → Type 0 =
       λ z. Part (option_written effect_written) (IfThere IsEffect) (option_height effect_height) room ts z.0 z.1 in
-      chosen (is_mark m.RightParenthesis (kind_at ts)) _ _ y P h
+      chosen (is_mark m.RightParenthesis (kind_at ts)) _ _ _ (P y) h
       (λ left_out h1. answered _ y P h1 (record { spelled = no_words ts; fits = tt; size = refl; low = omega arith }))
       (λ there h1.
       bound (effect room ts) _ y P h1 (λ x read h2.
@@ -170,7 +170,7 @@ module _ (inner : Reader (Tall Stmt)) (room : ℕ) (f : Finds inner room) where
   declared-found type ts us y opened e h =
       let P : Took Stmt → Type 0 = λ z. FoundStmt (room + 1) ts z.0 z.1 in
       bound (identifier (drop 1 us)) _ y P h (λ x name h1.
-      chosen (ranges type && is_mark m.Colon (kind_at x.1)) _ _ y P h1
+      chosen (ranges type && is_mark m.Colon (kind_at x.1)) _ _ _ (P y) h1
       (λ range h2. range-found type ts us x y opened e name (both (ranges type) (is_mark m.Colon (kind_at x.1)) range).0 h2)
       (λ other h2. valued-found type ts us x y opened e name h2))
 

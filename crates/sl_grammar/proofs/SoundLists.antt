@@ -63,7 +63,7 @@ module _ (one more : Reader (Tall Expr)) (room : ℕ) (f : Parts written IsExpr 
   unfolding list_behind
   behind-part ts us x y first h =
       let P : Took Exprs → Type 0 = SomeListAt room ts in
-      chosen (is_mark m.Comma (kind_at us)) _ _ y P h
+      chosen (is_mark m.Comma (kind_at us)) _ _ _ (P y) h
       (λ comma h1.
       guarded (nat_lt x.1 room) _ _ y P h1 (λ below h2.
       bound (all_behind (is_mark m.Comma) (comma_expr one more room) ([], 0) us) _ y P h2 (λ xs read h3.
@@ -91,7 +91,7 @@ module _ (one more : Reader (Tall Expr)) (room : ℕ) (f : Parts written IsExpr 
   unfolding list_before
   list-before-part close ts y h =
       let P : Took Exprs → Type 0 = ListAt room ts in
-      chosen (is_mark close (kind_at ts)) _ _ y P h
+      chosen (is_mark close (kind_at ts)) _ _ _ (P y) h
       (λ closes h1. answered _ y P h1 (record { spelled = no_words ts; fits = tt; size = refl; low = omega arith }))
       (λ opens h1.
       let found = list-part ts y h1 in

@@ -112,7 +112,7 @@ module _ (inner smaller : ℕ → Reader (Tall Expr)) (room : ℕ) (f : Finds in
       let P : Took Expr → Type 0 = λ z. Left room 7 ts z.0 z.1 in
       bound (identifier ts) _ y P h (λ x name h1.
       let first = identifier_took ts x name in
-      chosen (is_mark m.LeftParenthesis (kind_at x.1)) _ _ y P h1
+      chosen (is_mark m.LeftParenthesis (kind_at x.1)) _ _ _ (P y) h1
       (λ calls h2.
       guarded (nat_lt 0 room) _ _ y P h2 (λ high h3.
       bound (arguments inner smaller room x.1) _ y P h3 (λ xs read h4.

@@ -52,7 +52,7 @@ module _ (inner : Reader (Tall Stmt)) (room : ℕ) (f : Finds inner room) where
       let word = one_word ts k.If (w.Key (codes "if")) e refl in
       let asked = condition-part inner room f (drop 1 ts) c test in
       let first = f c.1 a first_read in
-      chosen (is_else (kind_at a.1)) _ _ y P h3
+      chosen (is_else (kind_at a.1)) _ _ _ (P y) h3
       (λ sees h4.
       bound (inner (drop 1 a.1)) _ y P h4 (λ b second_read h5.
       let second = f (drop 1 a.1) b second_read in
@@ -103,7 +103,7 @@ module _ (inner : Reader (Tall Stmt)) (room : ℕ) (f : Finds inner room) where
   return-found ts y e h =
       let P : Took Stmt → Type 0 = λ z. FoundStmt (room + 1) ts z.0 z.1 in
       let word = one_word ts k.Return (w.Key (codes "return")) e refl in
-      chosen (is_mark m.Semicolon (kind_at (drop 1 ts))) _ _ y P h
+      chosen (is_mark m.Semicolon (kind_at (drop 1 ts))) _ _ _ (P y) h
       (λ ends h1.
       answered _ y P h1 (record {
         part = record { spelled = word ⨾ seen m.Semicolon (drop 1 ts) ends; fits = tt; size = refl; low = omega arith };

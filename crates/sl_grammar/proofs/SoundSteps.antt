@@ -32,10 +32,10 @@ pub bound : {A B : Type 0} (o : Outcome A) (f : A → Reader B) (y : B × List T
 bound (Ok p) f y P h go = go p refl h
 bound (Err e) f y P h go = absurd cc
 
-pub chosen : {A : Type 0} (b : Bool) (o q : Outcome A) (y : A × List Token) (P : A × List Token → Type 0) → cond b o q ≡ Ok y
-    → (b ≡ true → o ≡ Ok y → P y) → (b ≡ false → q ≡ Ok y → P y) → P y
-chosen true o q y P h then other = then refl h
-chosen false o q y P h then other = other refl h
+-- a choice by a test
+pub chosen : {A : Type 0} (b : Bool) (o q z : A) (P : Type 0) → cond b o q ≡ z → (b ≡ true → o ≡ z → P) → (b ≡ false → q ≡ z → P) → P
+chosen true o q z P h then other = then refl h
+chosen false o q z P h then other = other refl h
 
 -- a step that may only go on under a test
 pub guarded : {A : Type 0} (b : Bool) (o : Outcome A) (e : Fault) (y : A × List Token) (P : A × List Token → Type 0) → cond b o (Err e) ≡ Ok y
@@ -43,7 +43,7 @@ pub guarded : {A : Type 0} (b : Bool) (o : Outcome A) (e : Fault) (y : A × List
 guarded true o e y P h then = then refl h
 guarded false o e y P h then = absurd cc
 
-ok_one : {A E : Type 0} {a b : A} → ◌≡◌ {A = Result A E} (Ok a) (Ok b) → a ≡ b
+pub ok_one : {A E : Type 0} {a b : A} → ◌≡◌ {A = Result A E} (Ok a) (Ok b) → a ≡ b
 ok_one h = cc
 
 pub answered : {A : Type 0} (a y : A × List Token) (P : A × List Token → Type 0) → ◌≡◌ {A = Outcome A} (Ok a) (Ok y) → P a → P y
@@ -172,10 +172,10 @@ module _ {A : Type 0} (written : A → List Written) (Fits : A → Type 0) (heig
   unfolding repeat
   repeat-more zero done ts y h =
       let P : Took (List A) → Type 0 = λ z. More written Fits height room goes done ts z.0 z.1 in
-      chosen (goes (kind_at ts)) _ _ y P h (λ on h1. absurd cc) (λ stop h1. answered _ y P h1 (stopped done ts stop))
+      chosen (goes (kind_at ts)) _ _ _ (P y) h (λ on h1. absurd cc) (λ stop h1. answered _ y P h1 (stopped done ts stop))
   repeat-more (suc n) done ts y h =
       let P : Took (List A) → Type 0 = λ z. More written Fits height room goes done ts z.0 z.1 in
-      chosen (goes (kind_at ts)) _ _ y P h
+      chosen (goes (kind_at ts)) _ _ _ (P y) h
       (λ on h1.
       bound (item ts) _ y P h1 (λ x read h2.
       let first = f ts x read in

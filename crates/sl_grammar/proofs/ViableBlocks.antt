@@ -23,10 +23,10 @@ use Rattle.sl_grammar.specs.Steps.{Reader, Tall, all_behind, here, kind_at, mark
 use Rattle.sl_grammar.proofs.SoundBlocks.{Finds, IsBlock, block_height, block_written, condition_written, are_items, item-part, items-height, items-written}
 use Rattle.sl_grammar.proofs.SoundDeclarations.{auto-part, container-part, scalar-part}
 use Rattle.sl_grammar.proofs.SoundEffects.{cond-part}
-use Rattle.sl_grammar.proofs.SoundSteps.{Part, Took, behind, mark_here, mark_plain}
+use Rattle.sl_grammar.proofs.SoundSteps.{Part, Took, behind, mark_here, mark_plain, chosen}
 use Rattle.sl_grammar.proofs.ViableDeclarations.{LowDeclaration, auto-begun, container-begun, scalar-begun}
 use Rattle.sl_grammar.proofs.ViableEffects.{cond-viable}
-use Rattle.sl_grammar.proofs.ViableSteps.{Begun, Low, Stops, Viable, at_once, begun, either, faulted, mark_fault, no_fault, one_fault, rewritten, some_expr, tested, unfinished, viable, ◌⨠◌}
+use Rattle.sl_grammar.proofs.ViableSteps.{Begun, Low, Stops, Viable, at_once, begun, faulted, mark_fault, no_fault, one_fault, rewritten, some_expr, tested, unfinished, viable, ◌⨠◌}
 use Rattle.sl_grammar.proofs.Spelling.{respelled}
 
 -- a statement that follows the grammar and is at most so high
@@ -117,12 +117,12 @@ module _ (inner : Reader (Tall Stmt)) (room : ℕ) (f : Finds inner room) (g : F
   unfolding repeat
   items-begun zero done ts n h =
       let P : Type 0 = BegunItems ts n in
-      either (is_item (kind_at ts)) _ _ n P h
+      chosen (is_item (kind_at ts)) _ _ _ P h
       (λ on h1. no_item ts n (one_fault {A = Tall (List Item)} _ n h1))
       (λ stop h1. no_fault _ n P h1)
   items-begun (suc turns) done ts n h =
       let P : Type 0 = BegunItems ts n in
-      either (is_item (kind_at ts)) _ _ n P h
+      chosen (is_item (kind_at ts)) _ _ _ P h
       (λ on h1.
       faulted (item room inner ts) _ n P h1 (λ h2. item-begun ts n h2) (λ x read h2.
       let first = item-part inner room f ts x read in

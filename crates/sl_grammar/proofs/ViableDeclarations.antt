@@ -23,10 +23,10 @@ use Rattle.sl_grammar.specs.Expressions.{expr, list, list_before}
 use Rattle.sl_grammar.specs.Steps.{here, identifier, is_mark, kind_at, mark}
 use Rattle.sl_grammar.proofs.SoundExpressions.{expr-part}
 use Rattle.sl_grammar.proofs.SoundLists.{list-before-part, list-part}
-use Rattle.sl_grammar.proofs.SoundSteps.{Parts, identifier_took, mark_plain, one_plain, one_word, seen}
-use Rattle.sl_grammar.proofs.ViableExpressions.{expr-viable}
+use Rattle.sl_grammar.proofs.SoundSteps.{Parts, identifier_took, mark_plain, one_plain, one_word, seen, chosen}
+use Rattle.sl_grammar.proofs.ViableExpressions.{expr-viable, value-stops}
 use Rattle.sl_grammar.proofs.ViableLists.{list-before-viable, list-viable}
-use Rattle.sl_grammar.proofs.ViableSteps.{Begun, Stops, Viable, at_once, begun, either, faulted, identifier_fault, mark_fault, no_fault, one_fault, refitted, rewritten, some_expr, some_name, tested, unfinished, viable, ◌⨠◌}
+use Rattle.sl_grammar.proofs.ViableSteps.{Begun, Stops, Viable, at_once, begun, faulted, identifier_fault, mark_fault, no_fault, one_fault, refitted, rewritten, some_expr, some_name, tested, unfinished, viable, ◌⨠◌}
 use Rattle.sl_grammar.proofs.SoundDeclarations.{int-took, type-took, inner-part, scalar-written, opening, braces-written}
 use Rattle.sl_grammar.proofs.Spelling.{Spelled, ◌⨾◌}
 
@@ -81,17 +81,12 @@ inner-stops : (room : ℕ) → 0 < room → Stops written IsExpr height (room - 
 inner-stops room high ts n h = refitted (λ x fits. (fits.0, omega (arith, fits.1)))
     (expr-viable room 1 ts n high (omega arith) (omega arith) h)
 
--- an expression that has so much room
-pub value-stops : (room : ℕ) → Stops written IsExpr height room (expr (room + 1) 1)
-value-stops room ts n h = refitted (λ x fits. (fits.0, omega (arith, fits.1)))
-    (expr-viable (room + 1) 1 ts n (omega arith) (omega arith) (omega arith) h)
-
 module _ (room : ℕ) where
   value-begun : Stops (option_written value_written) (IfThere IsExpr) (option_height height) room (optional_value room)
   unfolding optional_value
   value-begun ts n h =
       let P : Type 0 = Viable (λ (x : Option Expr). IfThere IsExpr x × (option_height height x ≤ room)) (option_written value_written) ts n in
-      either (is_mark m.Equal (kind_at ts)) _ _ n P h
+      chosen (is_mark m.Equal (kind_at ts)) _ _ _ P h
       (λ equal h1.
       faulted (expr (room + 1) 1 (drop 1 ts)) _ n P h1
       (λ h2.

@@ -25,9 +25,9 @@ use Rattle.sl_grammar.specs.Steps.{Tall, kind_at, here, is_mark, mark, identifie
 use Rattle.sl_grammar.proofs.KindLaws.{is_mark_kind, both}
 use Rattle.sl_grammar.proofs.SoundEffects.{read-part, name_written, Anything, flat, shifted_name-part, shifted_written, shifted-part, assignment-mark, is_input_kind, drop_twice}
 use Rattle.sl_grammar.proofs.SoundExpressions.{expr-part}
-use Rattle.sl_grammar.proofs.SoundSteps.{one_word, mark_plain, mark_rest, Part}
-use Rattle.sl_grammar.proofs.ViableExpressions.{expr-viable, expr-stops}
-use Rattle.sl_grammar.proofs.ViableSteps.{Viable, viable, begun, at_once, ◌⨠◌, unfinished, ended, some_name, some_expr, faulted, either, tested, no_fault, mark_fault, identifier_fault, Stops, behind-viable}
+use Rattle.sl_grammar.proofs.SoundSteps.{one_word, mark_plain, mark_rest, Part, chosen}
+use Rattle.sl_grammar.proofs.ViableExpressions.{expr-viable, value-stops}
+use Rattle.sl_grammar.proofs.ViableSteps.{Viable, viable, begun, at_once, ◌⨠◌, unfinished, ended, some_name, some_expr, faulted, tested, no_fault, mark_fault, identifier_fault, Stops, behind-viable}
 use Rattle.sl_grammar.proofs.Spelling.{Spelled}
 
 shifted_name-stops : Stops name_written Anything flat 0 shifted_name
@@ -160,7 +160,7 @@ module _ (room : ℕ) where
       let P : Type 0 = Viable EffectLow effect_written ts n in
       faulted (expr (room + 1) 1 ts) _ n P h
       (λ h1.
-      let v = expr-stops room 1 (omega arith) (omega arith) ts n h1 in
+      let v = value-stops room ts n h1 in
       viable (t.evaluates v.tree) v.fits (begun v))
       (λ x read h1.
       assigned-by (assignment_of room (kind_at x.1)) ts x.1 x.0 n (expr-part room 1 (omega arith) (omega arith) ts x read) refl h1)
@@ -221,7 +221,7 @@ module _ (room : ℕ) where
   value-cond : (ts : List Token) (n : ℕ) → cond_by room k.End ts ≡ Err (Grammar n) → Viable CondLow cond_written ts n
   value-cond ts n h =
       let P : Type 0 = Viable CondLow cond_written ts n in
-      either (nat_lt 1 room && begins_no_read room ts) _ _ n P h
+      chosen (nat_lt 1 room && begins_no_read room ts) _ _ _ P h
       (λ begins h1.
       let high = both (nat_lt 1 room) (begins_no_read room ts) begins in
       let input = both (is_mark m.Not (kind_at ts) && is_mark m.LeftParenthesis (kind_at (drop 1 ts))) (is_input (kind_at (drop 2 ts))) high.1 in
@@ -230,7 +230,7 @@ module _ (room : ℕ) where
       (λ other h1.
       faulted (expr (room + 1) 1 ts) _ n P h1
       (λ h2.
-      let v = expr-stops room 1 (omega arith) (omega arith) ts n h2 in
+      let v = value-stops room ts n h2 in
       viable (t.tests v.tree) v.fits (begun v))
       (λ x read h2. no_fault _ n P h2))
 

@@ -25,11 +25,11 @@ use Rattle.sl_grammar.specs.Steps.{Reader, Tall, here, identifier, is_mark, kind
 use Rattle.sl_grammar.proofs.SoundBlocks.{Finds}
 use Rattle.sl_grammar.proofs.SoundEffects.{effect-part}
 use Rattle.sl_grammar.proofs.SoundExpressions.{sound}
-use Rattle.sl_grammar.proofs.SoundSteps.{Part, identifier_took, mark_plain, one_plain, one_word}
+use Rattle.sl_grammar.proofs.SoundSteps.{Part, identifier_took, mark_plain, one_plain, one_word, chosen}
 use Rattle.sl_grammar.proofs.ViableBlocks.{Faults, LowStmt, inner-stops, some_stmt}
 use Rattle.sl_grammar.proofs.ViableEffects.{cond-viable, effect-viable}
 use Rattle.sl_grammar.proofs.ViableExpressions.{expr-viable}
-use Rattle.sl_grammar.proofs.ViableSteps.{Begun, Stops, Viable, at_once, begun, either, faulted, identifier_fault, mark_fault, no_fault, rewritten, some_expr, some_name, tested, unfinished, viable, ◌⨠◌}
+use Rattle.sl_grammar.proofs.ViableSteps.{Begun, Stops, Viable, at_once, begun, faulted, identifier_fault, mark_fault, no_fault, rewritten, some_expr, some_name, tested, unfinished, viable, ◌⨠◌}
 use Rattle.sl_grammar.proofs.SoundFors.{cond-option, effect-option, element-word, first-fits, first-height, first-written, type-fixed, type_kind, type_word, head_written, opened_written}
 use Rattle.sl_grammar.proofs.Spelling.{Spelled, respelled, ◌⨾◌}
 use Rattle.sl_grammar.proofs.KindLaws.{both}
@@ -50,7 +50,7 @@ module _ (inner : Reader (Tall Stmt)) (room : ℕ) (f : Finds inner room) (high 
   unfolding optional_cond
   cond-begun ts n h =
       let P : Type 0 = Viable (λ (x : Option Cond). IfThere IsCond x × (option_height cond_height x ≤ room)) (option_written cond_written) ts n in
-      either (is_mark m.Semicolon (kind_at ts)) _ _ n P h
+      chosen (is_mark m.Semicolon (kind_at ts)) _ _ _ P h
       (λ left_out h1. no_fault _ n P h1)
       (λ there h1.
       faulted (effects.cond room ts) _ n P h1
@@ -64,7 +64,7 @@ module _ (inner : Reader (Tall Stmt)) (room : ℕ) (f : Finds inner room) (high 
   step-begun ts n h =
       let P : Type 0 =
       Viable (λ (x : Option Effect). IfThere IsEffect x × (option_height effect_height x ≤ room)) (option_written effect_written) ts n in
-      either (is_mark m.RightParenthesis (kind_at ts)) _ _ n P h
+      chosen (is_mark m.RightParenthesis (kind_at ts)) _ _ _ P h
       (λ left_out h1. no_fault _ n P h1)
       (λ there h1.
       faulted (effect room ts) _ n P h1
@@ -197,7 +197,7 @@ module _ (inner : Reader (Tall Stmt)) (room : ℕ) (f : Finds inner room) (high 
       (opened ⨠ (one_word us (type_kind type) (type_word type) e (type-fixed type)
       ⨠ at_once _ (drop 1 us) n (identifier_fault (drop 1 us) n h1))))
       (λ x name h1.
-      either (ranges type && is_mark m.Colon (kind_at x.1)) _ _ n P h1
+      chosen (ranges type && is_mark m.Colon (kind_at x.1)) _ _ _ P h1
       (λ range h2.
       range-begun type ts us x n opened e name (both (ranges type) (is_mark m.Colon (kind_at x.1)) range).0 h2)
       (λ other h2. valued-begun type ts us x n opened e name h2))

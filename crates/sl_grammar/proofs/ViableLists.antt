@@ -13,8 +13,8 @@ use Rattle.sl_syntax.specs.Written.{written, list_written}
 use Rattle.sl_grammar.specs.declared.fault.Fault.TheVariants.{Grammar}
 use Rattle.sl_grammar.specs.Expressions.{comma_expr, list_behind, list, list_before}
 use Rattle.sl_grammar.specs.Steps.{Reader, Tall, kind_at, is_mark, mark, all_behind}
-use Rattle.sl_grammar.proofs.SoundSteps.{Took, mark_plain, Part, Parts}
-use Rattle.sl_grammar.proofs.ViableSteps.{Viable, viable, begun, at_once, ◌⨠◌, unfinished, rewritten, some_expr, faulted, either, tested, no_fault, mark_fault, Stops, behind-viable}
+use Rattle.sl_grammar.proofs.SoundSteps.{Took, mark_plain, Part, Parts, chosen}
+use Rattle.sl_grammar.proofs.ViableSteps.{Viable, viable, begun, at_once, ◌⨠◌, unfinished, rewritten, some_expr, faulted, tested, no_fault, mark_fault, Stops, behind-viable}
 use Rattle.sl_grammar.proofs.SoundLists.{comma_written, rest-written, rest-height, are_exprs, comma-part}
 
 -- a list is at most one node higher than its highest
@@ -47,7 +47,7 @@ module _ (one more : Reader (Tall Expr)) (room : ℕ) (f : Parts written IsExpr 
   unfolding list_behind
   behind-stops ts us x n first h =
       let P : Type 0 = Viable (SomeLow room) list_written ts n in
-      either (is_mark m.Comma (kind_at us)) _ _ n P h
+      chosen (is_mark m.Comma (kind_at us)) _ _ _ P h
       (λ comma h1.
       tested (nat_lt x.1 room) _ (length us) n P h1
       (λ below h2.
@@ -78,7 +78,7 @@ module _ (one more : Reader (Tall Expr)) (room : ℕ) (f : Parts written IsExpr 
   unfolding list_before
   list-before-viable close ts n h =
       let P : Type 0 = Viable (ListLow room) list_written ts n in
-      either (is_mark close (kind_at ts)) _ _ n P h
+      chosen (is_mark close (kind_at ts)) _ _ _ P h
       (λ closes h1. no_fault _ n P h1)
       (λ opens h1.
       let v = list-viable ts n h1 in

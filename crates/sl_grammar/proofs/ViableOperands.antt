@@ -20,9 +20,9 @@ use Rattle.sl_grammar.specs.Expressions.{list_before, arguments, named, library_
 use Rattle.sl_grammar.specs.Steps.{Reader, Tall, kind_at, here, is_mark, mark, identifier, library}
 use Rattle.sl_grammar.proofs.SoundLists.{list-before-part}
 use Rattle.sl_grammar.proofs.SoundOperands.{Finds, arguments_written}
-use Rattle.sl_grammar.proofs.SoundSteps.{one_word, mark_plain, identifier_took, library_took, Parts}
+use Rattle.sl_grammar.proofs.SoundSteps.{one_word, mark_plain, identifier_took, library_took, Parts, chosen}
 use Rattle.sl_grammar.proofs.ViableLists.{ListLow, list-before-viable}
-use Rattle.sl_grammar.proofs.ViableSteps.{Viable, viable, begun, refitted, at_once, ◌⨠◌, unfinished, ended, some_expr, faulted, either, tested, one_fault, no_fault, mark_fault, identifier_fault, library_fault, Stops}
+use Rattle.sl_grammar.proofs.ViableSteps.{Viable, viable, begun, refitted, at_once, ◌⨠◌, unfinished, ended, some_expr, faulted, tested, one_fault, no_fault, mark_fault, identifier_fault, library_fault, Stops}
 
 -- an expression that is no higher than the room, and binds at least so tightly
 abbrev pub Tight : ℕ → ℕ → Expr → Type 0
@@ -85,7 +85,7 @@ module _ (inner smaller : ℕ → Reader (Tall Expr)) (room : ℕ) (f : Finds in
       (λ h1. viable some_expr (tt, omega arith, omega arith) (at_once (written some_expr) ts n (identifier_fault ts n h1)))
       (λ x name h1.
       let first = identifier_took ts x name in
-      either (is_mark m.LeftParenthesis (kind_at x.1)) _ _ n P h1
+      chosen (is_mark m.LeftParenthesis (kind_at x.1)) _ _ _ P h1
       (λ calls h2.
       tested (nat_lt 0 room) _ (length x.1) n P h2
       (λ high h3.

@@ -21,9 +21,9 @@ use Rattle.sl_grammar.specs.declared.fault.Fault.TheVariants.{Grammar}
 use Rattle.sl_grammar.specs.Declarations.{comma_param, const_param, container_by, container_param, container_type, param, param_by, params, scalar_param}
 use Rattle.sl_grammar.specs.Steps.{here, identifier, is_mark, kind_at, mark}
 use Rattle.sl_grammar.proofs.SoundDeclarations.{AnyParam, AnyParams, by-took, comma-part, comma_written, param-part, type-took}
-use Rattle.sl_grammar.proofs.SoundSteps.{mark_plain, one_word, seen}
+use Rattle.sl_grammar.proofs.SoundSteps.{mark_plain, one_word, seen, chosen}
 use Rattle.sl_grammar.proofs.ViableDeclarations.{type-begun}
-use Rattle.sl_grammar.proofs.ViableSteps.{Stops, Viable, at_once, begun, behind-viable, either, faulted, identifier_fault, mark_fault, no_fault, one_fault, some_name, unfinished, viable, ◌⨠◌}
+use Rattle.sl_grammar.proofs.ViableSteps.{Stops, Viable, at_once, begun, behind-viable, faulted, identifier_fault, mark_fault, no_fault, one_fault, some_name, unfinished, viable, ◌⨠◌}
 use Rattle.sl_grammar.proofs.Spelling.{◌⨾◌}
 
 -- a parameter that is no higher than any
@@ -36,7 +36,7 @@ unfolding scalar_param
 scalar_param-begun scalar ts n e h =
     let P : Type 0 = Viable LowParam param_written ts n in
     let word = one_word ts (k.Scalar scalar) (scalar_word scalar) e refl in
-    either (is_mark m.And (kind_at (drop 1 ts))) _ _ n P h
+    chosen (is_mark m.And (kind_at (drop 1 ts))) _ _ _ P h
     (λ sees h1.
     faulted (identifier (drop 1 (drop 1 ts))) _ n P h1
     (λ h2. viable (r.Reference (here ts) scalar some_name) (tt, omega arith)
@@ -123,7 +123,7 @@ pub params-begun : Stops params_written AnyParams (highest param_height) 2 param
 unfolding params
 params-begun ts n h =
     let P : Type 0 = Viable (λ (xs : List Param). AnyParams xs × (highest param_height xs ≤ 2)) params_written ts n in
-    either (is_mark m.RightParenthesis (kind_at ts)) _ _ n P h
+    chosen (is_mark m.RightParenthesis (kind_at ts)) _ _ _ P h
     (λ closes h1. no_fault _ n P h1)
     (λ opens h1.
     faulted (param ts) _ n P h1

@@ -24,13 +24,13 @@ use Rattle.sl_grammar.proofs.SoundBlocks.{Finds, condition-part, condition_writt
 use Rattle.sl_grammar.proofs.SoundEffects.{effect-part}
 use Rattle.sl_grammar.proofs.SoundExpressions.{expr-part}
 use Rattle.sl_grammar.proofs.SoundStatements.{stmt-sound, is_else_kind, not_open}
-use Rattle.sl_grammar.proofs.SoundSteps.{one_plain, one_word}
+use Rattle.sl_grammar.proofs.SoundSteps.{one_plain, one_word, chosen}
 use Rattle.sl_grammar.proofs.ViableBlocks.{Faults, LowStmt, braced-begun, condition-begun, inner-stops, some_stmt}
-use Rattle.sl_grammar.proofs.ViableDeclarations.{value-stops}
 use Rattle.sl_grammar.proofs.ViableEffects.{effect-viable}
 use Rattle.sl_grammar.proofs.ViableFors.{for-begun}
 use Rattle.sl_grammar.proofs.ViableSteps as steps
-use Rattle.sl_grammar.proofs.ViableSteps.{Begun, Viable, at_once, begun, either, faulted, mark_fault, no_fault, one_fault, rewritten, unfinished, viable, ◌⨠◌}
+use Rattle.sl_grammar.proofs.ViableSteps.{Begun, Viable, at_once, begun, faulted, mark_fault, no_fault, one_fault, rewritten, unfinished, viable, ◌⨠◌}
+use Rattle.sl_grammar.proofs.ViableExpressions.{value-stops}
 
 -- the place of the first word is none of the words
 placed-begun : {xs : List Written} {ts : List Token} {n : ℕ} (place : Place) → Begun xs ts n → Begun (from_place place xs) ts n
@@ -81,7 +81,7 @@ module _ (inner : Reader (Tall Stmt)) (room : ℕ) (f : Finds inner room) (g : F
       (word ⨠ rewritten (tested-written c.0.0 (stmt_written v.tree)) (asked.spelled ⨠ begun v)))
       (λ a first_read h3.
       let first = f c.1 a first_read in
-      either (is_else (kind_at a.1)) _ _ n P h3
+      chosen (is_else (kind_at a.1)) _ _ _ P h3
       (λ sees h4.
       let other = one_plain a.1 k.Else (w.Key (codes "else")) (is_else_kind (kind_at a.1) sees) refl in
       faulted (inner (drop 1 a.1)) _ n P h4
@@ -128,7 +128,7 @@ module _ (inner : Reader (Tall Stmt)) (room : ℕ) (f : Finds inner room) (g : F
       let P : Type 0 = Viable (LowStmt (room + 1)) stmt_written ts n in
       let word = one_word ts k.Return (w.Key (codes "return")) e refl in
       let close : List Written = s.mark m.Semicolon ∷ [] in
-      either (is_mark m.Semicolon (kind_at (drop 1 ts))) _ _ n P h
+      chosen (is_mark m.Semicolon (kind_at (drop 1 ts))) _ _ _ P h
       (λ ends h1. no_fault _ n P h1)
       (λ goes h1.
       faulted (expr (room + 1) 1 (drop 1 ts)) _ n P h1
