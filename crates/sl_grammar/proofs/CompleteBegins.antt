@@ -68,18 +68,10 @@ pub does-some : (e : _) → 1 ≤ length (effect_written e ++ v.mark m.Semicolon
 does-some e = rw length-append (omega (arith, effect-some e))
 
 pub stmt-begins : (x : Stmt) (ts rest : List Token) → IsStmt x → Spelled (stmt_written x) ts rest → begins_stmt (kind_at ts) ≡ true
-stmt-begins (t.block opens items closes) ts rest g s = at_word s (λ o us e a. rw e refl)
-stmt-begins (t.choice place c x) ts rest g s = at_word s (λ o us e a. rw e refl)
-stmt-begins (t.choice_else place c x y) ts rest g s = at_word s (λ o us e a. rw e refl)
-stmt-begins (t.while place c x) ts rest g s = at_word s (λ o us e a. rw e refl)
-stmt-begins (t.for place first c step x) ts rest g s = at_word s (λ o us e a. rw e refl)
-stmt-begins (t.range_for place auto x y body) ts rest g s = at_word s (λ o us e a. rw e refl)
-stmt-begins (t.break place) ts rest g s = at_word s (λ o us e a. rw e refl)
-stmt-begins (t.continue place) ts rest g s = at_word s (λ o us e a. rw e refl)
-stmt-begins (t.gives_back place x) ts rest g s = at_word s (λ o us e a. rw e refl)
 stmt-begins (t.does place e) ts rest g s =
     split (effect_written e) (from_word place (effect_written e ++ v.mark m.Semicolon ∷ []) (does-some e) s).0
     (λ mid a b. begins-stmt (kind_at ts) (effect-begins e ts mid g a))
+stmt-begins _ ts rest g s = at_word s (λ o us e a. rw e refl)
 
 -- the word begins an item
 abbrev pub begins_item : Kind → Bool
@@ -115,20 +107,11 @@ item-goes_on _ h = refl
 
 pub declaration-height_some : (d : Declaration) → 1 ≤ declaration_height d
 declaration-height_some (t.declares_scalar place s x y) = omega arith
-declaration-height_some (t.declares_auto place x y) = omega arith
-declaration-height_some (t.declares_container c x i) = omega arith
+declaration-height_some _ = omega arith
 
 pub stmt-height_some : (x : Stmt) → 1 ≤ stmt_height x
 stmt-height_some (t.block opens items closes) = omega arith
-stmt-height_some (t.choice place c x) = omega arith
-stmt-height_some (t.choice_else place c x y) = omega arith
-stmt-height_some (t.while place c x) = omega arith
-stmt-height_some (t.for place first c step x) = omega arith
-stmt-height_some (t.range_for place auto x y body) = omega arith
-stmt-height_some (t.break place) = omega arith
-stmt-height_some (t.continue place) = omega arith
-stmt-height_some (t.gives_back place x) = omega arith
-stmt-height_some (t.does place e) = omega arith
+stmt-height_some _ = omega arith
 
 -- an item has a word at least
 from-length : (place : Place) (xs : List Written) → length (from_place place xs) ≡ length xs
@@ -136,16 +119,8 @@ from-length place [] = refl
 from-length place (x ∷ xs) = refl
 
 stmt-some : (x : Stmt) → 1 ≤ length (stmt_written x)
-stmt-some (t.block opens items closes) = omega arith
-stmt-some (t.choice place c x) = omega arith
-stmt-some (t.choice_else place c x y) = omega arith
-stmt-some (t.while place c x) = omega arith
-stmt-some (t.for place first c step x) = omega arith
-stmt-some (t.range_for place auto x y body) = omega arith
-stmt-some (t.break place) = omega arith
-stmt-some (t.continue place) = omega arith
-stmt-some (t.gives_back place x) = omega arith
 stmt-some (t.does place e) = omega (arith, from-length place (effect_written e ++ v.mark m.Semicolon ∷ []), does-some e)
+stmt-some _ = omega arith
 
 declaration-some : (d : Declaration) → 1 ≤ length (declaration_written d)
 declaration-some (t.declares_scalar place s x None) = omega arith

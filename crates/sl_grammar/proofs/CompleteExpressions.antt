@@ -29,17 +29,7 @@ use Rattle.sl_grammar.proofs.Spelling.{token, Spelled, split, at_word, plain_wor
 
 pub level-some : (r : Expr) → 1 ≤ level r
 level-some (t.binary x op place y) = binary-level_some op
-level-some (t.number place n) = omega arith
-level-some (t.truth place v) = omega arith
-level-some (t.name x) = omega arith
-level-some (t.call f xs) = omega arith
-level-some (t.library_call f xs) = omega arith
-level-some (t.parentheses place x) = omega arith
-level-some (t.prefix op place x) = omega arith
-level-some (t.postfix x op place) = omega arith
-level-some (t.index x place y) = omega arith
-level-some (t.member_call x f xs) = omega arith
-level-some (t.member x s place f) = omega arith
+level-some _ = omega arith
 
 -- expressions that are less high than this, and belong to the rule, are read as they are
 pub record ReadsBelow (bound : ℕ) (reader : ℕ → Reader (Tall Expr)) : Type 0 where
@@ -121,10 +111,7 @@ module _ (inner smaller : ℕ → Reader (Tall Expr)) (room : ℕ) where
 
   prefix-kind : (op : PrefixOperator) → operand_by inner smaller room (k.Mark (prefix_mark op)) ≡ prefixed inner smaller room op
   prefix-kind p.Not = refl
-  prefix-kind p.Negate = refl
-  prefix-kind p.Dereference = refl
-  prefix-kind p.Increment = refl
-  prefix-kind p.Decrement = refl
+  prefix-kind _ = refl
 
   prefix-reads : (op : PrefixOperator) (place : Place) (o : ℕ) (x : Tall Expr) (us rest : List Token) → 0 < room → inner 7 us ≡ Ok (x, rest)
       → operand inner smaller room (token (w.Mark (prefix_mark op)) o place ∷ us) ≡ Ok ((t.prefix op place x.0, x.1 + 1), rest)

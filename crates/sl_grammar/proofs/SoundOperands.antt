@@ -34,13 +34,9 @@ pub record Found (room least : ℕ) (ts : List Token) (p : Tall Expr) (rest : Li
 -- how tightly operators bind
 pub binary-low : (op : BinaryOperator) → binary_level op ≤ 6
 binary-low binary.Or = omega arith
-binary-low binary.And = omega arith
 binary-low (binary.Comparison comparison.Equal) = omega arith
-binary-low (binary.Comparison comparison.NotEqual) = omega arith
-binary-low (binary.Comparison _) = omega arith
 binary-low (binary.Arithmetic arithmetic.Add) = omega arith
-binary-low (binary.Arithmetic arithmetic.Subtract) = omega arith
-binary-low (binary.Arithmetic _) = omega arith
+binary-low _ = omega arith
 
 piece-low : (kind : Kind) → piece_level kind ≤ 8
 piece-low (k.Mark m.PlusPlus) = omega arith
