@@ -171,47 +171,23 @@ module _ (room : ℕ) where
         (whole-complete room).reads y us rest g.1 (omega arith) f.ends c,
       ) refl))
 
-  -- no expression begins with `(std::cin`
-  parenthesis-no_read : (r : Expr) (ts rest : List Token) → IsExpr r → Spelled (written r) ts rest
-      → is_mark m.LeftParenthesis (kind_at ts) && is_input (kind_at (drop 1 ts)) ≡ false
-  parenthesis-no_read (t.number place n) ts rest g h = at_word h (λ o us e _. rw e refl)
-  parenthesis-no_read (t.truth place true) ts rest g h = at_word h (λ o us e _. rw e refl)
-  parenthesis-no_read (t.truth place false) ts rest g h = at_word h (λ o us e _. rw e refl)
-  parenthesis-no_read (t.name x) ts rest g h = at_word h (λ o us e _. rw e refl)
-  parenthesis-no_read (t.call f xs) ts rest g h = at_word h (λ o us e _. rw e refl)
-  parenthesis-no_read (t.library_call f xs) ts rest g h = at_word h (λ o us e _. rw (e, g.0) refl)
-  parenthesis-no_read (t.parentheses place x) ts rest g h = at_word h (λ o us e d. split (written x) d
-      (λ mid p q. rw e (no-input (kind_at us) (expr-begins x us mid g p))))
-  parenthesis-no_read (t.prefix p.Not place x) ts rest g h = at_word h (λ o us e _. rw e refl)
-  parenthesis-no_read (t.prefix p.Negate place x) ts rest g h = at_word h (λ o us e _. rw e refl)
-  parenthesis-no_read (t.prefix p.Dereference place x) ts rest g h = at_word h (λ o us e _. rw e refl)
-  parenthesis-no_read (t.prefix p.Increment place x) ts rest g h = at_word h (λ o us e _. rw e refl)
-  parenthesis-no_read (t.prefix p.Decrement place x) ts rest g h = at_word h (λ o us e _. rw e refl)
-  parenthesis-no_read (t.binary x op place y) ts rest g h = split (written x) h (λ mid p q. parenthesis-no_read x ts mid g.2 p)
-  parenthesis-no_read (t.postfix x op place) ts rest g h = split (written x) h (λ mid p q. parenthesis-no_read x ts mid g.1 p)
-  parenthesis-no_read (t.index x place y) ts rest g h = split (written x) h (λ mid p q. parenthesis-no_read x ts mid g.1 p)
-  parenthesis-no_read (t.member_call x f xs) ts rest g h = split (written x) h (λ mid p q. parenthesis-no_read x ts mid g.1 p)
-  parenthesis-no_read (t.member x s place f) ts rest g h = split (written x) h (λ mid p q. parenthesis-no_read x ts mid g.1 p)
-
-  -- nor with `!(std::cin`
-  not-no_read : (r : Expr) (ts rest : List Token) → IsExpr r → Spelled (written r) ts rest → begins_no_read room ts ≡ false
-  not-no_read (t.number place n) ts rest g h = at_word h (λ o us e _. rw e refl)
-  not-no_read (t.truth place true) ts rest g h = at_word h (λ o us e _. rw e refl)
-  not-no_read (t.truth place false) ts rest g h = at_word h (λ o us e _. rw e refl)
-  not-no_read (t.name x) ts rest g h = at_word h (λ o us e _. rw e refl)
-  not-no_read (t.call f xs) ts rest g h = at_word h (λ o us e _. rw e refl)
-  not-no_read (t.library_call f xs) ts rest g h = at_word h (λ o us e _. rw (e, g.0) refl)
-  not-no_read (t.parentheses place x) ts rest g h = at_word h (λ o us e _. rw e refl)
-  not-no_read (t.prefix p.Not place x) ts rest g h = at_word h (λ o us e d. rw e (parenthesis-no_read x us rest g.1 d))
-  not-no_read (t.prefix p.Negate place x) ts rest g h = at_word h (λ o us e _. rw e refl)
-  not-no_read (t.prefix p.Dereference place x) ts rest g h = at_word h (λ o us e _. rw e refl)
-  not-no_read (t.prefix p.Increment place x) ts rest g h = at_word h (λ o us e _. rw e refl)
-  not-no_read (t.prefix p.Decrement place x) ts rest g h = at_word h (λ o us e _. rw e refl)
-  not-no_read (t.binary x op place y) ts rest g h = split (written x) h (λ mid p q. not-no_read x ts mid g.2 p)
-  not-no_read (t.postfix x op place) ts rest g h = split (written x) h (λ mid p q. not-no_read x ts mid g.1 p)
-  not-no_read (t.index x place y) ts rest g h = split (written x) h (λ mid p q. not-no_read x ts mid g.1 p)
-  not-no_read (t.member_call x f xs) ts rest g h = split (written x) h (λ mid p q. not-no_read x ts mid g.1 p)
-  not-no_read (t.member x s place f) ts rest g h = split (written x) h (λ mid p q. not-no_read x ts mid g.1 p)
+  -- no expression begins with `(std::cin`, nor with `!(std::cin`
+  begins-none : (r : Expr) (ts rest : List Token) → IsExpr r → Spelled (written r) ts rest
+      → (is_mark m.LeftParenthesis (kind_at ts) && is_input (kind_at (drop 1 ts)) ≡ false) × (begins_no_read room ts ≡ false)
+  begins-none (t.truth place true) ts rest g h = at_word h (λ o us e _. rw e (refl, refl))
+  begins-none (t.truth place false) ts rest g h = at_word h (λ o us e _. rw e (refl, refl))
+  begins-none (t.library_call f xs) ts rest g h = at_word h (λ o us e _. rw (e, g.0) (refl, refl))
+  begins-none (t.parentheses place x) ts rest g h = at_word h (λ o us e d. split (written x) d
+      (λ mid p q. rw e (no-input (kind_at us) (expr-begins x us mid g p), refl)))
+  begins-none (t.prefix p.Not place x) ts rest g h = at_word h (λ o us e d. rw e (refl, (begins-none x us rest g.1 d).0))
+  begins-none (t.prefix p.Negate place x) ts rest g h = at_word h (λ o us e _. rw e (refl, refl))
+  begins-none (t.prefix _ place x) ts rest g h = at_word h (λ o us e _. rw e (refl, refl))
+  begins-none (t.binary x op place y) ts rest g h = split (written x) h (λ mid p q. begins-none x ts mid g.2 p)
+  begins-none (t.postfix x op place) ts rest g h = split (written x) h (λ mid p q. begins-none x ts mid g.1 p)
+  begins-none (t.index x place y) ts rest g h = split (written x) h (λ mid p q. begins-none x ts mid g.1 p)
+  begins-none (t.member_call x f xs) ts rest g h = split (written x) h (λ mid p q. begins-none x ts mid g.1 p)
+  begins-none (t.member x s place f) ts rest g h = split (written x) h (λ mid p q. begins-none x ts mid g.1 p)
+  begins-none _ ts rest g h = at_word h (λ o us e _. rw e (refl, refl))
 
   cond-kind : (kind : Kind) (ts : List Token) → begins_expr kind ≡ true → begins_no_read room ts ≡ false
       → cond_by room kind ts ≡ and_then (expr (room + 1) 1 ts) (λ x. pure (t.tests x.0, x.1))
@@ -236,7 +212,7 @@ module _ (room : ℕ) where
       rw (e, e2, input, lt-ltb 1 room (omega arith), inside, e3, e4) refl))))
   cond-complete (t.tests x) ts rest g l f s =
       rw (
-        cond-kind (kind_at ts) ts (expr-begins x ts rest g s) (not-no_read x ts rest g s),
+        cond-kind (kind_at ts) ts (expr-begins x ts rest g s) (begins-none x ts rest g s).1,
         (whole-complete (room + 1)).reads x ts rest g (omega arith) f.ends s,
       ) refl
 

@@ -3,6 +3,7 @@ use Rattle.std.proofs.Common.{◌≡◌, ℕ, ◌+◌, ◌-◌, ◌<◌, true, L
 use Rattle.std.specs.Prelude.{nat_lt, ◌&&◌, codes, ⊤}
 use Rattle.std.proofs.lemmas.Bool.{ltb-true, false≢true}
 use Rattle.sl_base.specs.declared.mark.Mark.TheVariants as m
+use Rattle.sl_base.specs.declared.place.Place.{Place}
 use Rattle.sl_base.specs.declared.token.Token.{Token}
 use Rattle.sl_base.specs.declared.word.Word.TheVariants as w
 use Rattle.sl_syntax.specs.declared.kind.Kind.{Kind}
@@ -86,13 +87,27 @@ read-part room ts y e h =
 abbrev pub shifted_written : Out → List Written
 shifted_written x = s.mark m.ShiftLeft ∷ out_written x
 
-pub is_input_kind : (kind : Kind) → is_input kind ≡ true → kind ≡ k.Input
+is_input_kind : (kind : Kind) → is_input kind ≡ true → kind ≡ k.Input
 is_input_kind k.Input h = refl
 is_input_kind _ h = absurd (false≢true h)
 
-pub drop_twice : (ts : List Token) → drop 2 ts ≡ drop 1 (drop 1 ts)
+drop_twice : (ts : List Token) → drop 2 ts ≡ drop 1 (drop 1 ts)
 drop_twice [] = refl
 drop_twice (x ∷ ts) = refl
+
+-- `!(std::cin`, where there is room for it
+pub no_read-begins : (room : ℕ) (ts : List Token) → nat_lt 1 room && begins_no_read room ts ≡ true
+    → (1 < room) × (is_mark m.Not (kind_at ts) ≡ true) × (is_input (kind_at (drop 2 ts)) ≡ true)
+no_read-begins room ts begins =
+    let high = both (nat_lt 1 room) (begins_no_read room ts) begins in
+    let input = both (is_mark m.Not (kind_at ts) && is_mark m.LeftParenthesis (kind_at (drop 1 ts))) (is_input (kind_at (drop 2 ts))) high.1 in
+    (ltb-true 1 room high.0, (both (is_mark m.Not (kind_at ts)) (is_mark m.LeftParenthesis (kind_at (drop 1 ts))) input.0).0, input.1)
+
+-- what stands behind its `(`
+pub input-behind : (ts : List Token) (u : Place × List Token) → mark m.LeftParenthesis (drop 1 ts) ≡ Ok u → is_input (kind_at (drop 2 ts)) ≡ true
+    → kind_at u.1 ≡ k.Input
+input-behind ts u opened input =
+    ap kind_at (mark_rest m.LeftParenthesis (drop 1 ts) u opened ∙ sym (drop_twice ts)) ∙ is_input_kind (kind_at (drop 2 ts)) input
 
 module _ (room : ℕ) where
   value-out : (ts : List Token) (y : Took Expr) → expr room 5 ts ≡ Ok y → Part out_written IsOut out_height (room - 1) ts (t.value y.0.0, y.0.1) y.1
@@ -196,8 +211,7 @@ module _ (room : ℕ) where
       bound (mark m.LeftParenthesis (drop 1 ts)) _ y P h (λ u opened h1.
       bound (read room u.1) _ y P h1 (λ r reads h2.
       bound (mark m.RightParenthesis r.1) _ y P h2 (λ v closed h3.
-      let at_input : drop 2 ts ≡ u.1 = drop_twice ts ∙ sym (mark_rest m.LeftParenthesis (drop 1 ts) u opened) in
-      let kind : kind_at u.1 ≡ k.Input = ap kind_at (sym at_input) ∙ is_input_kind (kind_at (drop 2 ts)) input in
+      let kind = input-behind ts u opened input in
       let found = read-part room u.1 r kind reads in
       answered _ y P h3 (record {
         spelled = one_word ts (k.Mark m.Not) (w.Mark m.Not) (is_mark_kind m.Not (kind_at ts) sees) refl
@@ -212,10 +226,8 @@ module _ (room : ℕ) where
       let P : Took Cond → Type 0 = CondAt room ts in
       chosen (nat_lt 1 room && begins_no_read room ts) _ _ _ (P y) h
       (λ begins h1.
-      let high = both (nat_lt 1 room) (begins_no_read room ts) begins in
-      let input = both (is_mark m.Not (kind_at ts) && is_mark m.LeftParenthesis (kind_at (drop 1 ts))) (is_input (kind_at (drop 2 ts))) high.1 in
-      let sees = both (is_mark m.Not (kind_at ts)) (is_mark m.LeftParenthesis (kind_at (drop 1 ts))) input.0 in
-      no_read-part ts y (ltb-true 1 room high.0) sees.0 input.1 h1)
+      let of = no_read-begins room ts begins in
+      no_read-part ts y of.0 of.1 of.2 h1)
       (λ other h1.
       bound (expr (room + 1) 1 ts) _ y P h1 (λ x read h2.
       let found = expr-part room 1 (omega arith) (omega arith) ts x read in

@@ -1,5 +1,5 @@
 -- Where an effect or a condition stops at a fault, the tokens before it begin one.
-use Rattle.std.proofs.Common.{◌≡◌, ℕ, ◌+◌, ◌-◌, ◌<◌, ◌≤◌, length, true, List, [], ◌∷◌, ◌++◌, Option, Some, None, Err, refl, sym, ap, ◌∙◌, arith, drop}
+use Rattle.std.proofs.Common.{◌≡◌, ℕ, ◌+◌, ◌-◌, ◌<◌, ◌≤◌, length, true, List, [], ◌∷◌, ◌++◌, Option, Some, None, Err, refl, arith, drop}
 use Rattle.std.specs.Prelude.{nat_lt, ◌&&◌, codes}
 use Rattle.std.proofs.lemmas.Bool.{ltb-true}
 use Rattle.sl_base.specs.declared.mark.Mark.TheVariants as m
@@ -22,10 +22,10 @@ use Rattle.sl_grammar.specs.Effects.{shifted_name, read, is_input, out_by, shift
 use Rattle.sl_grammar.specs.Effects as effects
 use Rattle.sl_grammar.specs.Expressions.{expr}
 use Rattle.sl_grammar.specs.Steps.{Tall, kind_at, here, is_mark, mark, identifier, all_behind}
-use Rattle.sl_grammar.proofs.KindLaws.{is_mark_kind, both}
-use Rattle.sl_grammar.proofs.SoundEffects.{read-part, name_written, Anything, flat, shifted_name-part, shifted_written, shifted-part, assignment-mark, is_input_kind, drop_twice}
+use Rattle.sl_grammar.proofs.KindLaws.{is_mark_kind}
+use Rattle.sl_grammar.proofs.SoundEffects.{read-part, name_written, Anything, flat, shifted_name-part, shifted_written, shifted-part, assignment-mark, no_read-begins, input-behind}
 use Rattle.sl_grammar.proofs.SoundExpressions.{expr-part}
-use Rattle.sl_grammar.proofs.SoundSteps.{one_word, mark_plain, mark_rest, Part, chosen}
+use Rattle.sl_grammar.proofs.SoundSteps.{one_word, mark_plain, Part, chosen}
 use Rattle.sl_grammar.proofs.ViableExpressions.{expr-viable, value-stops}
 use Rattle.sl_grammar.proofs.ViableSteps.{Viable, viable, begun, at_once, ◌⨠◌, unfinished, ended, some_name, some_expr, faulted, tested, no_fault, mark_fault, identifier_fault, Stops, behind-viable}
 use Rattle.sl_grammar.proofs.Spelling.{Spelled}
@@ -202,8 +202,7 @@ module _ (room : ℕ) where
       (first ⨠ at_once (s.mark m.LeftParenthesis ∷ (read_written some_read ++ s.mark m.RightParenthesis ∷ [])) (drop 1 ts) n
       (mark_fault m.LeftParenthesis (drop 1 ts) n h1)))
       (λ u opened h1.
-      let at_input : drop 2 ts ≡ u.1 = drop_twice ts ∙ sym (mark_rest m.LeftParenthesis (drop 1 ts) u opened) in
-      let kind : kind_at u.1 ≡ k.Input = ap kind_at (sym at_input) ∙ is_input_kind (kind_at (drop 2 ts)) input in
+      let kind = input-behind ts u opened input in
       let open_paren : Spelled (s.mark m.LeftParenthesis ∷ []) (drop 1 ts) u.1 = mark_plain m.LeftParenthesis (drop 1 ts) u opened in
       faulted (read room u.1) _ n P h1
       (λ h2.
@@ -223,10 +222,8 @@ module _ (room : ℕ) where
       let P : Type 0 = Viable CondLow cond_written ts n in
       chosen (nat_lt 1 room && begins_no_read room ts) _ _ _ P h
       (λ begins h1.
-      let high = both (nat_lt 1 room) (begins_no_read room ts) begins in
-      let input = both (is_mark m.Not (kind_at ts) && is_mark m.LeftParenthesis (kind_at (drop 1 ts))) (is_input (kind_at (drop 2 ts))) high.1 in
-      let sees = both (is_mark m.Not (kind_at ts)) (is_mark m.LeftParenthesis (kind_at (drop 1 ts))) input.0 in
-      no_read-viable ts n (ltb-true 1 room high.0) sees.0 input.1 h1)
+      let of = no_read-begins room ts begins in
+      no_read-viable ts n of.0 of.1 of.2 h1)
       (λ other h1.
       faulted (expr (room + 1) 1 ts) _ n P h1
       (λ h2.
