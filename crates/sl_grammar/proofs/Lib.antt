@@ -1,6 +1,7 @@
 mod Examples
 pub mod KindLaws
 pub mod Spelling
+pub mod Rows
 pub mod CompleteSteps
 pub mod CompleteKinds
 pub mod CompleteLists

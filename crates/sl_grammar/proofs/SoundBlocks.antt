@@ -1,14 +1,14 @@
 -- What is read as a block is the words of items that follow the grammar.
-use Rattle.std.proofs.Common.{◌≡◌, ℕ, ◌+◌, ◌-◌, ◌<◌, max, true, false, List, [], ◌∷◌, ◌++◌, Ok, refl, ap, arith, append_assoc}
-use Rattle.std.specs.Prelude.{flat_map, nat_lt}
+use Rattle.std.proofs.Common.{◌≡◌, ℕ, ◌+◌, ◌-◌, ◌<◌, true, false, List, [], ◌∷◌, ◌++◌, Ok, refl, ap, arith, append_assoc}
+use Rattle.std.specs.Prelude.{nat_lt}
 use Rattle.std.proofs.lemmas.Bool.{ltb-true}
 use Rattle.sl_base.specs.declared.mark.Mark.TheVariants as m
 use Rattle.sl_base.specs.declared.place.Place.{Place}
 use Rattle.sl_base.specs.declared.token.Token.{Token}
 use Rattle.sl_syntax.specs.declared.kind.Kind.{Kind}
 use Rattle.sl_syntax.specs.declared.kind.Kind.TheVariants as k
-use Rattle.sl_syntax.specs.Depth.{highest, declaration_height, cond_height, stmt_height, item_height, items_height}
-use Rattle.sl_syntax.specs.Shaped.{IsDeclaration, IsCond, IsStmt, IsItem, AreItems, ends_open, Each}
+use Rattle.sl_syntax.specs.Depth.{declaration_height, cond_height, stmt_height, item_height, items_height}
+use Rattle.sl_syntax.specs.Shaped.{IsDeclaration, IsCond, IsStmt, IsItem, AreItems, ends_open}
 use Rattle.sl_syntax.specs.Tree as t
 use Rattle.sl_syntax.specs.Tree.{Expr, Declaration, Effect, Cond, First, Stmt, Item, Items, items_from, Function, Program}
 use Rattle.sl_syntax.specs.Written as s
@@ -22,6 +22,7 @@ use Rattle.sl_grammar.proofs.SoundDeclarations.{scalar-part, auto-part, containe
 use Rattle.sl_grammar.proofs.SoundEffects.{cond-part}
 use Rattle.sl_grammar.proofs.SoundSteps.{Took, bound, guarded, answered, mark_took, mark_plain, mark_here, Part, Parts, behind}
 use Rattle.sl_grammar.proofs.Spelling.{◌⨾◌, respelled}
+use Rattle.sl_grammar.proofs.Rows.{items-written, items-height, are_items}
 
 -- What is read as a statement: where it ends in an `if` that has no `else`, none follows.
 pub record FoundStmt (room : ℕ) (ts : List Token) (p : Tall Stmt) (rest : List Token) : Type 0 where
@@ -31,19 +32,6 @@ pub record FoundStmt (room : ℕ) (ts : List Token) (p : Tall Stmt) (rest : List
 -- what a reader of statements answers is such
 abbrev pub Finds : Reader (Tall Stmt) → ℕ → Type 0
 Finds inner room = (ts : List Token) (y : Took Stmt) → inner ts ≡ Ok y → FoundStmt room ts y.0 y.1
-
--- items in their order
-pub items-written : (xs : List Item) → flat_map item_written xs ≡ items_written (items_from xs)
-items-written [] = refl
-items-written (x ∷ xs) = ap (λ (l : List Written). item_written x ++ l) (items-written xs)
-
-pub items-height : (xs : List Item) → items_height (items_from xs) ≡ highest item_height xs
-items-height [] = refl
-items-height (x ∷ xs) = ap (max (item_height x)) (items-height xs)
-
-pub are_items : (xs : List Item) → Each IsItem xs → AreItems (items_from xs)
-are_items [] h = tt
-are_items (x ∷ xs) h = (h.0, are_items xs h.1)
 
 -- a block by its parts
 abbrev pub block_written : Place × Items × Place → List Written

@@ -1,6 +1,6 @@
 -- What is read as a type, a declaration or parameters is the words of such that follow the grammar.
 use Rattle.std.proofs.Common.{◌≡◌, ℕ, ◌+◌, ◌-◌, ◌<◌, Bool, true, false, List, [], ◌∷◌, ◌++◌, Option, Some, None, Ok, refl, arith, drop}
-use Rattle.std.specs.Prelude.{nat_lt, codes, ⊤}
+use Rattle.std.specs.Prelude.{nat_lt, codes}
 use Rattle.std.proofs.lemmas.Bool.{ltb-true}
 use Rattle.sl_base.specs.declared.form.Form.{Form}
 use Rattle.sl_base.specs.declared.mark.Mark.TheVariants as m
@@ -27,10 +27,7 @@ use Rattle.sl_grammar.proofs.SoundExpressions.{sound, expr-part}
 use Rattle.sl_grammar.proofs.SoundLists.{list-part, list-before-part}
 use Rattle.sl_grammar.proofs.SoundSteps.{Took, bound, chosen, guarded, answered, one_word, one_plain, seen, mark_plain, identifier_took, Part, Parts, behind}
 use Rattle.sl_grammar.proofs.Spelling.{Spelled, ◌⨾◌, no_words, respelled}
-
--- of a parameter nothing more is asked
-abbrev pub AnyParam : Param → Type 0
-AnyParam x = ⊤
+use Rattle.sl_grammar.proofs.Rows.{Anything, comma_param_written}
 
 -- what is read from these tokens
 abbrev pub DeclarationAt : ℕ → List Token → Took Declaration → Type 0
@@ -40,7 +37,7 @@ abbrev pub InitializerAt : ℕ → List Token → Took Initializer → Type 0
 InitializerAt room ts y = Part initializer_written IsInitializer initializer_height room ts y.0 y.1
 
 abbrev pub ParamAt : ℕ → List Token → Took Param → Type 0
-ParamAt room ts y = Part param_written AnyParam param_height room ts y.0 y.1
+ParamAt room ts y = Part param_written Anything param_height room ts y.0 y.1
 
 int-by : (kind : Kind) (ts : List Token) (y : Unit {0} × List Token) → kind_at ts ≡ kind → int_by kind ts ≡ Ok y
     → Spelled (plain (scalar_word c.Int) ∷ []) ts y.1
@@ -283,34 +280,27 @@ param-by (k.Container form) ts y e h = container_param-part form ts y e h
 param-by k.Const ts y e h = const_param-part ts y e h
 param-by _ ts y e h = absurd cc
 
-pub param-part : Parts param_written AnyParam param_height 2 param
+pub param-part : Parts param_written Anything param_height 2 param
 unfolding param
 param-part ts y h = param-by (kind_at ts) ts y refl h
 
--- a parameter behind a comma
-abbrev pub comma_written : Param → List Written
-comma_written x = s.mark m.Comma ∷ param_written x
-
-pub comma-part : Parts comma_written AnyParam param_height 2 comma_param
+pub comma-part : Parts comma_param_written Anything param_height 2 comma_param
 comma-part ts y h =
-    let P : Took Param → Type 0 = λ z. Part comma_written AnyParam param_height 2 ts z.0 z.1 in
+    let P : Took Param → Type 0 = λ z. Part comma_param_written Anything param_height 2 ts z.0 z.1 in
     bound (mark m.Comma ts) _ y P h (λ u comma h1.
     let found = param-part u.1 y h1 in
     record { spelled = mark_plain m.Comma ts u comma ⨾ found.spelled; fits = tt; size = found.size; low = found.low })
 
-abbrev pub AnyParams : List Param → Type 0
-AnyParams xs = ⊤
-
-pub params-part : Parts params_written AnyParams (highest param_height) 2 params
+pub params-part : Parts params_written Anything (highest param_height) 2 params
 unfolding params
 params-part ts y h =
-    let P : Took (List Param) → Type 0 = λ z. Part params_written AnyParams (highest param_height) 2 ts z.0 z.1 in
+    let P : Took (List Param) → Type 0 = λ z. Part params_written Anything (highest param_height) 2 ts z.0 z.1 in
     chosen (is_mark m.RightParenthesis (kind_at ts)) _ _ _ (P y) h
     (λ closes h1. answered _ y P h1 (record { spelled = no_words ts; fits = tt; size = refl; low = omega arith }))
     (λ opens h1.
     bound (param ts) _ y P h1 (λ x one h2.
     let first = param-part ts x one in
-    let others = behind comma_written AnyParam param_height 2 (is_mark m.Comma) comma_param comma-part (x.0.0 ∷ [], x.0.1) x.1 y h2 in
+    let others = behind comma_param_written Anything param_height 2 (is_mark m.Comma) comma_param comma-part (x.0.0 ∷ [], x.0.1) x.1 y h2 in
     record {
       spelled = rw others.all (first.spelled ⨾ others.spelled);
       fits = tt;

@@ -1,6 +1,6 @@
 -- What is read as an effect or a condition is the words of one that follows the grammar.
 use Rattle.std.proofs.Common.{◌≡◌, ℕ, ◌+◌, ◌-◌, ◌<◌, true, List, [], ◌∷◌, Option, Some, None, Ok, refl, sym, ap, ◌∙◌, arith, drop}
-use Rattle.std.specs.Prelude.{nat_lt, ◌&&◌, codes, ⊤}
+use Rattle.std.specs.Prelude.{nat_lt, ◌&&◌, codes}
 use Rattle.std.proofs.lemmas.Bool.{ltb-true, false≢true}
 use Rattle.sl_base.specs.declared.mark.Mark.TheVariants as m
 use Rattle.sl_base.specs.declared.place.Place.{Place}
@@ -15,8 +15,7 @@ use Rattle.sl_syntax.specs.Depth.{height, out_height, effect_height, cond_height
 use Rattle.sl_syntax.specs.Shaped.{IsExpr, IsRead, IsOut, IsEffect, IsCond}
 use Rattle.sl_syntax.specs.Tree as t
 use Rattle.sl_syntax.specs.Tree.{Expr, Out, Effect, Cond}
-use Rattle.sl_syntax.specs.Written as s
-use Rattle.sl_syntax.specs.Written.{Written, at, assignment_mark, written, out_written, read_written, effect_written, cond_written}
+use Rattle.sl_syntax.specs.Written.{assignment_mark, written, out_written, read_written, effect_written, cond_written}
 use Rattle.sl_grammar.specs.Effects.{shifted_name, read, is_input, out_by, shifted_out, print, assignment_of, assigned_by, assigned, effect_by, effect, begins_no_read, no_read, cond_by}
 use Rattle.sl_grammar.specs.Effects as effects
 use Rattle.sl_grammar.specs.Expressions.{expr}
@@ -25,16 +24,7 @@ use Rattle.sl_grammar.proofs.KindLaws.{is_mark_kind, some_one, both}
 use Rattle.sl_grammar.proofs.SoundExpressions.{sound, expr-part}
 use Rattle.sl_grammar.proofs.SoundSteps.{Took, bound, chosen, guarded, answered, one_word, one_text, mark_plain, mark_rest, identifier_took, Part, Parts, behind}
 use Rattle.sl_grammar.proofs.Spelling.{◌⨾◌}
-
--- `>> x`
-abbrev pub name_written : Identifier → List Written
-name_written x = s.mark m.ShiftRight ∷ s.named x ∷ []
-
-abbrev pub Anything : Identifier → Type 0
-Anything x = ⊤
-
-abbrev pub flat : Identifier → ℕ
-flat x = 0
+use Rattle.sl_grammar.proofs.Rows.{Anything, name_written, flat, shifted_written}
 
 pub shifted_name-part : Parts name_written Anything flat 0 shifted_name
 unfolding shifted_name
@@ -82,10 +72,6 @@ read-part room ts y e h =
       size = refl;
       low = omega arith;
     }))))
-
--- `<< x`
-abbrev pub shifted_written : Out → List Written
-shifted_written x = s.mark m.ShiftLeft ∷ out_written x
 
 is_input_kind : (kind : Kind) → is_input kind ≡ true → kind ≡ k.Input
 is_input_kind k.Input h = refl

@@ -15,7 +15,8 @@ use Rattle.sl_grammar.specs.Expressions.{comma_expr, list_behind, list, list_bef
 use Rattle.sl_grammar.specs.Steps.{Reader, Tall, kind_at, is_mark, mark, all_behind}
 use Rattle.sl_grammar.proofs.SoundSteps.{Took, mark_plain, Part, Parts, chosen}
 use Rattle.sl_grammar.proofs.ViableSteps.{Viable, viable, begun, at_once, ◌⨠◌, unfinished, rewritten, some_expr, faulted, tested, no_fault, mark_fault, Stops, behind-viable}
-use Rattle.sl_grammar.proofs.SoundLists.{comma_written, rest-written, rest-height, are_exprs, comma-part}
+use Rattle.sl_grammar.proofs.SoundLists.{comma-part}
+use Rattle.sl_grammar.proofs.Rows.{comma_expr_written, rest-written, rest-height, are_exprs}
 
 -- a list is at most one node higher than its highest
 list-low : (x : Expr) (xs : List Expr) (room : ℕ) → height x < room → highest height xs < room → list_height (t.with x (exprs_from xs)) ≤ room
@@ -33,11 +34,11 @@ ListLow room xs = AreExprs xs × (list_height xs ≤ room)
 module _ (one more : Reader (Tall Expr)) (room : ℕ) (f : Parts written IsExpr height room one)
     (g : (ts : List Token) (y : Took Expr) → more ts ≡ Ok y → (0 < room) × Part written IsExpr height (room - 1) ts y.0 y.1)
     (first-stops : Stops written IsExpr height room one) (more-stops : 0 < room → Stops written IsExpr height (room - 1) more) where
-  comma-stops : 0 < room → Stops comma_written IsExpr height (room - 1) (comma_expr one more room)
+  comma-stops : 0 < room → Stops comma_expr_written IsExpr height (room - 1) (comma_expr one more room)
   comma-stops high ts n h =
-      let P : Type 0 = Viable (λ (x : Expr). IsExpr x × (height x ≤ room - 1)) comma_written ts n in
+      let P : Type 0 = Viable (λ (x : Expr). IsExpr x × (height x ≤ room - 1)) comma_expr_written ts n in
       faulted (mark m.Comma ts) _ n P h
-      (λ h1. viable some_expr (tt, omega arith) (at_once (comma_written some_expr) ts n (mark_fault m.Comma ts n h1)))
+      (λ h1. viable some_expr (tt, omega arith) (at_once (comma_expr_written some_expr) ts n (mark_fault m.Comma ts n h1)))
       (λ u comma h1.
       let v = more-stops high u.1 n h1 in
       viable v.tree v.fits (mark_plain m.Comma ts u comma ⨠ begun v))
@@ -54,7 +55,7 @@ module _ (one more : Reader (Tall Expr)) (room : ℕ) (f : Parts written IsExpr 
       let lower : x.1 < room = ltb-true x.1 room below in
       faulted (all_behind (is_mark m.Comma) (comma_expr one more room) ([], 0) us) _ n P h2
       (λ h3.
-      let v = behind-viable comma_written IsExpr height (room - 1) (is_mark m.Comma) (comma_expr one more room) (comma-part one more room f g)
+      let v = behind-viable comma_expr_written IsExpr height (room - 1) (is_mark m.Comma) (comma_expr one more room) (comma-part one more room f g)
       (comma-stops (omega arith)) ([], 0) us n h3 in
       viable (t.with x.0 (exprs_from v.tree))
       (tt, (first.fits, are_exprs v.tree v.fits.0), list-low x.0 v.tree room (omega (arith, first.size)) (omega (arith, v.fits.1)))
