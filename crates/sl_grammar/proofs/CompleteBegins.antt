@@ -20,6 +20,7 @@ use Rattle.sl_grammar.proofs.CompleteDeclarations.{reader_of, type-kind}
 use Rattle.sl_grammar.proofs.CompleteEffects.{EndsEffect, begins_effect, begins-effect, effect-begins, effect-some}
 use Rattle.sl_grammar.proofs.CompleteKinds.{expr-begins, scalar-kind}
 use Rattle.sl_grammar.proofs.Spelling.{Spelled, split, at_word, from_word}
+use Rattle.sl_grammar.proofs.KindLaws.{not_mark}
 
 pub semicolon-ends : EndsEffect (k.Mark m.Semicolon)
 semicolon-ends = record { ends = record { stops = omega arith; not_call = refl }; no_read = refl; no_print = refl; no_assignment = λ room. refl }
@@ -28,14 +29,10 @@ pub parenthesis-ends : EndsEffect (k.Mark m.RightParenthesis)
 parenthesis-ends = record { ends = record { stops = omega arith; not_call = refl }; no_read = refl; no_print = refl; no_assignment = λ room. refl }
 
 pub effect-not_semicolon : (kind : Kind) → begins_effect kind ≡ true → is_mark m.Semicolon kind ≡ false
-effect-not_semicolon (k.Mark m.Semicolon) h = absurd (false≢true h)
-effect-not_semicolon (k.Mark _) h = refl
-effect-not_semicolon _ h = refl
+effect-not_semicolon kind h = not_mark begins_effect m.Semicolon kind refl h
 
 pub effect-not_parenthesis : (kind : Kind) → begins_effect kind ≡ true → is_mark m.RightParenthesis kind ≡ false
-effect-not_parenthesis (k.Mark m.RightParenthesis) h = absurd (false≢true h)
-effect-not_parenthesis (k.Mark _) h = refl
-effect-not_parenthesis _ h = refl
+effect-not_parenthesis kind h = not_mark begins_effect m.RightParenthesis kind refl h
 
 pub cond-begins : (c : Cond) (ts rest : List Token) → IsCond c → Spelled (cond_written c) ts rest → begins_effect (kind_at ts) ≡ true
 cond-begins (t.tests_read r) ts rest g s = at_word s (λ o us e a. rw e refl)

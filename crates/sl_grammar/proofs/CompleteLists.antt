@@ -1,11 +1,10 @@
 -- The words of a list of expressions are read as that list.
 use Rattle.std.proofs.Common.{◌≡◌, ℕ, ◌<◌, ◌≤◌, max, true, false, List, [], ◌∷◌, flat_map, Ok, refl, sym, ap, ◌∙◌, arith}
-use Rattle.std.proofs.lemmas.Bool.{lt-ltb, false≢true}
+use Rattle.std.proofs.lemmas.Bool.{lt-ltb}
 use Rattle.sl_base.specs.declared.mark.Mark.{Mark}
 use Rattle.sl_base.specs.declared.mark.Mark.TheVariants as m
 use Rattle.sl_base.specs.declared.token.Token.{Token}
 use Rattle.sl_syntax.specs.declared.kind.Kind.{Kind}
-use Rattle.sl_syntax.specs.declared.kind.Kind.TheVariants as k
 use Rattle.sl_syntax.specs.Depth.{height, list_height, rest_height, highest}
 use Rattle.sl_syntax.specs.Shaped.{IsExpr, AreExprs, Each}
 use Rattle.sl_syntax.specs.Tree as t
@@ -17,6 +16,7 @@ use Rattle.sl_grammar.proofs.CompleteKinds.{Ends, begins_expr, expr-begins}
 use Rattle.sl_grammar.proofs.CompleteSteps.{Turn, row, all-row}
 use Rattle.sl_grammar.proofs.Spelling.{Spelled, split, plain_word, respelled}
 use Rattle.sl_grammar.proofs.Rows.{comma_expr_written, rest-written, rest-height}
+use Rattle.sl_grammar.proofs.KindLaws.{not_mark}
 
 -- a whole expression that is less high than this is read as it is
 pub record ReadsWhole (bound : ℕ) (reader : Reader (Tall Expr)) : Type 0 where
@@ -33,29 +33,14 @@ pub record Closes (close : Mark) (kind : Kind) : Type 0 where
 pub record IsClose (close : Mark) : Type 0 where
   pub begins : (kind : Kind) → begins_expr kind ≡ true → is_mark close kind ≡ false
 
-parenthesis : (kind : Kind) → begins_expr kind ≡ true → is_mark m.RightParenthesis kind ≡ false
-parenthesis (k.Mark m.RightParenthesis) h = absurd (false≢true h)
-parenthesis (k.Mark _) h = refl
-parenthesis _ h = refl
-
-brace : (kind : Kind) → begins_expr kind ≡ true → is_mark m.RightBrace kind ≡ false
-brace (k.Mark m.RightBrace) h = absurd (false≢true h)
-brace (k.Mark _) h = refl
-brace _ h = refl
-
-semicolon : (kind : Kind) → begins_expr kind ≡ true → is_mark m.Semicolon kind ≡ false
-semicolon (k.Mark m.Semicolon) h = absurd (false≢true h)
-semicolon (k.Mark _) h = refl
-semicolon _ h = refl
-
 pub parenthesis-close : IsClose m.RightParenthesis
-parenthesis-close = record { begins = parenthesis }
+parenthesis-close = record { begins = λ kind h. not_mark begins_expr m.RightParenthesis kind refl h }
 
 pub brace-close : IsClose m.RightBrace
-brace-close = record { begins = brace }
+brace-close = record { begins = λ kind h. not_mark begins_expr m.RightBrace kind refl h }
 
 pub semicolon-close : IsClose m.Semicolon
-semicolon-close = record { begins = semicolon }
+semicolon-close = record { begins = λ kind h. not_mark begins_expr m.Semicolon kind refl h }
 
 -- the expressions as a list
 abbrev exprs_list : Exprs → List Expr

@@ -178,3 +178,10 @@ not_end (w.Mark m) h = absurd cc
 pub is_mark_kind : (x : Mark) (kind : Kind) → is_mark x kind ≡ true → kind ≡ k.Mark x
 is_mark_kind x (k.Mark y) h = ap k.Mark (same_true the_type (search rules) y x h)
 is_mark_kind x _ h = absurd (false≢true h)
+
+-- a kind that passes a test is none of a mark that doesn't
+pub not_mark : (test : Kind → Bool) (x : Mark) (kind : Kind) → test (k.Mark x) ≡ false → test kind ≡ true → is_mark x kind ≡ false
+not_mark test x kind fails passes = by_test (is_mark x kind) refl where
+  by_test : (b : Bool) → is_mark x kind ≡ b → is_mark x kind ≡ false
+  by_test true e = absurd (apart test kind (k.Mark x) passes fails (is_mark_kind x kind e))
+  by_test false e = e

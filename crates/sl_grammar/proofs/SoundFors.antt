@@ -144,6 +144,23 @@ module _ (inner : Reader (Tall Stmt)) (room : ℕ) (f : Finds inner room) where
         closed = body.closed;
       })))))
 
+  -- a first part that declares a variable, as it was read
+  pub valued-head : (type : Option Scalar) (ts us : List Token) (x : Identifier × List Token) (u : Place × List Token) (v : Took Expr)
+      → Spelled (opened_written (here ts)) ts us → kind_at us ≡ type_kind type → identifier (drop 1 us) ≡ Ok x → mark m.Equal x.1 ≡ Ok u
+      → expr room 1 u.1 ≡ Ok v
+      → Part (head_written (here ts)) (IfThere IsFirst) (option_height first_height) room ts (Some (first_of type (here us) x.0 v.0.0), v.0.1 + 1) v.1
+  valued-head type ts us x u v opened e name equal read =
+      let found = sound room 1 u.1 v (omega arith) (omega arith) read in
+      let declares : Spelled (first_written (first_of type (here us) x.0 v.0.0)) us v.1 = respelled (first-written type (here us) x.0 v.0.0)
+      (one_word us (type_kind type) (type_word type) e (type-fixed type)
+      ⨾ (identifier_took (drop 1 us) x name ⨾ (mark_plain m.Equal x.1 u equal ⨾ found.1.part.spelled))) in
+      record {
+        spelled = opened ⨾ declares;
+        fits = first-fits type (here us) x.0 v.0.0 found.1.part.fits;
+        size = omega (arith, found.1.part.size, first-height type (here us) x.0 v.0.0);
+        low = omega (arith, found.0, found.1.part.low);
+      }
+
   valued-found : (type : Option Scalar) (ts us : List Token) (x : Identifier × List Token) (y : Took Stmt) → Spelled (opened_written (here ts)) ts us
       → kind_at us ≡ type_kind type → identifier (drop 1 us) ≡ Ok x → valued_first inner room (here ts) (here us) type x.0 x.1 ≡ Ok y
       → FoundStmt (room + 1) ts y.0 y.1
@@ -152,17 +169,7 @@ module _ (inner : Reader (Tall Stmt)) (room : ℕ) (f : Finds inner room) where
       let P : Took Stmt → Type 0 = λ z. FoundStmt (room + 1) ts z.0 z.1 in
       bound (mark m.Equal x.1) _ y P h (λ u equal h1.
       bound (expr room 1 u.1) _ y P h1 (λ v read h2.
-      let found = sound room 1 u.1 v (omega arith) (omega arith) read in
-      let first : First = first_of type (here us) x.0 v.0.0 in
-      let declares : Spelled (first_written first) us v.1 = respelled (first-written type (here us) x.0 v.0.0)
-      (one_word us (type_kind type) (type_word type) e (type-fixed type)
-      ⨾ (identifier_took (drop 1 us) x name ⨾ (mark_plain m.Equal x.1 u equal ⨾ found.1.part.spelled))) in
-      for_behind-found ts v.1 (Some first, v.0.1 + 1) y (record {
-        spelled = opened ⨾ declares;
-        fits = first-fits type (here us) x.0 v.0.0 found.1.part.fits;
-        size = omega (arith, found.1.part.size, first-height type (here us) x.0 v.0.0);
-        low = omega (arith, found.0, found.1.part.low);
-      }) h2))
+      for_behind-found ts v.1 _ y (valued-head type ts us x u v opened e name equal read) h2))
 
   declared-found : (type : Option Scalar) (ts us : List Token) (y : Took Stmt) → Spelled (opened_written (here ts)) ts us
       → kind_at us ≡ type_kind type → declared_first inner room (here ts) type us ≡ Ok y → FoundStmt (room + 1) ts y.0 y.1

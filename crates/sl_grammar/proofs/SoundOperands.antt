@@ -86,6 +86,11 @@ abbrev pub arguments_written : Exprs → List Written
 arguments_written xs = s.mark m.LeftParenthesis ∷ (list_written xs ++ s.mark m.RightParenthesis ∷ [])
 
 module _ (inner smaller : ℕ → Reader (Tall Expr)) (room : ℕ) (f : Finds inner room) (g : Finds smaller (room - 1)) where
+  pub list-parts : Parts list_written AreExprs list_height (room - 1) (list_before (inner 1) (smaller 1) (room - 1) m.RightParenthesis)
+  list-parts =
+      list-before-part (inner 1) (smaller 1) (room - 1) (λ us z e. (f 1 us z (omega arith) (omega arith) e).1.part)
+      (λ us z e. ((g 1 us z (omega arith) (omega arith) e).0, (g 1 us z (omega arith) (omega arith) e).1.part)) m.RightParenthesis
+
   pub arguments-part : 0 < room → Parts arguments_written AreExprs list_height (room - 1) (arguments inner smaller room)
   unfolding arguments
   arguments-part high ts y h =
@@ -93,8 +98,7 @@ module _ (inner smaller : ℕ → Reader (Tall Expr)) (room : ℕ) (f : Finds in
       bound (mark m.LeftParenthesis ts) _ y P h (λ u opened h1.
       bound (list_before (inner 1) (smaller 1) (room - 1) m.RightParenthesis u.1) _ y P h1 (λ xs read h2.
       bound (mark m.RightParenthesis xs.1) _ y P h2 (λ v closed h3.
-      let found = list-before-part (inner 1) (smaller 1) (room - 1) (λ us z e. (f 1 us z (omega arith) (omega arith) e).1.part)
-      (λ us z e. ((g 1 us z (omega arith) (omega arith) e).0, (g 1 us z (omega arith) (omega arith) e).1.part)) m.RightParenthesis u.1 xs read in
+      let found = list-parts u.1 xs read in
       answered _ y P h3 (record {
         spelled = mark_plain m.LeftParenthesis ts u opened ⨾ (found.spelled ⨾ mark_plain m.RightParenthesis xs.1 v closed);
         fits = found.fits;

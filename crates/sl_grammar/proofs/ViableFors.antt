@@ -24,14 +24,13 @@ use Rattle.sl_grammar.specs.Statements.{declared_first, first_of, for_behind, fo
 use Rattle.sl_grammar.specs.Steps.{Reader, Tall, here, identifier, is_mark, kind_at, mark}
 use Rattle.sl_grammar.proofs.SoundBlocks.{Finds}
 use Rattle.sl_grammar.proofs.SoundEffects.{effect-part}
-use Rattle.sl_grammar.proofs.SoundExpressions.{sound}
 use Rattle.sl_grammar.proofs.SoundSteps.{Part, identifier_took, mark_plain, one_plain, one_word, chosen}
 use Rattle.sl_grammar.proofs.ViableBlocks.{Faults, LowStmt, inner-stops, some_stmt}
 use Rattle.sl_grammar.proofs.ViableEffects.{cond-viable, effect-viable}
 use Rattle.sl_grammar.proofs.ViableExpressions.{expr-viable}
 use Rattle.sl_grammar.proofs.ViableSteps.{Begun, Stops, Viable, at_once, begun, faulted, identifier_fault, mark_fault, no_fault, rewritten, some_expr, some_name, tested, unfinished, viable, ◌⨠◌}
-use Rattle.sl_grammar.proofs.SoundFors.{cond-option, effect-option, element-word, first-fits, first-height, first-written, type-fixed, type_kind, type_word, head_written, opened_written}
-use Rattle.sl_grammar.proofs.Spelling.{Spelled, respelled, ◌⨾◌}
+use Rattle.sl_grammar.proofs.SoundFors.{cond-option, effect-option, element-word, first-fits, first-height, first-written, type-fixed, type_kind, type_word, head_written, opened_written, valued-head}
+use Rattle.sl_grammar.proofs.Spelling.{Spelled, ◌⨾◌}
 use Rattle.sl_grammar.proofs.KindLaws.{both}
 
 -- what may stand behind the first part
@@ -175,17 +174,7 @@ module _ (inner : Reader (Tall Stmt)) (room : ℕ) (f : Finds inner room) (high 
       (λ h2.
       let v = expr-viable room 1 u.1 n high (omega arith) (omega arith) h2 in
       value-begun type ts us x.0 v.tree n v.fits.0 v.fits.1 (opened ⨠ (variable ⨠ (sign ⨠ unfinished (begun v) others_written))))
-      (λ v read h2.
-      let found = sound room 1 u.1 v (omega arith) (omega arith) read in
-      let first : First = first_of type (here us) x.0 v.0.0 in
-      let declares : Spelled (first_written first) us v.1 =
-      respelled (first-written type (here us) x.0 v.0.0) (variable ⨾ (sign ⨾ found.1.part.spelled)) in
-      for_behind-begun ts v.1 (Some first, v.0.1 + 1) n (record {
-        spelled = opened ⨾ declares;
-        fits = first-fits type (here us) x.0 v.0.0 found.1.part.fits;
-        size = omega (arith, found.1.part.size, first-height type (here us) x.0 v.0.0);
-        low = omega (arith, found.0, found.1.part.low);
-      }) h2))
+      (λ v read h2. for_behind-begun ts v.1 _ n (valued-head inner room f type ts us x u v opened e name equal read) h2))
 
   declared-begun : (type : Option Scalar) (ts us : List Token) (n : ℕ) → Spelled (opened_written (here ts)) ts us
       → kind_at us ≡ type_kind type → declared_first inner room (here ts) type us ≡ Err (Grammar n) → Viable (LowStmt (room + 1)) stmt_written ts n

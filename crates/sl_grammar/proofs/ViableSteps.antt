@@ -177,8 +177,10 @@ Stops {A} written Fits height room item =
 abbrev pub Low : {A : Type 0} → (A → Type 0) → (A → ℕ) → ℕ → List A → Type 0
 Low Fits height room items = Each Fits items × (highest height items ≤ room)
 
+-- where one item stops at a fault, items begin
 module _ {A : Type 0} (written : A → List Written) (Fits : A → Type 0) (height : A → ℕ) (room : ℕ) (goes : Kind → Bool) (item : Reader (Tall A))
-    (f : Parts written Fits height room item) (stops : Stops written Fits height room item) where
+    (f : Parts written Fits height room item)
+    (stops : (ts : List Token) (n : ℕ) → item ts ≡ Err (Grammar n) → Viable (Low Fits height room) (flat_map written) ts n) where
   repeat-viable : (turns : ℕ) (done : Tall (List A)) (ts : List Token) (n : ℕ) → repeat goes item turns done ts ≡ Err (Grammar n)
       → Viable (Low Fits height room) (flat_map written) ts n
   unfolding repeat
@@ -191,18 +193,25 @@ module _ {A : Type 0} (written : A → List Written) (Fits : A → Type 0) (heig
       let P : Type 0 = Viable (Low Fits height room) (flat_map written) ts n in
       chosen (goes (kind_at ts)) _ _ _ P h
       (λ on h1.
-      faulted (item ts) _ n P h1
-      (λ h2.
-      let v = stops ts n h2 in
-      viable (v.tree ∷ []) ((v.fits.0, tt), omega (arith, v.fits.1)) (unfinished (begun v) []))
-      (λ x read h2.
+      faulted (item ts) _ n P h1 (λ h2. stops ts n h2) (λ x read h2.
       let first = f ts x read in
       let others = repeat-viable m (done.0 ++ x.0.0 ∷ [], max done.1 x.0.1) x.1 n h2 in
       viable (x.0.0 ∷ others.tree) ((first.fits, others.fits.0), omega (arith, first.size, first.low, others.fits.1))
       (first.spelled ⨠ begun others)))
       (λ stop h1. no_fault _ n P h1)
 
+  pub row-viable : (done : Tall (List A)) (ts : List Token) (n : ℕ) → all_behind goes item done ts ≡ Err (Grammar n)
+      → Viable (Low Fits height room) (flat_map written) ts n
+  row-viable done ts n h = repeat-viable (length ts) done ts n h
+
+module _ {A : Type 0} (written : A → List Written) (Fits : A → Type 0) (height : A → ℕ) (room : ℕ) (goes : Kind → Bool) (item : Reader (Tall A))
+    (f : Parts written Fits height room item) (stops : Stops written Fits height room item) where
+  alone-viable : (ts : List Token) (n : ℕ) → item ts ≡ Err (Grammar n) → Viable (Low Fits height room) (flat_map written) ts n
+  alone-viable ts n h =
+      let v = stops ts n h in
+      viable (v.tree ∷ []) ((v.fits.0, tt), omega (arith, v.fits.1)) (unfinished (begun v) [])
+
   -- the fault is in the items that follow
   pub behind-viable : (done : Tall (List A)) (ts : List Token) (n : ℕ) → all_behind goes item done ts ≡ Err (Grammar n)
       → Viable (Low Fits height room) (flat_map written) ts n
-  behind-viable done ts n h = repeat-viable (length ts) done ts n h
+  behind-viable done ts n h = row-viable written Fits height room goes item f alone-viable done ts n h
