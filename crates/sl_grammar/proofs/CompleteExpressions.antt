@@ -172,7 +172,8 @@ module _ (inner smaller : ℕ → Reader (Tall Expr)) (room : ℕ) where
         plain_word d (λ o2 place2 vs e2 f.
         let e3 : vs ≡ rest = f.spells in
         let list = list_before-reads (inner 1) (smaller 1) (room - 1) room (reads-whole room inner i) (reads-whole (room - 1) smaller j) (omega arith)
-        m.RightParenthesis xs us mid parenthesis-close a (omega arith) (rw e2 (record { is = refl; ends = record { stops = omega arith; not_call = refl }; no_comma = refl })) c in
+        m.RightParenthesis xs us mid parenthesis-close a (omega arith)
+        (rw e2 (record { is = refl; ends = record { stops = omega arith; not_call = refl }; no_comma = refl })) c in
         rw (e, list, e2, e3) refl)))
 
     arrives : (r : Expr) (least : ℕ) (ts rest : List Token) → IsExpr r → height r ≤ room → least ≤ level r → goes_on (kind_at rest) ≤ level r
