@@ -67,15 +67,15 @@ module _ (ts : List Token) (n : ℕ) (fault : program ts ≡ Err (Grammar n)) wh
   no_program (p, shaped, is) =
       let us : List Token = map blank_token (words p) in
       no_reading 0 n Level (program ts) (program us) _
-        (near_program 0 ts us (same_words ts us (sym is ∙ sym (words_of_blank (words p))))) fault (omega arith) (reads_blank p shaped)
+      (near_program 0 ts us (same_words ts us (sym is ∙ sym (words_of_blank (words p))))) fault (omega arith) (reads_blank p shaped)
 
   pub nothing_begins : length ts - n < length ts → Begins IsProgram (take (length ts - n + 1) (words_in ts)) → ⊥
   nothing_begins some (more, whole) =
       let p = whole.0 in
       let us : List Token = map blank_token (words p) in
       no_reading n n Level (program ts) (program us) _
-        (near_program n ts us (same_front n (length ts - n + 1) ts us more (omega (arith, within)) (omega (arith, within))
-        (words_of_blank (words p) ∙ whole.2))) fault (omega arith) (reads_blank p whole.1)
+      (near_program n ts us (same_front n (length ts - n + 1) ts us more (omega (arith, within)) (omega (arith, within))
+      (words_of_blank (words p) ∙ whole.2))) fault (omega arith) (reads_blank p whole.1)
 
 same_read : (a b : Program) (h k : ℕ) → ◌≡◌ {A = Outcome (Tall Program)} (Ok ((a, h), [])) (Ok ((b, k), [])) → a ≡ b
 same_read a b h k e = ap (λ (y : Tall Program × List Token). y.0.0) (ok_one e)
@@ -110,4 +110,4 @@ one_program ts p q shaped other placed also =
 pub one_shape : (p q : Program) → Shaped p → Shaped q → words p ≡ words q → blank p ≡ blank q
 one_shape p q shaped other e =
     same_read (blank p) (blank q) (depth (blank p)) (depth (blank q))
-      (sym (reads_blank p shaped) ∙ ap (λ (ws : List Word). program (map blank_token ws)) e ∙ reads_blank q other)
+    (sym (reads_blank p shaped) ∙ ap (λ (ws : List Word). program (map blank_token ws)) e ∙ reads_blank q other)

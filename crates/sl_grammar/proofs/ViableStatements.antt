@@ -5,6 +5,7 @@ use Rattle.std.specs.Prelude.{codes, nat_lt}
 use Rattle.sl_base.specs.declared.mark.Mark.TheVariants as m
 use Rattle.sl_base.specs.declared.place.Place.{Place}
 use Rattle.sl_base.specs.declared.token.Token.{Token}
+use Rattle.sl_base.specs.declared.word.Word.{Word}
 use Rattle.sl_base.specs.declared.word.Word.TheVariants as w
 use Rattle.sl_syntax.specs.declared.kind.Kind.{Kind}
 use Rattle.sl_syntax.specs.declared.kind.Kind.TheVariants as k
@@ -13,7 +14,7 @@ use Rattle.sl_syntax.specs.Shaped.{IsStmt, ends_open}
 use Rattle.sl_syntax.specs.Tree as t
 use Rattle.sl_syntax.specs.Tree.{Cond, Stmt}
 use Rattle.sl_syntax.specs.Written as s
-use Rattle.sl_syntax.specs.Written.{Written, from_place, plain, stmt_written, tested}
+use Rattle.sl_syntax.specs.Written.{Written, at, from_place, plain, stmt_written, tested}
 use Rattle.sl_syntax.proofs.WrittenLaws.{words_of-from_place}
 use Rattle.sl_grammar.specs.declared.fault.Fault.TheVariants.{Grammar}
 use Rattle.sl_grammar.specs.Effects.{effect}
@@ -23,6 +24,7 @@ use Rattle.sl_grammar.specs.Steps.{Reader, Tall, here, is_mark, kind_at, mark}
 use Rattle.sl_grammar.proofs.SoundBlocks.{Finds, condition-part, condition_written, tested-written}
 use Rattle.sl_grammar.proofs.SoundEffects.{effect-part}
 use Rattle.sl_grammar.proofs.SoundExpressions.{expr-part}
+use Rattle.sl_grammar.proofs.Spelling.{Spelled}
 use Rattle.sl_grammar.proofs.SoundStatements.{stmt-sound, is_else_kind, not_open}
 use Rattle.sl_grammar.proofs.SoundSteps.{one_plain, one_word, chosen}
 use Rattle.sl_grammar.proofs.ViableBlocks.{Faults, LowStmt, braced-begun, condition-begun, inner-stops, some_stmt}
@@ -158,24 +160,12 @@ module _ (inner : Reader (Tall Stmt)) (room : ℕ) (f : Finds inner room) (g : F
       (placed-begun (here ts) (found.spelled ⨠ at_once close x.1 n (mark_fault m.Semicolon x.1 n h2))))
       (λ u read h2. no_fault _ n P h2))
 
-  break-begun : (ts : List Token) (n : ℕ) → kind_at ts ≡ k.Break → word_stmt inner room t.break ts ≡ Err (Grammar n)
-      → Viable (LowStmt (room + 1)) stmt_written ts n
+  -- a statement that is a word alone
+  word-begun : (word : Word) (make : Place → Stmt) (ts : List Token) (n : ℕ) (P : Type 0) → word_stmt inner room make ts ≡ Err (Grammar n)
+      → Spelled (at (here ts) word ∷ []) ts (drop 1 ts) → (Begun (at (here ts) word ∷ s.mark m.Semicolon ∷ []) ts n → P) → P
   unfolding word_stmt
-  break-begun ts n e h =
-      let P : Type 0 = Viable (LowStmt (room + 1)) stmt_written ts n in
-      faulted (mark m.Semicolon (drop 1 ts)) _ n P h
-      (λ h1. viable (t.break (here ts)) (tt, omega arith)
-      (one_word ts k.Break (w.Key (codes "break")) e refl ⨠ at_once _ (drop 1 ts) n (mark_fault m.Semicolon (drop 1 ts) n h1)))
-      (λ u close h1. no_fault _ n P h1)
-
-  continue-begun : (ts : List Token) (n : ℕ) → kind_at ts ≡ k.Continue → word_stmt inner room t.continue ts ≡ Err (Grammar n)
-      → Viable (LowStmt (room + 1)) stmt_written ts n
-  unfolding word_stmt
-  continue-begun ts n e h =
-      let P : Type 0 = Viable (LowStmt (room + 1)) stmt_written ts n in
-      faulted (mark m.Semicolon (drop 1 ts)) _ n P h
-      (λ h1. viable (t.continue (here ts)) (tt, omega arith)
-      (one_word ts k.Continue (w.Key (codes "continue")) e refl ⨠ at_once _ (drop 1 ts) n (mark_fault m.Semicolon (drop 1 ts) n h1)))
+  word-begun word make ts n P h first go =
+      faulted (mark m.Semicolon (drop 1 ts)) _ n P h (λ h1. go (first ⨠ at_once _ (drop 1 ts) n (mark_fault m.Semicolon (drop 1 ts) n h1)))
       (λ u close h1. no_fault _ n P h1)
 
   stmt-by : (kind : Kind) (ts : List Token) (n : ℕ) → kind_at ts ≡ kind → stmt_by inner room kind ts ≡ Err (Grammar n)
@@ -184,8 +174,12 @@ module _ (inner : Reader (Tall Stmt)) (room : ℕ) (f : Finds inner room) (g : F
   stmt-by k.If ts n e h = choice-begun ts n e h
   stmt-by k.While ts n e h = loop-begun ts n e h
   stmt-by k.For ts n e h = for-begun inner room f g ts n e h
-  stmt-by k.Break ts n e h = break-begun ts n e h
-  stmt-by k.Continue ts n e h = continue-begun ts n e h
+  stmt-by k.Break ts n e h =
+      word-begun (w.Key (codes "break")) t.break ts n (Viable (LowStmt (room + 1)) stmt_written ts n) h (one_word ts k.Break (w.Key (codes "break")) e refl)
+      (λ b. viable (t.break (here ts)) (tt, omega arith) b)
+  stmt-by k.Continue ts n e h =
+      word-begun (w.Key (codes "continue")) t.continue ts n (Viable (LowStmt (room + 1)) stmt_written ts n) h (one_word ts k.Continue (w.Key (codes "continue")) e refl)
+      (λ b. viable (t.continue (here ts)) (tt, omega arith) b)
   stmt-by k.Return ts n e h = return-begun ts n e h
   stmt-by _ ts n e h = effect-begun ts n h
 
