@@ -19,8 +19,8 @@ use Rattle.sl_grammar.specs.Steps.{Reader, Tall, ◌>>=◌, pure, only, kind_at,
 use Rattle.sl_grammar.proofs.CompleteDeclarations.{reader_of, type-kind}
 use Rattle.sl_grammar.proofs.CompleteEffects.{EndsEffect, begins_effect, begins-effect, effect-begins, effect-some}
 use Rattle.sl_grammar.proofs.CompleteKinds.{expr-begins, scalar-kind}
-use Rattle.sl_grammar.proofs.Spelling.{Spelled, split, at_word, from_word}
 use Rattle.sl_grammar.proofs.KindLaws.{not_mark}
+use Rattle.sl_grammar.proofs.Spelling.{Spelled, split, at_word, from_word}
 
 pub semicolon-ends : EndsEffect (k.Mark m.Semicolon)
 semicolon-ends = record { ends = record { stops = omega arith; not_call = refl }; no_read = refl; no_print = refl; no_assignment = λ room. refl }

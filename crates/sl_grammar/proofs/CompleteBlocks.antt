@@ -16,8 +16,8 @@ use Rattle.sl_grammar.proofs.CompleteBegins.{stmt-begins, item-begins, item-not_
 use Rattle.sl_grammar.proofs.CompleteDeclarations.{declaration-complete}
 use Rattle.sl_grammar.proofs.CompleteLists.{zero-max}
 use Rattle.sl_grammar.proofs.CompleteSteps.{Turn, row, all-row}
-use Rattle.sl_grammar.proofs.Spelling.{Spelled, split, at_word, plain_word, respelled}
 use Rattle.sl_grammar.proofs.Rows.{items-written, items-height}
+use Rattle.sl_grammar.proofs.Spelling.{Spelled, split, at_word, plain_word, respelled}
 
 -- statements that are at most so high are read as they are
 pub record ReadsStmts (room : ℕ) (reader : Reader (Tall Stmt)) : Type 0 where

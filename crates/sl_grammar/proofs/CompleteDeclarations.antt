@@ -21,8 +21,8 @@ use Rattle.sl_grammar.proofs.CompleteExpressions.{whole-complete}
 use Rattle.sl_grammar.proofs.CompleteKinds.{scalar-kind, form-kind}
 use Rattle.sl_grammar.proofs.CompleteLists.{brace-close, list-reads, list_before-reads}
 use Rattle.sl_grammar.proofs.CompleteSteps.{Turn, row, all-row}
-use Rattle.sl_grammar.proofs.Spelling.{Spelled, split, at_word, plain_word}
 use Rattle.sl_grammar.proofs.Rows.{Anything, each-anything, comma_param_written}
+use Rattle.sl_grammar.proofs.Spelling.{Spelled, split, at_word, plain_word}
 
 elements-read : (b : Bool) (ts rest : List Token) → Spelled (elements_written b) ts rest → elements_by b ts ≡ Ok (tt, rest)
 unfolding int mark

@@ -23,8 +23,8 @@ use Rattle.sl_grammar.specs.Steps.{and_then, ◌>>=◌, pure, kind_at, is_mark, 
 use Rattle.sl_grammar.proofs.CompleteExpressions.{expr-complete, whole-complete}
 use Rattle.sl_grammar.proofs.CompleteKinds.{Ends, assignment-mark, assignment-ends, begins_expr, expr-begins, expr-some}
 use Rattle.sl_grammar.proofs.CompleteSteps.{Turn, row, all-row}
-use Rattle.sl_grammar.proofs.Spelling.{Spelled, split, at_word, plain_word}
 use Rattle.sl_grammar.proofs.Rows.{Anything, each-anything, name_written, flat, shifted_written}
+use Rattle.sl_grammar.proofs.Spelling.{Spelled, split, at_word, plain_word}
 
 -- what follows an effect or a condition
 pub record EndsEffect (kind : Kind) : Type 0 where
@@ -46,7 +46,8 @@ names-row : (xs : List Identifier) (x : Identifier) (ts rest : List Token) → i
     → all_behind (is_mark m.ShiftRight) shifted_name (x ∷ [], 0) ts ≡ Ok ((x ∷ xs, max 0 (highest flat xs)), rest)
 names-row xs x ts rest e s =
     all-row (is_mark m.ShiftRight) shifted_name flat xs (x ∷ []) 0 ts rest
-    (row (is_mark m.ShiftRight) shifted_name flat name_written Anything (λ k. ⊤) name-turn (λ x ts mid p s. tt) (λ x. omega arith) xs ts rest (each-anything xs) tt e s)
+    (row (is_mark m.ShiftRight) shifted_name flat name_written Anything (λ k. ⊤) name-turn (λ x ts mid p s. tt) (λ x. omega arith)
+    xs ts rest (each-anything xs) tt e s)
 
 no-input : (kind : Kind) → begins_expr kind ≡ true → is_input kind ≡ false
 no-input k.Input h = absurd (false≢true h)

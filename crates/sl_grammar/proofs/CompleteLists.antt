@@ -14,9 +14,9 @@ use Rattle.sl_grammar.specs.Expressions.{comma_expr, list_behind, list, list_bef
 use Rattle.sl_grammar.specs.Steps.{Reader, Tall, kind_at, is_mark, all_behind, mark}
 use Rattle.sl_grammar.proofs.CompleteKinds.{Ends, begins_expr, expr-begins}
 use Rattle.sl_grammar.proofs.CompleteSteps.{Turn, row, all-row}
-use Rattle.sl_grammar.proofs.Spelling.{Spelled, split, plain_word, respelled}
-use Rattle.sl_grammar.proofs.Rows.{comma_expr_written, rest-written, rest-height}
 use Rattle.sl_grammar.proofs.KindLaws.{not_mark}
+use Rattle.sl_grammar.proofs.Rows.{comma_expr_written, rest-written, rest-height}
+use Rattle.sl_grammar.proofs.Spelling.{Spelled, split, plain_word, respelled}
 
 -- a whole expression that is less high than this is read as it is
 pub record ReadsWhole (bound : ℕ) (reader : Reader (Tall Expr)) : Type 0 where

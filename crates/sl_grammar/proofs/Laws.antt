@@ -17,11 +17,11 @@ use Rattle.sl_grammar.specs.declared.fault.Fault.TheVariants.{Grammar}
 use Rattle.sl_grammar.specs.Statements.{program}
 use Rattle.sl_grammar.specs.Steps.{Outcome, Tall}
 use Rattle.sl_grammar.proofs.CompletePrograms.{reads_program}
-use Rattle.sl_grammar.proofs.NearSteps.{Same, step, end, cut, Agree, in_step, at_fault, past, left_over, Level}
 use Rattle.sl_grammar.proofs.NearStatements.{near_program, program-shrinks}
+use Rattle.sl_grammar.proofs.NearSteps.{Same, step, end, cut, Agree, in_step, at_fault, past, left_over, Level}
+use Rattle.sl_grammar.proofs.SoundSteps.{ok_one}
 use Rattle.sl_grammar.proofs.ViablePrograms.{viable_program}
 use Rattle.sl_grammar.proofs.ViableSteps.{Viable}
-use Rattle.sl_grammar.proofs.SoundSteps.{ok_one}
 
 -- a program's words as tokens whose places are all the same are read as the program with all its places set to that
 pub reads_blank : (p : Program) → Shaped p → program (map blank_token (words p)) ≡ Ok ((blank p, depth (blank p)), [])

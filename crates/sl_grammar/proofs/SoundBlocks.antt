@@ -18,11 +18,11 @@ use Rattle.sl_grammar.specs.Effects.{effect}
 use Rattle.sl_grammar.specs.Effects as effects
 use Rattle.sl_grammar.specs.Statements.{is_else, is_item, declared, item_by, item, braced, condition}
 use Rattle.sl_grammar.specs.Steps.{Reader, Tall, kind_at, mark, all_behind}
+use Rattle.sl_grammar.proofs.Rows.{items-written, items-height, are_items}
 use Rattle.sl_grammar.proofs.SoundDeclarations.{scalar-part, auto-part, container-part}
 use Rattle.sl_grammar.proofs.SoundEffects.{cond-part}
 use Rattle.sl_grammar.proofs.SoundSteps.{Took, bound, guarded, answered, mark_took, mark_plain, mark_here, Part, Parts, behind}
 use Rattle.sl_grammar.proofs.Spelling.{◌⨾◌, respelled}
-use Rattle.sl_grammar.proofs.Rows.{items-written, items-height, are_items}
 
 -- What is read as a statement: where it ends in an `if` that has no `else`, none follows.
 pub record FoundStmt (room : ℕ) (ts : List Token) (p : Tall Stmt) (rest : List Token) : Type 0 where

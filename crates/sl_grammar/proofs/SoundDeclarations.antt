@@ -23,11 +23,11 @@ use Rattle.sl_syntax.specs.Written.{Written, at, plain, is_map, scalar_word, for
 use Rattle.sl_grammar.specs.Declarations.{int_by, int, elements_by, container_type, optional_value, scalar_declaration, auto_declaration, braces, behind_equal_by, constructed, initializer_by, initializer, container_declaration, scalar_param, container_param, container_by, const_param, param_by, param, comma_param, params}
 use Rattle.sl_grammar.specs.Expressions.{expr, list, list_before}
 use Rattle.sl_grammar.specs.Steps.{kind_at, here, is_mark, mark, identifier}
-use Rattle.sl_grammar.proofs.SoundExpressions.{sound, expr-part}
+use Rattle.sl_grammar.proofs.Rows.{Anything, comma_param_written}
+use Rattle.sl_grammar.proofs.SoundExpressions.{sound, whole-part}
 use Rattle.sl_grammar.proofs.SoundLists.{list-part, list-before-part}
 use Rattle.sl_grammar.proofs.SoundSteps.{Took, bound, chosen, guarded, answered, one_word, one_plain, seen, mark_plain, identifier_took, Part, Parts, behind}
 use Rattle.sl_grammar.proofs.Spelling.{Spelled, ◌⨾◌, no_words, respelled}
-use Rattle.sl_grammar.proofs.Rows.{Anything, comma_param_written}
 
 -- what is read from these tokens
 abbrev pub DeclarationAt : ℕ → List Token → Took Declaration → Type 0
@@ -98,7 +98,7 @@ module _ (room : ℕ) where
       chosen (is_mark m.Equal (kind_at ts)) _ _ _ (P y) h
       (λ equal h1.
       bound (expr (room + 1) 1 (drop 1 ts)) _ y P h1 (λ x read h2.
-      let found = expr-part room 1 (omega arith) (omega arith) (drop 1 ts) x read in
+      let found = whole-part room (drop 1 ts) x read in
       answered _ y P h2 (record { spelled = seen m.Equal ts equal ⨾ found.spelled; fits = found.fits; size = found.size; low = found.low })))
       (λ bare h1. answered _ y P h1 (record { spelled = no_words ts; fits = tt; size = refl; low = omega arith }))
 
@@ -127,7 +127,7 @@ module _ (room : ℕ) where
       bound (identifier (drop 1 ts)) _ y P h (λ x name h1.
       bound (mark m.Equal x.1) _ y P h1 (λ u equal h2.
       bound (expr (room + 1) 1 u.1) _ y P h2 (λ v read h3.
-      let found = expr-part room 1 (omega arith) (omega arith) u.1 v read in
+      let found = whole-part room u.1 v read in
       answered _ y P h3 (record {
         spelled = one_word ts k.Auto (w.Key (codes "auto")) e refl
             ⨾ (identifier_took (drop 1 ts) x name ⨾ (mark_plain m.Equal x.1 u equal ⨾ found.spelled));
@@ -149,7 +149,7 @@ module _ (room : ℕ) where
       bound (list_before (expr (room + 1) 1) (expr room 1) room m.RightBrace us) _ y P h (λ xs read h1.
       bound (mark m.RightBrace xs.1) _ y P h1 (λ v closed h2.
       let found = list-before-part (expr (room + 1) 1) (expr room 1) room
-      (expr-part room 1 (omega arith) (omega arith)) inner-part m.RightBrace us xs read in
+      (whole-part room) inner-part m.RightBrace us xs read in
       answered _ y P h2 (record {
         spelled = respelled (braces-written equal xs.0.0) (opened ⨾ (found.spelled ⨾ mark_plain m.RightBrace xs.1 v closed));
         fits = found.fits;
@@ -175,7 +175,7 @@ module _ (room : ℕ) where
       let P : Took Initializer → Type 0 = InitializerAt room ts in
       bound (list (expr (room + 1) 1) (expr room 1) room (drop 1 ts)) _ y P h (λ xs read h1.
       bound (mark m.RightParenthesis xs.1) _ y P h1 (λ v closed h2.
-      let found = list-part (expr (room + 1) 1) (expr room 1) room (expr-part room 1 (omega arith) (omega arith)) inner-part (drop 1 ts) xs read in
+      let found = list-part (expr (room + 1) 1) (expr room 1) room (whole-part room) inner-part (drop 1 ts) xs read in
       answered _ y P h2 (record {
         spelled = one_plain ts (k.Mark m.LeftParenthesis) (w.Mark m.LeftParenthesis) e refl
             ⨾ (found.spelled ⨾ mark_plain m.RightParenthesis xs.1 v closed);

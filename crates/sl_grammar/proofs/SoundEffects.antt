@@ -13,7 +13,6 @@ use Rattle.sl_syntax.specs.declared.tree.effect.Read.{Read}
 use Rattle.sl_syntax.specs.declared.tree.identifier.Identifier.{Identifier}
 use Rattle.sl_syntax.specs.Depth.{height, out_height, effect_height, cond_height}
 use Rattle.sl_syntax.specs.Shaped.{IsExpr, IsRead, IsOut, IsEffect, IsCond}
-use Rattle.sl_syntax.specs.Tree as t
 use Rattle.sl_syntax.specs.Tree.{Expr, Out, Effect, Cond}
 use Rattle.sl_syntax.specs.Written.{assignment_mark, written, out_written, read_written, effect_written, cond_written}
 use Rattle.sl_grammar.specs.Effects.{shifted_name, read, is_input, out_by, shifted_out, print, assignment_of, assigned_by, assigned, effect_by, effect, begins_no_read, no_read, cond_by}
@@ -21,10 +20,10 @@ use Rattle.sl_grammar.specs.Effects as effects
 use Rattle.sl_grammar.specs.Expressions.{expr}
 use Rattle.sl_grammar.specs.Steps.{Tall, kind_at, is_mark, mark, identifier, all_behind}
 use Rattle.sl_grammar.proofs.KindLaws.{is_mark_kind, some_one, both}
-use Rattle.sl_grammar.proofs.SoundExpressions.{sound, expr-part}
+use Rattle.sl_grammar.proofs.Rows.{Anything, name_written, flat, shifted_written}
+use Rattle.sl_grammar.proofs.SoundExpressions.{sound, whole-part}
 use Rattle.sl_grammar.proofs.SoundSteps.{Took, bound, chosen, guarded, answered, one_word, one_text, mark_plain, mark_rest, identifier_took, Part, Parts, behind}
 use Rattle.sl_grammar.proofs.Spelling.{◌⨾◌}
-use Rattle.sl_grammar.proofs.Rows.{Anything, name_written, flat, shifted_written}
 
 pub shifted_name-part : Parts name_written Anything flat 0 shifted_name
 unfolding shifted_name
@@ -96,15 +95,12 @@ input-behind ts u opened input =
     ap kind_at (mark_rest m.LeftParenthesis (drop 1 ts) u opened ∙ sym (drop_twice ts)) ∙ is_input_kind (kind_at (drop 2 ts)) input
 
 module _ (room : ℕ) where
-  value-out : (ts : List Token) (y : Took Expr) → expr room 5 ts ≡ Ok y → Part out_written IsOut out_height (room - 1) ts (t.value y.0.0, y.0.1) y.1
-  value-out ts y h =
-      let found = sound room 5 ts y (omega arith) (omega arith) h in
-      record { spelled = found.1.part.spelled; fits = (found.1.tight, found.1.part.fits); size = found.1.part.size; low = found.1.part.low }
-
   value-part : (ts : List Token) (y : Took Out) → out_by room k.End ts ≡ Ok y → OutAt (room - 1) ts y
   value-part ts y h =
       let P : Took Out → Type 0 = OutAt (room - 1) ts in
-      bound (expr room 5 ts) _ y P h (λ x read h1. answered _ y P h1 (value-out ts x read))
+      bound (expr room 5 ts) _ y P h (λ x read h1.
+      let found = (sound room 5 ts x (omega arith) (omega arith) read).1 in
+      answered _ y P h1 (record { spelled = found.part.spelled; fits = (found.tight, found.part.fits); size = found.part.size; low = found.part.low }))
 
   out-by : (kind : Kind) (ts : List Token) (y : Took Out) → kind_at ts ≡ kind → out_by room kind ts ≡ Ok y → OutAt (room - 1) ts y
   out-by k.Text ts y e h = answered _ y (OutAt (room - 1) ts) h
@@ -173,7 +169,7 @@ module _ (room : ℕ) where
   value-effect ts y h =
       let P : Took Effect → Type 0 = EffectAt room ts in
       bound (expr (room + 1) 1 ts) _ y P h (λ x read h1.
-      assigned-by (assignment_of room (kind_at x.1)) ts x.1 x.0 y (expr-part room 1 (omega arith) (omega arith) ts x read) refl h1)
+      assigned-by (assignment_of room (kind_at x.1)) ts x.1 x.0 y (whole-part room ts x read) refl h1)
 
   effect-by : (kind : Kind) (ts : List Token) (y : Took Effect) → kind_at ts ≡ kind → effect_by room kind ts ≡ Ok y → EffectAt room ts y
   effect-by k.Input ts y e h =
@@ -216,7 +212,7 @@ module _ (room : ℕ) where
       no_read-part ts y of.0 of.1 of.2 h1)
       (λ other h1.
       bound (expr (room + 1) 1 ts) _ y P h1 (λ x read h2.
-      let found = expr-part room 1 (omega arith) (omega arith) ts x read in
+      let found = whole-part room ts x read in
       answered _ y P h2 (record { spelled = found.spelled; fits = found.fits; size = found.size; low = found.low })))
 
   cond-by : (kind : Kind) (ts : List Token) (y : Took Cond) → kind_at ts ≡ kind → cond_by room kind ts ≡ Ok y → CondAt room ts y

@@ -192,9 +192,9 @@ sound (suc zero) least ts y one low h =
 sound (suc (suc n)) least ts y one low h =
     (omega arith, rw sub-one (from_operand-found (expr (suc n)) (expr n) (suc n) (sound (suc n)) (rw sub-one (sound n)) least ts y one low h))
 
--- the same, of a depth that isn't 0
-pub expr-part : (room least : ℕ) → 1 ≤ least → least ≤ 7 → Parts written IsExpr height room (expr (room + 1) least)
-expr-part room least one low ts y h =
-    let found = sound (room + 1) least ts y one low h in
+-- the same, of a whole expression that has so much room
+pub whole-part : (room : ℕ) → Parts written IsExpr height room (expr (room + 1) 1)
+whole-part room ts y h =
+    let found = sound (room + 1) 1 ts y (omega arith) (omega arith) h in
     let same : room + 1 - 1 ≡ room = omega arith in
     (rw same at found.1).part

@@ -24,10 +24,10 @@ use Rattle.sl_grammar.specs.Expressions.{expr}
 use Rattle.sl_grammar.specs.Statements.{ranges, is_auto, first_of, optional_cond, optional_effect, for_behind, range_behind, valued_first, variable_behind, declared_first, for_by, for_loop}
 use Rattle.sl_grammar.specs.Steps.{Reader, Tall, kind_at, here, is_mark, mark, identifier}
 use Rattle.sl_grammar.proofs.KindLaws.{fixed, both}
+use Rattle.sl_grammar.proofs.SoundBlocks.{FoundStmt, Finds}
 use Rattle.sl_grammar.proofs.SoundEffects.{effect-part, cond-part}
 use Rattle.sl_grammar.proofs.SoundExpressions.{sound}
 use Rattle.sl_grammar.proofs.SoundSteps.{Took, bound, chosen, guarded, answered, one_word, one_plain, mark_plain, identifier_took, Part, Parts}
-use Rattle.sl_grammar.proofs.SoundBlocks.{FoundStmt, Finds}
 use Rattle.sl_grammar.proofs.Spelling.{Spelled, ◌⨾◌, no_words, respelled}
 
 -- what stands before the first `;` of a `for`

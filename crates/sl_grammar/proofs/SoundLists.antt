@@ -12,9 +12,9 @@ use Rattle.sl_syntax.specs.Tree.{Expr, Exprs, exprs_from}
 use Rattle.sl_syntax.specs.Written.{written, list_written}
 use Rattle.sl_grammar.specs.Expressions.{comma_expr, list_behind, list, list_before}
 use Rattle.sl_grammar.specs.Steps.{Reader, Tall, kind_at, is_mark, mark, all_behind}
+use Rattle.sl_grammar.proofs.Rows.{comma_expr_written, rest-written, rest-height, are_exprs}
 use Rattle.sl_grammar.proofs.SoundSteps.{Took, bound, chosen, guarded, answered, mark_plain, Part, Parts, behind, some_items}
 use Rattle.sl_grammar.proofs.Spelling.{◌⨾◌, no_words, respelled}
-use Rattle.sl_grammar.proofs.Rows.{comma_expr_written, rest-written, rest-height, are_exprs}
 
 list-height : (x : Expr) (xs : List Expr) → AreSome xs → list_height (t.with x (exprs_from xs)) ≡ max (height x) (highest height xs) + 1
 list-height x [] h = absurd (omega arith)

@@ -20,10 +20,10 @@ use Rattle.sl_syntax.specs.Written as s
 use Rattle.sl_syntax.specs.Written.{Written, at, binary_mark, prefix_mark, postfix_mark, written, list_written, rest_written}
 use Rattle.sl_grammar.specs.Expressions.{infix_of, binds_or, piece_level, goes_on, list_before, arguments, named, library_call, parentheses, prefixed, operand_by, operand}
 use Rattle.sl_grammar.specs.Steps.{Reader, Tall, kind_at, is_mark, mark, identifier, library}
+use Rattle.sl_grammar.proofs.KindLaws.{some_one}
 use Rattle.sl_grammar.proofs.SoundLists.{list-before-part}
 use Rattle.sl_grammar.proofs.SoundSteps.{Took, bound, chosen, guarded, answered, one_word, one_number, mark_plain, identifier_took, library_took, Part, Parts}
 use Rattle.sl_grammar.proofs.Spelling.{◌⨾◌}
-use Rattle.sl_grammar.proofs.KindLaws.{some_one}
 
 -- what is read, where it stops, and how tightly it binds
 pub record Found (room least : ℕ) (ts : List Token) (p : Tall Expr) (rest : List Token) : Type 0 where

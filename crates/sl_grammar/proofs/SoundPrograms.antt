@@ -18,10 +18,10 @@ use Rattle.sl_grammar.specs.Declarations.{params}
 use Rattle.sl_grammar.specs.Statements.{is_more, braced, stmt, function_behind, function_by, function, program}
 use Rattle.sl_grammar.specs.Steps.{kind_at, mark, identifier}
 use Rattle.sl_grammar.proofs.KindLaws.{fixed, not_end}
-use Rattle.sl_grammar.proofs.SoundDeclarations.{params-part}
-use Rattle.sl_grammar.proofs.SoundSteps.{Took, bound, answered, one_word, mark_plain, identifier_took, Part, Parts, behind}
 use Rattle.sl_grammar.proofs.SoundBlocks.{braced-part}
+use Rattle.sl_grammar.proofs.SoundDeclarations.{params-part}
 use Rattle.sl_grammar.proofs.SoundStatements.{stmt-sound}
+use Rattle.sl_grammar.proofs.SoundSteps.{Took, bound, answered, one_word, mark_plain, identifier_took, Part, Parts, behind}
 use Rattle.sl_grammar.proofs.Spelling.{Spelled, ◌⨾◌}
 
 -- what is read from these tokens

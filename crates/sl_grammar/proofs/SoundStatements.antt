@@ -18,11 +18,11 @@ use Rattle.sl_grammar.specs.Effects.{effect}
 use Rattle.sl_grammar.specs.Expressions.{expr}
 use Rattle.sl_grammar.specs.Statements.{is_else, braced, block, condition, otherwise, choice, loop, return_stmt, effect_stmt, word_stmt, stmt_by, stmt}
 use Rattle.sl_grammar.specs.Steps.{Reader, Tall, kind_at, here, is_mark, mark}
-use Rattle.sl_grammar.proofs.SoundEffects.{effect-part}
-use Rattle.sl_grammar.proofs.SoundExpressions.{expr-part}
-use Rattle.sl_grammar.proofs.SoundSteps.{Took, bound, chosen, guarded, answered, one_word, one_plain, seen, mark_plain}
 use Rattle.sl_grammar.proofs.SoundBlocks.{FoundStmt, Finds, braced-part, condition-part, tested-written}
+use Rattle.sl_grammar.proofs.SoundEffects.{effect-part}
+use Rattle.sl_grammar.proofs.SoundExpressions.{whole-part}
 use Rattle.sl_grammar.proofs.SoundFors.{for-found}
+use Rattle.sl_grammar.proofs.SoundSteps.{Took, bound, chosen, guarded, answered, one_word, one_plain, seen, mark_plain}
 use Rattle.sl_grammar.proofs.Spelling.{Spelled, ◌⨾◌, respelled, begun}
 
 -- where no `else` follows what may end in an open `if`, and one follows, it doesn't
@@ -115,7 +115,7 @@ module _ (inner : Reader (Tall Stmt)) (room : ℕ) (f : Finds inner room) where
       (λ goes h1.
       bound (expr (room + 1) 1 (drop 1 ts)) _ y P h1 (λ v read h2.
       bound (mark m.Semicolon v.1) _ y P h2 (λ u close h3.
-      let found = expr-part room 1 (omega arith) (omega arith) (drop 1 ts) v read in
+      let found = whole-part room (drop 1 ts) v read in
       answered _ y P h3 (record {
         part = record {
           spelled = word ⨾ (found.spelled ⨾ mark_plain m.Semicolon v.1 u close);
@@ -158,10 +158,12 @@ module _ (inner : Reader (Tall Stmt)) (room : ℕ) (f : Finds inner room) where
   stmt-by k.While ts y e h = loop-found ts y e h
   stmt-by k.For ts y e h = for-found inner room f ts y e h
   stmt-by k.Break ts y e h =
-      word-found (w.Key (codes "break")) t.break ts y (λ z. FoundStmt (room + 1) ts z.0 z.1) h (one_word ts k.Break (w.Key (codes "break")) e refl) (λ us spelled.
+      word-found (w.Key (codes "break")) t.break ts y (λ z. FoundStmt (room + 1) ts z.0 z.1) h
+      (one_word ts k.Break (w.Key (codes "break")) e refl) (λ us spelled.
       record { part = record { spelled = spelled; fits = tt; size = refl; low = omega arith }; closed = λ e. absurd (false≢true e) })
   stmt-by k.Continue ts y e h =
-      word-found (w.Key (codes "continue")) t.continue ts y (λ z. FoundStmt (room + 1) ts z.0 z.1) h (one_word ts k.Continue (w.Key (codes "continue")) e refl) (λ us spelled.
+      word-found (w.Key (codes "continue")) t.continue ts y (λ z. FoundStmt (room + 1) ts z.0 z.1) h
+      (one_word ts k.Continue (w.Key (codes "continue")) e refl) (λ us spelled.
       record { part = record { spelled = spelled; fits = tt; size = refl; low = omega arith }; closed = λ e. absurd (false≢true e) })
   stmt-by k.Return ts y e h = return-found ts y e h
   stmt-by _ ts y e h = effect-found ts y h

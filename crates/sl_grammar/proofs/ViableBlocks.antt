@@ -20,15 +20,15 @@ use Rattle.sl_grammar.specs.Declarations.{auto_declaration, container_declaratio
 use Rattle.sl_grammar.specs.Effects as effects
 use Rattle.sl_grammar.specs.Statements.{braced, condition, declared, is_item, item, item_by}
 use Rattle.sl_grammar.specs.Steps.{Reader, Tall, all_behind, here, kind_at, mark}
+use Rattle.sl_grammar.proofs.Rows.{items-written, items-height, are_items}
 use Rattle.sl_grammar.proofs.SoundBlocks.{Finds, IsBlock, block_height, block_written, condition_written, item-part}
 use Rattle.sl_grammar.proofs.SoundDeclarations.{auto-part, container-part, scalar-part}
 use Rattle.sl_grammar.proofs.SoundEffects.{cond-part}
 use Rattle.sl_grammar.proofs.SoundSteps.{Part, Took, behind, mark_here, mark_plain}
+use Rattle.sl_grammar.proofs.Spelling.{respelled}
 use Rattle.sl_grammar.proofs.ViableDeclarations.{LowDeclaration, auto-begun, container-begun, scalar-begun}
 use Rattle.sl_grammar.proofs.ViableEffects.{cond-viable}
 use Rattle.sl_grammar.proofs.ViableSteps.{Begun, Low, Stops, Viable, at_once, begun, faulted, mark_fault, no_fault, rewritten, some_expr, tested, unfinished, viable, ◌⨠◌, row-viable}
-use Rattle.sl_grammar.proofs.Spelling.{respelled}
-use Rattle.sl_grammar.proofs.Rows.{items-written, items-height, are_items}
 
 -- a statement that follows the grammar and is at most so high
 abbrev pub LowStmt : ℕ → Stmt → Type 0

@@ -21,14 +21,14 @@ use Rattle.sl_grammar.specs.declared.fault.Fault.TheVariants.{Grammar}
 use Rattle.sl_grammar.specs.Declarations.{auto_declaration, behind_equal_by, braces, constructed, container_declaration, container_type, elements_by, initializer, initializer_by, int, int_by, optional_value, scalar_declaration}
 use Rattle.sl_grammar.specs.Expressions.{expr, list, list_before}
 use Rattle.sl_grammar.specs.Steps.{here, identifier, is_mark, kind_at, mark}
-use Rattle.sl_grammar.proofs.SoundExpressions.{expr-part}
+use Rattle.sl_grammar.proofs.SoundDeclarations.{int-took, type-took, inner-part, scalar-written, opening, braces-written}
+use Rattle.sl_grammar.proofs.SoundExpressions.{whole-part}
 use Rattle.sl_grammar.proofs.SoundLists.{list-before-part, list-part}
-use Rattle.sl_grammar.proofs.SoundSteps.{Parts, identifier_took, mark_plain, one_plain, one_word, seen, chosen}
+use Rattle.sl_grammar.proofs.SoundSteps.{identifier_took, mark_plain, one_plain, one_word, seen, chosen}
+use Rattle.sl_grammar.proofs.Spelling.{Spelled, ◌⨾◌}
 use Rattle.sl_grammar.proofs.ViableExpressions.{expr-viable, value-stops}
 use Rattle.sl_grammar.proofs.ViableLists.{list-before-viable, list-viable}
 use Rattle.sl_grammar.proofs.ViableSteps.{Begun, Stops, Viable, at_once, begun, faulted, identifier_fault, mark_fault, no_fault, one_fault, refitted, rewritten, some_expr, some_name, tested, unfinished, viable, ◌⨠◌}
-use Rattle.sl_grammar.proofs.SoundDeclarations.{int-took, type-took, inner-part, scalar-written, opening, braces-written}
-use Rattle.sl_grammar.proofs.Spelling.{Spelled, ◌⨾◌}
 
 -- a declaration and an initializer that follow the grammar and are at most so high
 abbrev pub LowDeclaration : ℕ → Declaration → Type 0
@@ -139,13 +139,12 @@ module _ (room : ℕ) where
       let P : Type 0 = Viable (LowInitializer room) initializer_written ts n in
       let one = expr (room + 1) 1 in
       let more = expr room 1 in
-      let part : Parts written IsExpr height room one = expr-part room 1 (omega arith) (omega arith) in
       faulted (list_before one more room m.RightBrace us) _ n P h
       (λ h1.
-      let v = list-before-viable one more room part (inner-part room) (value-stops room) (inner-stops room) m.RightBrace us n h1 in
+      let v = list-before-viable one more room (whole-part room) (inner-part room) (value-stops room) (inner-stops room) m.RightBrace us n h1 in
       viable (t.braces equal v.tree) v.fits (rewritten (braces-written equal v.tree) (opened ⨠ unfinished (begun v) (s.mark m.RightBrace ∷ []))))
       (λ xs read h1.
-      let found = list-before-part one more room part (inner-part room) m.RightBrace us xs read in
+      let found = list-before-part one more room (whole-part room) (inner-part room) m.RightBrace us xs read in
       faulted (mark m.RightBrace xs.1) _ n P h1
       (λ h2. viable (t.braces equal xs.0.0) (found.fits, omega (arith, found.size, found.low))
       (rewritten (braces-written equal xs.0.0) (opened ⨠ (found.spelled ⨠ at_once _ xs.1 n (mark_fault m.RightBrace xs.1 n h2)))))
@@ -169,14 +168,13 @@ module _ (room : ℕ) where
       let P : Type 0 = Viable (LowInitializer room) initializer_written ts n in
       let one = expr (room + 1) 1 in
       let more = expr room 1 in
-      let part : Parts written IsExpr height room one = expr-part room 1 (omega arith) (omega arith) in
       let opened = one_plain ts (k.Mark m.LeftParenthesis) (w.Mark m.LeftParenthesis) e refl in
       faulted (list one more room (drop 1 ts)) _ n P h
       (λ h1.
-      let v = list-viable one more room part (inner-part room) (value-stops room) (inner-stops room) (drop 1 ts) n h1 in
+      let v = list-viable one more room (whole-part room) (inner-part room) (value-stops room) (inner-stops room) (drop 1 ts) n h1 in
       viable (t.arguments v.tree) ((v.fits.0, v.fits.1), v.fits.2) (opened ⨠ unfinished (begun v) (s.mark m.RightParenthesis ∷ [])))
       (λ xs read h1.
-      let found = list-part one more room part (inner-part room) (drop 1 ts) xs read in
+      let found = list-part one more room (whole-part room) (inner-part room) (drop 1 ts) xs read in
       faulted (mark m.RightParenthesis xs.1) _ n P h1
       (λ h2. viable (t.arguments xs.0.0) (found.fits, omega (arith, found.size, found.low))
       (opened ⨠ (found.spelled ⨠ at_once _ xs.1 n (mark_fault m.RightParenthesis xs.1 n h2))))

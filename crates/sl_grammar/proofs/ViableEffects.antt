@@ -23,13 +23,13 @@ use Rattle.sl_grammar.specs.Effects as effects
 use Rattle.sl_grammar.specs.Expressions.{expr}
 use Rattle.sl_grammar.specs.Steps.{Tall, kind_at, here, is_mark, mark, identifier, all_behind}
 use Rattle.sl_grammar.proofs.KindLaws.{is_mark_kind}
+use Rattle.sl_grammar.proofs.Rows.{Anything, name_written, flat, shifted_written}
 use Rattle.sl_grammar.proofs.SoundEffects.{read-part, shifted_name-part, shifted-part, assignment-mark, no_read-begins, input-behind}
-use Rattle.sl_grammar.proofs.SoundExpressions.{expr-part}
+use Rattle.sl_grammar.proofs.SoundExpressions.{whole-part}
 use Rattle.sl_grammar.proofs.SoundSteps.{one_word, mark_plain, Part, chosen}
+use Rattle.sl_grammar.proofs.Spelling.{Spelled}
 use Rattle.sl_grammar.proofs.ViableExpressions.{expr-viable, value-stops}
 use Rattle.sl_grammar.proofs.ViableSteps.{Viable, viable, begun, at_once, ◌⨠◌, unfinished, ended, some_name, some_expr, faulted, tested, no_fault, mark_fault, identifier_fault, Stops, behind-viable}
-use Rattle.sl_grammar.proofs.Spelling.{Spelled}
-use Rattle.sl_grammar.proofs.Rows.{Anything, name_written, flat, shifted_written}
 
 shifted_name-stops : Stops name_written Anything flat 0 shifted_name
 unfolding shifted_name
@@ -164,7 +164,7 @@ module _ (room : ℕ) where
       let v = value-stops room ts n h1 in
       viable (t.evaluates v.tree) v.fits (begun v))
       (λ x read h1.
-      assigned-by (assignment_of room (kind_at x.1)) ts x.1 x.0 n (expr-part room 1 (omega arith) (omega arith) ts x read) refl h1)
+      assigned-by (assignment_of room (kind_at x.1)) ts x.1 x.0 n (whole-part room ts x read) refl h1)
 
   -- a read that faults: at its first word where there is no room for it, and else in it
   read-fault : (ts : List Token) (n : ℕ) (P : Type 0) → kind_at ts ≡ k.Input → read room ts ≡ Err (Grammar n)

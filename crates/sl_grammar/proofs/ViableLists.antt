@@ -13,10 +13,10 @@ use Rattle.sl_syntax.specs.Written.{written, list_written}
 use Rattle.sl_grammar.specs.declared.fault.Fault.TheVariants.{Grammar}
 use Rattle.sl_grammar.specs.Expressions.{comma_expr, list_behind, list, list_before}
 use Rattle.sl_grammar.specs.Steps.{Reader, Tall, kind_at, is_mark, mark, all_behind}
+use Rattle.sl_grammar.proofs.Rows.{comma_expr_written, rest-written, rest-height, are_exprs}
+use Rattle.sl_grammar.proofs.SoundLists.{comma-part}
 use Rattle.sl_grammar.proofs.SoundSteps.{Took, mark_plain, Part, Parts, chosen}
 use Rattle.sl_grammar.proofs.ViableSteps.{Viable, viable, begun, at_once, ◌⨠◌, unfinished, rewritten, some_expr, faulted, tested, no_fault, mark_fault, Stops, behind-viable}
-use Rattle.sl_grammar.proofs.SoundLists.{comma-part}
-use Rattle.sl_grammar.proofs.Rows.{comma_expr_written, rest-written, rest-height, are_exprs}
 
 -- a list is at most one node higher than its highest
 list-low : (x : Expr) (xs : List Expr) (room : ℕ) → height x < room → highest height xs < room → list_height (t.with x (exprs_from xs)) ≤ room

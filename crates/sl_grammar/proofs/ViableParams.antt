@@ -20,12 +20,12 @@ use Rattle.sl_syntax.specs.Written.{Written, container_written, param_written, p
 use Rattle.sl_grammar.specs.declared.fault.Fault.TheVariants.{Grammar}
 use Rattle.sl_grammar.specs.Declarations.{comma_param, const_param, container_by, container_param, container_type, param, param_by, params, scalar_param}
 use Rattle.sl_grammar.specs.Steps.{here, identifier, is_mark, kind_at, mark}
+use Rattle.sl_grammar.proofs.Rows.{Anything, comma_param_written}
 use Rattle.sl_grammar.proofs.SoundDeclarations.{by-took, comma-part, param-part, type-took}
 use Rattle.sl_grammar.proofs.SoundSteps.{mark_plain, one_word, seen, chosen}
+use Rattle.sl_grammar.proofs.Spelling.{◌⨾◌}
 use Rattle.sl_grammar.proofs.ViableDeclarations.{type-begun}
 use Rattle.sl_grammar.proofs.ViableSteps.{Stops, Viable, at_once, begun, behind-viable, faulted, identifier_fault, mark_fault, no_fault, one_fault, some_name, unfinished, viable, ◌⨠◌}
-use Rattle.sl_grammar.proofs.Spelling.{◌⨾◌}
-use Rattle.sl_grammar.proofs.Rows.{Anything, comma_param_written}
 
 -- a parameter that is no higher than any
 abbrev LowParam : Param → Type 0

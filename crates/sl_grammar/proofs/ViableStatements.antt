@@ -23,16 +23,16 @@ use Rattle.sl_grammar.specs.Statements.{block, braced, choice, condition, effect
 use Rattle.sl_grammar.specs.Steps.{Reader, Tall, here, is_mark, kind_at, mark}
 use Rattle.sl_grammar.proofs.SoundBlocks.{Finds, condition-part, condition_written, tested-written}
 use Rattle.sl_grammar.proofs.SoundEffects.{effect-part}
-use Rattle.sl_grammar.proofs.SoundExpressions.{expr-part}
-use Rattle.sl_grammar.proofs.Spelling.{Spelled}
+use Rattle.sl_grammar.proofs.SoundExpressions.{whole-part}
 use Rattle.sl_grammar.proofs.SoundStatements.{stmt-sound, is_else_kind, not_open}
 use Rattle.sl_grammar.proofs.SoundSteps.{one_plain, one_word, chosen}
+use Rattle.sl_grammar.proofs.Spelling.{Spelled}
 use Rattle.sl_grammar.proofs.ViableBlocks.{Faults, LowStmt, braced-begun, condition-begun, inner-stops, some_stmt}
 use Rattle.sl_grammar.proofs.ViableEffects.{effect-viable}
+use Rattle.sl_grammar.proofs.ViableExpressions.{value-stops}
 use Rattle.sl_grammar.proofs.ViableFors.{for-begun}
 use Rattle.sl_grammar.proofs.ViableSteps as steps
 use Rattle.sl_grammar.proofs.ViableSteps.{Begun, Viable, at_once, begun, faulted, mark_fault, no_fault, one_fault, rewritten, unfinished, viable, ◌⨠◌}
-use Rattle.sl_grammar.proofs.ViableExpressions.{value-stops}
 
 -- the place of the first word is none of the words
 placed-begun : {xs : List Written} {ts : List Token} {n : ℕ} (place : Place) → Begun xs ts n → Begun (from_place place xs) ts n
@@ -138,7 +138,7 @@ module _ (inner : Reader (Tall Stmt)) (room : ℕ) (f : Finds inner room) (g : F
       let v = value-stops room (drop 1 ts) n h2 in
       viable (t.gives_back (here ts) (Some v.tree)) (v.fits.0, omega (arith, v.fits.1)) (word ⨠ unfinished (begun v) close))
       (λ v read h2.
-      let found = expr-part room 1 (omega arith) (omega arith) (drop 1 ts) v read in
+      let found = whole-part room (drop 1 ts) v read in
       faulted (mark m.Semicolon v.1) _ n P h2
       (λ h3. viable (t.gives_back (here ts) (Some v.0.0)) (found.fits, omega (arith, found.size, found.low))
       (word ⨠ (found.spelled ⨠ at_once close v.1 n (mark_fault m.Semicolon v.1 n h3))))
@@ -175,11 +175,11 @@ module _ (inner : Reader (Tall Stmt)) (room : ℕ) (f : Finds inner room) (g : F
   stmt-by k.While ts n e h = loop-begun ts n e h
   stmt-by k.For ts n e h = for-begun inner room f g ts n e h
   stmt-by k.Break ts n e h =
-      word-begun (w.Key (codes "break")) t.break ts n (Viable (LowStmt (room + 1)) stmt_written ts n) h (one_word ts k.Break (w.Key (codes "break")) e refl)
-      (λ b. viable (t.break (here ts)) (tt, omega arith) b)
+      word-begun (w.Key (codes "break")) t.break ts n (Viable (LowStmt (room + 1)) stmt_written ts n) h
+      (one_word ts k.Break (w.Key (codes "break")) e refl) (λ b. viable (t.break (here ts)) (tt, omega arith) b)
   stmt-by k.Continue ts n e h =
-      word-begun (w.Key (codes "continue")) t.continue ts n (Viable (LowStmt (room + 1)) stmt_written ts n) h (one_word ts k.Continue (w.Key (codes "continue")) e refl)
-      (λ b. viable (t.continue (here ts)) (tt, omega arith) b)
+      word-begun (w.Key (codes "continue")) t.continue ts n (Viable (LowStmt (room + 1)) stmt_written ts n) h
+      (one_word ts k.Continue (w.Key (codes "continue")) e refl) (λ b. viable (t.continue (here ts)) (tt, omega arith) b)
   stmt-by k.Return ts n e h = return-begun ts n e h
   stmt-by _ ts n e h = effect-begun ts n h
 
