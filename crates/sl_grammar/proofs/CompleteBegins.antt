@@ -11,7 +11,7 @@ use Rattle.sl_syntax.specs.Depth.{declaration_height, stmt_height}
 use Rattle.sl_syntax.specs.Shaped.{IsCond, IsStmt, IsItem}
 use Rattle.sl_syntax.specs.Tree as t
 use Rattle.sl_syntax.specs.Tree.{Cond, Declaration, Stmt, Item}
-use Rattle.sl_syntax.specs.Written.{Written, written, cond_written, declaration_written, container_written, effect_written, stmt_written, item_written, from_place}
+use Rattle.sl_syntax.specs.Written.{Written, cond_written, declaration_written, container_written, effect_written, stmt_written, item_written, from_place}
 use Rattle.sl_syntax.specs.Written as v
 use Rattle.sl_grammar.specs.Effects.{effect}
 use Rattle.sl_grammar.specs.Statements.{is_else, is_item, declared, item_by, for_behind, for_by, effect_stmt, stmt_by}

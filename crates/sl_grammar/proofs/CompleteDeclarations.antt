@@ -11,8 +11,8 @@ use Rattle.sl_syntax.specs.declared.tree.function.Param.TheVariants as r
 use Rattle.sl_syntax.specs.Depth.{list_height, highest, initializer_height, declaration_height, param_height}
 use Rattle.sl_syntax.specs.Shaped.{AreExprs, IsInitializer, IsDeclaration}
 use Rattle.sl_syntax.specs.Tree as t
-use Rattle.sl_syntax.specs.Tree.{Expr, Exprs, Initializer, Declaration}
-use Rattle.sl_syntax.specs.Written.{Written, is_map, list_written, elements_written, container_written, initializer_written, declaration_written, param_written, params_written}
+use Rattle.sl_syntax.specs.Tree.{Exprs, Initializer, Declaration}
+use Rattle.sl_syntax.specs.Written.{is_map, list_written, elements_written, container_written, initializer_written, declaration_written, param_written, params_written}
 use Rattle.sl_syntax.specs.Written as v
 use Rattle.sl_grammar.specs.Declarations.{int, elements_by, container_type, optional_value, scalar_declaration, auto_declaration, braces, constructed, initializer, container_declaration, scalar_param, container_param, const_param, param, comma_param, params}
 use Rattle.sl_grammar.specs.Expressions.{expr}

@@ -15,7 +15,7 @@ use Rattle.sl_syntax.specs.Depth.{height, highest, out_height, effect_height, co
 use Rattle.sl_syntax.specs.Shaped.{IsExpr, Each, AreSome, IsRead, IsOut, IsEffect, IsCond}
 use Rattle.sl_syntax.specs.Tree as t
 use Rattle.sl_syntax.specs.Tree.{Expr, Out, Effect, Cond}
-use Rattle.sl_syntax.specs.Written.{Written, written, named, read_written, out_written, print_written, effect_written, cond_written, assignment_mark}
+use Rattle.sl_syntax.specs.Written.{written, read_written, out_written, print_written, effect_written, cond_written}
 use Rattle.sl_syntax.specs.Written as v
 use Rattle.sl_grammar.specs.Effects.{shifted_name, read, is_input, out_by, shifted_out, print, assignment_of, assigned, effect_by, effect, begins_no_read, no_read, cond_by, cond}
 use Rattle.sl_grammar.specs.Expressions.{expr}

@@ -18,7 +18,7 @@ use Rattle.sl_syntax.specs.Kinds.{kind_of}
 use Rattle.sl_syntax.specs.Shaped.{level, binary_level, IsExpr, AreExprs}
 use Rattle.sl_syntax.specs.Tree as t
 use Rattle.sl_syntax.specs.Tree.{Expr, Exprs}
-use Rattle.sl_syntax.specs.Written.{Written, written, list_written, named, binary_mark, prefix_mark, postfix_mark, selector_mark}
+use Rattle.sl_syntax.specs.Written.{written, list_written, named, binary_mark, prefix_mark, postfix_mark}
 use Rattle.sl_syntax.specs.Written as v
 use Rattle.sl_grammar.specs.Expressions as x
 use Rattle.sl_grammar.specs.Expressions.{goes_on, arguments, library_call, parentheses, prefixed, operand_by, operand, indexed, dotted, pointed, piece, combined, operation, climb, from_operand, expr}

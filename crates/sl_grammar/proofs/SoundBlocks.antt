@@ -10,11 +10,10 @@ use Rattle.sl_syntax.specs.declared.kind.Kind.TheVariants as k
 use Rattle.sl_syntax.specs.Depth.{declaration_height, cond_height, stmt_height, item_height, items_height}
 use Rattle.sl_syntax.specs.Shaped.{IsDeclaration, IsCond, IsStmt, IsItem, AreItems, ends_open}
 use Rattle.sl_syntax.specs.Tree as t
-use Rattle.sl_syntax.specs.Tree.{Expr, Declaration, Effect, Cond, First, Stmt, Item, Items, items_from, Function, Program}
+use Rattle.sl_syntax.specs.Tree.{Declaration, Cond, Stmt, Item, Items}
 use Rattle.sl_syntax.specs.Written as s
-use Rattle.sl_syntax.specs.Written.{Written, at, plain, scalar_word, element_word, result_word, written, value_written, declaration_written, option_written, effect_written, cond_written, first_written, tested, stmt_written, item_written, items_written, params_written, function_written, program_written}
+use Rattle.sl_syntax.specs.Written.{Written, declaration_written, cond_written, tested, stmt_written, item_written}
 use Rattle.sl_grammar.specs.Declarations.{scalar_declaration, auto_declaration, container_declaration}
-use Rattle.sl_grammar.specs.Effects.{effect}
 use Rattle.sl_grammar.specs.Effects as effects
 use Rattle.sl_grammar.specs.Statements.{is_else, is_item, declared, item_by, item, braced, condition}
 use Rattle.sl_grammar.specs.Steps.{Reader, Tall, kind_at, mark, all_behind}

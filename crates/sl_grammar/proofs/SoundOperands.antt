@@ -17,7 +17,7 @@ use Rattle.sl_syntax.specs.Depth.{height, list_height}
 use Rattle.sl_syntax.specs.Shaped.{binary_level, level, IsExpr, AreExprs}
 use Rattle.sl_syntax.specs.Tree.{Expr, Exprs}
 use Rattle.sl_syntax.specs.Written as s
-use Rattle.sl_syntax.specs.Written.{Written, at, binary_mark, prefix_mark, postfix_mark, written, list_written, rest_written}
+use Rattle.sl_syntax.specs.Written.{Written, binary_mark, prefix_mark, written, list_written}
 use Rattle.sl_grammar.specs.Expressions.{infix_of, binds_or, piece_level, goes_on, list_before, arguments, named, library_call, parentheses, prefixed, operand_by, operand}
 use Rattle.sl_grammar.specs.Steps.{Reader, Tall, kind_at, is_mark, mark, identifier, library}
 use Rattle.sl_grammar.proofs.KindLaws.{some_one}

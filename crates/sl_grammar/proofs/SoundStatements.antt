@@ -11,9 +11,9 @@ use Rattle.sl_syntax.specs.declared.kind.Kind.{Kind}
 use Rattle.sl_syntax.specs.declared.kind.Kind.TheVariants as k
 use Rattle.sl_syntax.specs.Shaped.{ends_open}
 use Rattle.sl_syntax.specs.Tree as t
-use Rattle.sl_syntax.specs.Tree.{Expr, Declaration, Effect, Cond, First, Stmt, Item, Items, items_from, Function, Program}
+use Rattle.sl_syntax.specs.Tree.{Stmt}
 use Rattle.sl_syntax.specs.Written as s
-use Rattle.sl_syntax.specs.Written.{Written, at, plain, stmt_written}
+use Rattle.sl_syntax.specs.Written.{at, plain, stmt_written}
 use Rattle.sl_grammar.specs.Effects.{effect}
 use Rattle.sl_grammar.specs.Expressions.{expr}
 use Rattle.sl_grammar.specs.Statements.{is_else, braced, block, condition, otherwise, choice, loop, return_stmt, effect_stmt, word_stmt, stmt_by, stmt}

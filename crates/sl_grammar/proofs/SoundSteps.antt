@@ -15,7 +15,7 @@ use Rattle.sl_syntax.specs.Depth.{highest}
 use Rattle.sl_syntax.specs.Kinds.{kind_of}
 use Rattle.sl_syntax.specs.Placed.{Spells}
 use Rattle.sl_syntax.specs.Shaped.{Each, AreSome}
-use Rattle.sl_syntax.specs.Written.{Written, at, plain, named, from_place}
+use Rattle.sl_syntax.specs.Written.{Written, at, plain, named}
 use Rattle.sl_syntax.specs.Written as s
 use Rattle.sl_grammar.specs.declared.fault.Fault.{Fault}
 use Rattle.sl_grammar.specs.Steps.{Outcome, Reader, Tall, and_then, kind_at, here, is_mark, mark, number_at, text_at, identifier_at, identifier_by, identifier, library_by, library, repeat, all_behind}

@@ -14,9 +14,9 @@ use Rattle.sl_syntax.specs.declared.tree.declaration.ContainerType.{ContainerTyp
 use Rattle.sl_syntax.specs.Depth.{declaration_height, height, initializer_height, option_height}
 use Rattle.sl_syntax.specs.Shaped.{IfThere, IsDeclaration, IsExpr, IsInitializer}
 use Rattle.sl_syntax.specs.Tree as t
-use Rattle.sl_syntax.specs.Tree.{Declaration, Expr, Exprs, Initializer}
+use Rattle.sl_syntax.specs.Tree.{Declaration, Expr, Initializer}
 use Rattle.sl_syntax.specs.Written as s
-use Rattle.sl_syntax.specs.Written.{Written, at, container_written, declaration_written, elements_written, form_word, initializer_written, is_map, list_written, option_written, scalar_word, value_written, written}
+use Rattle.sl_syntax.specs.Written.{container_written, declaration_written, elements_written, form_word, initializer_written, is_map, option_written, scalar_word, value_written, written}
 use Rattle.sl_grammar.specs.declared.fault.Fault.TheVariants.{Grammar}
 use Rattle.sl_grammar.specs.Declarations.{auto_declaration, behind_equal_by, braces, constructed, container_declaration, container_type, elements_by, initializer, initializer_by, int, int_by, optional_value, scalar_declaration}
 use Rattle.sl_grammar.specs.Expressions.{expr, list, list_before}

@@ -16,7 +16,7 @@ use Rattle.sl_syntax.specs.Shaped.{IsExpr, IsRead, IsOut, IsEffect, IsCond}
 use Rattle.sl_syntax.specs.Tree as t
 use Rattle.sl_syntax.specs.Tree.{Expr, Out, Effect, Cond}
 use Rattle.sl_syntax.specs.Written as s
-use Rattle.sl_syntax.specs.Written.{Written, assignment_mark, written, out_written, read_written, effect_written, cond_written}
+use Rattle.sl_syntax.specs.Written.{assignment_mark, written, out_written, read_written, effect_written, cond_written}
 use Rattle.sl_grammar.specs.declared.fault.Fault.TheVariants.{Grammar}
 use Rattle.sl_grammar.specs.Effects.{shifted_name, read, is_input, out_by, shifted_out, print, assignment_of, assigned_by, assigned, effect_by, effect, begins_no_read, no_read, cond_by}
 use Rattle.sl_grammar.specs.Effects as effects

@@ -15,7 +15,7 @@ use Rattle.sl_syntax.specs.Shaped.{IfThere, IsCond, IsEffect, IsExpr, IsFirst, I
 use Rattle.sl_syntax.specs.Tree as t
 use Rattle.sl_syntax.specs.Tree.{Cond, Effect, Expr, First, Stmt}
 use Rattle.sl_syntax.specs.Written as s
-use Rattle.sl_syntax.specs.Written.{Written, at, cond_written, effect_written, element_word, first_written, option_written, stmt_written, written}
+use Rattle.sl_syntax.specs.Written.{Written, at, cond_written, effect_written, element_word, option_written, stmt_written, written}
 use Rattle.sl_grammar.specs.declared.fault.Fault.TheVariants.{Grammar}
 use Rattle.sl_grammar.specs.Effects as effects
 use Rattle.sl_grammar.specs.Effects.{effect}

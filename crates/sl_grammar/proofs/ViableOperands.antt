@@ -12,7 +12,7 @@ use Rattle.sl_syntax.specs.declared.operator.PrefixOperator.TheVariants as prefi
 use Rattle.sl_syntax.specs.Depth.{height}
 use Rattle.sl_syntax.specs.Shaped.{level, IsExpr}
 use Rattle.sl_syntax.specs.Tree as t
-use Rattle.sl_syntax.specs.Tree.{Expr, Exprs}
+use Rattle.sl_syntax.specs.Tree.{Expr}
 use Rattle.sl_syntax.specs.Written as s
 use Rattle.sl_syntax.specs.Written.{prefix_mark, written, list_written}
 use Rattle.sl_grammar.specs.declared.fault.Fault.TheVariants.{Grammar}
