@@ -11,7 +11,7 @@ use Rattle.sl_syntax.specs.Placed.{Placed}
 use Rattle.sl_syntax.specs.Shaped.{Shaped}
 use Rattle.sl_syntax.specs.Tree.{Program}
 use Rattle.sl_syntax.specs.Written.{words, program_written}
-use Rattle.sl_syntax.proofs.BlankLaws.{blank-placed_alone}
+use Rattle.sl_syntax.proofs.BlankLaws.{blank-placed_alone, placed-words}
 use Rattle.sl_syntax.proofs.BlankShape.{blank-shaped}
 use Rattle.sl_grammar.specs.declared.fault.Fault.TheVariants.{Grammar}
 use Rattle.sl_grammar.specs.Statements.{program}
@@ -111,3 +111,7 @@ pub one_shape : (p q : Program) → Shaped p → Shaped q → words p ≡ words 
 one_shape p q shaped other e =
     same_read (blank p) (blank q) (depth (blank p)) (depth (blank q))
     (sym (reads_blank p shaped) ∙ ap (λ (ws : List Word). program (map blank_token ws)) e ∙ reads_blank q other)
+
+-- tokens that a program is placed by are the words of one
+pub is_program : (ts : List Token) (p : Program) → Shaped p → Placed p ts → IsProgram (words_in ts)
+is_program ts p shaped placed = (p, shaped, sym (placed-words p ts placed))

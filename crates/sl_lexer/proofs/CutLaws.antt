@@ -1,6 +1,6 @@
 -- Cuts of a text: one piece at an offset, one cut, one list of tokens, one fault, and never both.
-use Rattle.std.proofs.Common.{◌≡◌, ℕ, zero, suc, ◌+◌, ◌<◌, ◌≤◌, ◌⊎◌, inl, inr, Bool, false, ◌||◌, cond, ◌==◌, List, [], ◌∷◌, ◌++◌, length, drop, codes, is_some, Err, refl, sym, ap, ◌∙◌, subst, arith}
-use Rattle.std.specs.List.{filter_map}
+use Rattle.std.proofs.Common.{◌≡◌, ℕ, zero, suc, ◌+◌, ◌<◌, ◌≤◌, ◌⊎◌, inl, inr, Bool, false, ◌||◌, cond, ◌==◌, List, [], ◌∷◌, ◌++◌, length, drop, codes, Option, Some, None, is_some, Err, refl, sym, ap, ◌∙◌, subst, arith}
+use Rattle.std.specs.List.{filter_map, cons_option}
 use Rattle.std.proofs.lemmas.List.{length-drop}
 use Rattle.sl_base.specs.declared.token.Token.{Token}
 use Rattle.sl_base.specs.Pieces.{PieceKind, blank_piece, comment_piece, directive_piece, name_piece, lib_piece, number_piece, text_piece, mark_piece, HasForm, IsPiece, IsLongest, TokenRule, bad_byte, bad_number, open_comment, open_text, bad_directive, rule_number, Breaks, begins_nothing, long_name, long_lib, wrong_escape, joint, no_number, no_comment}
@@ -163,3 +163,22 @@ fault_behind text ps to rule at h within e =
       first = λ other there b. (only other there b).1;
       least = λ other b. omega (arith, ap rule_number (only other (to + at) b).0);
     }
+
+-- pieces take a byte each
+pieces-few : (text : List ℕ) (seen : Bool) (from : ℕ) (ps : List Piece) (to : ℕ) → Follow text seen from ps to → from + length ps ≤ to
+pieces-few text seen from [] to h = omega (arith, h)
+pieces-few text seen from (p ∷ ps) to h =
+    omega (arith, pieces-few text (seen_by text seen p) (from + p.len) ps to h.2, piece-some text seen p.from p.kind p.len h.1.longest.piece)
+
+one_more : (t : Option Token) (ts : List Token) (n : ℕ) → length ts ≤ n → length (cons_option t ts) ≤ n + 1
+one_more None ts n h = omega (arith, h)
+one_more (Some t) ts n h = omega (arith, h)
+
+-- there are no more tokens than pieces
+tokens-few : (text : List ℕ) (ps : List Piece) → length (filter_map (token_of text) ps) ≤ length ps
+tokens-few text [] = omega arith
+tokens-few text (p ∷ ps) = omega (arith, one_more (token_of text p) (filter_map (token_of text) ps) (length ps) (tokens-few text ps))
+
+-- a text has no more tokens than bytes
+pub few_tokens : (text : List ℕ) (tokens : List Token) → Tokens text tokens → length tokens ≤ length text
+few_tokens text tokens (pieces, cut, is) = omega (arith, ap length is, tokens-few text pieces, pieces-few text false 0 pieces (length text) cut)

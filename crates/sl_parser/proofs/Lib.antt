@@ -5,3 +5,5 @@ pub mod RepeatLaws
 pub mod ListLaws
 pub mod CallLaws
 pub mod ExprLaws
+pub mod StatementLaws
+pub mod ParseLaws

@@ -18,8 +18,8 @@ kind-in : (P : Kind → Type 0) (rows : List (List ℕ × Kind)) (instead : Kind
 kind-in P [] instead bytes i each = i
 kind-in P (r ∷ rows) instead bytes i each =
     elim (bytes_eq r.0 bytes) as (λ b. P (kind_or instead (option_map (λ (m : List ℕ × Kind). m.1) (cond b (Some r) (find (λ (m : List ℕ × Kind). bytes_eq m.0 bytes) rows))))) [
-      true ↦ each.0
-    | false ↦ kind-in P rows instead bytes i each.1
+      | true ↦ each.0
+      | false ↦ kind-in P rows instead bytes i each.1
     ]
 
 -- what was found is taken
@@ -50,9 +50,9 @@ library-word : (x : Word) (place : Place) (ts : List Token) → (name_in x ≡ (
 library-word (w.Name n) place ts e f = refl
 library-word (w.Lib n) place ts e f = library-kind (kind_of (w.Lib n)) n place ts e f
   where
-  library-kind : (kind : Kind) (n : List ℕ) (place : Place) (ts : List Token) → (n ≡ (identifier_at ts).name) → (place ≡ (identifier_at ts).place) → library_of_kind kind ts ≡ taken (library_named place n kind) ts
-  library-kind k.Library n place ts e f = rw (e, f) refl
-  library-kind _ n place ts e f = refl
+    library-kind : (kind : Kind) (n : List ℕ) (place : Place) (ts : List Token) → (n ≡ (identifier_at ts).name) → (place ≡ (identifier_at ts).place) → library_of_kind kind ts ≡ taken (library_named place n kind) ts
+    library-kind k.Library n place ts e f = rw (e, f) refl
+    library-kind _ n place ts e f = refl
 library-word (w.Key n) place ts e f = kind-in (λ kind. library_of_kind kind ts ≡ Err (refusal ts)) keys k.Other n refl
     (refl, (refl, (refl, (refl, (refl, (refl, (refl, (refl, (refl, (refl, (refl, (refl, (refl, (refl, tt))))))))))))))
 library-word (w.Number n) place ts e f = refl

@@ -18,9 +18,9 @@ module _ {A : Type 0} (goes : Kind → Bool) (item : Reader (Tall A)) where
   unfolding repeat
   loop-stops o total made done ts e h = e ∙ stops (total - made)
     where
-    stops : (n : ℕ) → repeat goes item n done ts ≡ Ok (done, ts)
-    stops zero = rw h refl
-    stops (suc n) = rw h refl
+      stops : (n : ℕ) → repeat goes item n done ts ≡ Ok (done, ts)
+      stops zero = rw h refl
+      stops (suc n) = rw h refl
 
   -- the turn that ends in a fault
   pub loop-fault : (o : Outcome (Tall (List A))) (total made : ℕ) (done : Tall (List A)) (ts : List Token) (e : Fault) → made < total → o ≡ repeat goes item (total - made) done ts
@@ -40,15 +40,15 @@ module _ {A : Type 0} (goes : Kind → Bool) (item : Reader (Tall A)) where
   unfolding repeat
   loop-spent o total made done ts le is h = is ∙ spent (total - made) (omega arith)
     where
-    spent : (n : ℕ) → n ≡ 0 → repeat goes item n done ts ≡ Err (refusal ts)
-    spent zero z = rw h refl
-    spent (suc n) z = absurd (omega arith)
+      spent : (n : ℕ) → n ≡ 0 → repeat goes item n done ts ≡ Err (refusal ts)
+      spent zero z = rw h refl
+      spent (suc n) z = absurd (omega arith)
 
   front_turn : (front : List A) (n : ℕ) (done : Tall (List A)) (o : Outcome (Tall A))
       → ((x : Tall A) (us : List Token) → repeat goes item n (front ++ (done.0 ++ x.0 ∷ []), max done.1 x.1) us
-        ≡ and_then (repeat goes item n (done.0 ++ x.0 ∷ [], max done.1 x.1) us) (λ xs vs. Ok ((front ++ xs.0, xs.1), vs)))
+      ≡ and_then (repeat goes item n (done.0 ++ x.0 ∷ [], max done.1 x.1) us) (λ xs vs. Ok ((front ++ xs.0, xs.1), vs)))
       → and_then o (λ x. repeat goes item n (front ++ done.0 ++ x.0 ∷ [], max done.1 x.1))
-        ≡ and_then (and_then o (λ x. repeat goes item n (done.0 ++ x.0 ∷ [], max done.1 x.1))) (λ xs us. Ok ((front ++ xs.0, xs.1), us))
+      ≡ and_then (and_then o (λ x. repeat goes item n (done.0 ++ x.0 ∷ [], max done.1 x.1))) (λ xs us. Ok ((front ++ xs.0, xs.1), us))
   front_turn front n done (Ok (x, us)) h = rw (append_assoc front done.0 (x.0 ∷ [])) (h x us)
   front_turn front n done (Err e) h = refl
 

@@ -1,5 +1,5 @@
 -- A text of the form is a program: one function, whose items are the statements.
-use Rattle.std.proofs.Common.{◌≡◌, ℕ, ◌+◌, ◌≤◌, max, List, [], ◌∷◌, ◌++◌, Some, None, codes, refl, sym, ap, ◌∙◌, arith}
+use Rattle.std.proofs.Common.{◌≡◌, ℕ, ◌≤◌, List, [], ◌∷◌, ◌++◌, Some, codes, refl, sym, ap, ◌∙◌, arith}
 use Rattle.std.proofs.lemmas.List.{append-nil}
 use Rattle.std.specs.List.{flat_map}
 use Rattle.sl_base.specs.declared.form.Form.TheVariants as f
@@ -13,7 +13,7 @@ use Rattle.sl_syntax.specs.declared.tree.identifier.Identifier.{Identifier}
 use Rattle.sl_syntax.specs.Begins.{IsProgram}
 use Rattle.sl_syntax.specs.Blank.{nowhere}
 use Rattle.sl_syntax.specs.Depth.{item_height, items_height}
-use Rattle.sl_syntax.specs.Shaped.{IsItem, AreItems, Shaped}
+use Rattle.sl_syntax.specs.Shaped.{IsItem, AreItems}
 use Rattle.sl_syntax.specs.Tree as t
 use Rattle.sl_syntax.specs.Written.{Written, words_of, item_written, items_written, at}
 use Rattle.sl_syntax.proofs.WrittenLaws.{words_of-append}

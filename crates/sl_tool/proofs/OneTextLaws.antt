@@ -5,16 +5,18 @@ use Rattle.std.specs.List.{flat_map}
 use Rattle.std.specs.declared.alloc.AllocError.{AllocError}
 use Rattle.sl_base.specs.declared.mark.Mark.TheVariants.{RightBrace}
 use Rattle.sl_base.specs.declared.token.Token.{Token}
+use Rattle.sl_base.specs.declared.word.Word.{Word}
 use Rattle.sl_base.specs.declared.word.Word.TheVariants.{Mark}
 use Rattle.sl_lexer.proofs.CutLaws.{one_tokens, not_both, one_fault}
 use Rattle.sl_syntax.specs.declared.typed.Typed.{Typed}
 use Rattle.sl_base.specs.declared.place.Place.{Place}
-use Rattle.sl_tool.specs.declared.refusal.Reason.TheVariants.{NotBuilt}
+use Rattle.sl_tool.specs.declared.refusal.Reason.TheVariants.{Grammar, NotBuilt}
 use Rattle.sl_tool.specs.declared.refusal.Refusal.{Refusal}
 use Rattle.sl_tool.specs.Begins.{IsText, StopsAt, stop_place}
-use Rattle.sl_syntax.specs.Begins.{words_in}
+use Rattle.sl_syntax.specs.Begins.{IsProgram, Stops, words_in}
 use Rattle.sl_tool.specs.Form.{Item, item_words, head_words, typed_text, ReadsAs, IsBuilt}
-use Rattle.sl_tool.specs.Refusals.{IsRefused, by_token, by_form, IsReadOf}
+use Rattle.sl_tool.specs.Refusals.{IsRefused, by_token, by_grammar, by_form, IsReadOf}
+use Rattle.sl_tool.proofs.FormProgram.{text_is_program}
 use Rattle.sl_tool.proofs.ItemLaws.{begins_with, same_item, no_item_at_end}
 use Rattle.sl_syntax.proofs.BeginsLaws.{stops_once, not_whole}
 
@@ -44,25 +46,38 @@ is_text tokens p reads = record { items = reads.items; are_items = reads.words; 
 reads_or_stops : (tokens others : List Token) (p : Typed) (k : ℕ) → tokens ≡ others → ReadsAs tokens p → StopsAt others k → ⊥
 reads_or_stops tokens others p k e reads stops = not_whole IsText (words_in others) k stops (subst (λ ts. IsText (words_in ts)) e (is_text tokens p reads))
 
-one_stop : (text : List ℕ) (tokens others : List Token) (j k : ℕ) → tokens ≡ others → StopsAt tokens j → StopsAt others k → stop_place text tokens j ≡ stop_place text others k
-one_stop text tokens others j k e a b =
-    let same : j ≡ k = stops_once IsText (words_in others) j k (subst (λ ts. StopsAt ts j) e a) b in
+one_stop : (P : List Word → Type 0) (text : List ℕ) (tokens others : List Token) (j k : ℕ) → tokens ≡ others → Stops P (words_in tokens) j → Stops P (words_in others) k
+    → stop_place text tokens j ≡ stop_place text others k
+one_stop P text tokens others j k e a b =
+    let same : j ≡ k = stops_once P (words_in others) j k (subst (λ ts. Stops P (words_in ts) j) e a) b in
     ap (λ ts. stop_place text ts j) e ∙ ap (stop_place text others) same
+
+-- the words of a program don't stop beginning one
+program_or_stops : (tokens others : List Token) (k : ℕ) → tokens ≡ others → Stops IsProgram (words_in tokens) k → IsProgram (words_in others) → ⊥
+program_or_stops tokens others k e stops whole = not_whole IsProgram (words_in others) k (subst (λ ts. Stops IsProgram (words_in ts) k) e stops) whole
 
 -- a text has one refusal
 one_refusal : (text : List ℕ) (a b : Refusal) → IsRefused text a → IsRefused text b → a ≡ b
 one_refusal text _ _ (by_token rule at fault) (by_token other there fault_too) =
     let same = one_fault text rule other at there fault fault_too in
     rw (same.0, same.1) refl
-one_refusal text _ _ (by_token rule at fault) (by_form ts t k stops) = absurd (not_both text ts rule at t fault)
-one_refusal text _ _ (by_form ts t k stops) (by_token rule at fault) = absurd (not_both text ts rule at t fault)
-one_refusal text _ _ (by_form ts t j stops) (by_form us u k others) =
-    ap (λ (p : Place). record { place = p; reason = NotBuilt }) (one_stop text ts us j k (one_tokens text ts us t u) stops others)
+one_refusal text _ _ (by_token rule at fault) (by_grammar ts t k stops) = absurd (not_both text ts rule at t fault)
+one_refusal text _ _ (by_token rule at fault) (by_form ts t whole k stops) = absurd (not_both text ts rule at t fault)
+one_refusal text _ _ (by_grammar ts t k stops) (by_token rule at fault) = absurd (not_both text ts rule at t fault)
+one_refusal text _ _ (by_grammar ts t j stops) (by_grammar us u k others) =
+    ap (λ (p : Place). record { place = p; reason = Grammar }) (one_stop IsProgram text ts us j k (one_tokens text ts us t u) stops others)
+one_refusal text _ _ (by_grammar ts t j stops) (by_form us u whole k others) = absurd (program_or_stops ts us j (one_tokens text ts us t u) stops whole)
+one_refusal text _ _ (by_form ts t whole k stops) (by_token rule at fault) = absurd (not_both text ts rule at t fault)
+one_refusal text _ _ (by_form ts t whole j stops) (by_grammar us u k others) = absurd (program_or_stops us ts k (one_tokens text us ts u t) others whole)
+one_refusal text _ _ (by_form ts t whole j stops) (by_form us u also k others) =
+    ap (λ (p : Place). record { place = p; reason = NotBuilt }) (one_stop IsText text ts us j k (one_tokens text ts us t u) stops others)
 
 -- a text of the form isn't refused
 read_or_refused : (text : List ℕ) (p : Typed) (r : Refusal) → IsBuilt text p → IsRefused text r → ⊥
 read_or_refused text p _ (ts, t, reads) (by_token rule at fault) = not_both text ts rule at t fault
-read_or_refused text p _ (ts, t, reads) (by_form us u k stops) = reads_or_stops ts us p k (one_tokens text ts us t u) reads stops
+read_or_refused text p _ (ts, t, reads) (by_grammar us u k stops) =
+    program_or_stops us ts k (one_tokens text us ts u t) stops (text_is_program (words_in ts) (is_text ts p reads))
+read_or_refused text p _ (ts, t, reads) (by_form us u whole k stops) = reads_or_stops ts us p k (one_tokens text ts us t u) reads stops
 
 one_text : (text : List ℕ) (a b : Result Typed Refusal) → IsReadOf text a → IsReadOf text b → a ≡ b
 one_text text (Ok p) (Ok q) (ts, t, reads) (us, u, others) = ap Ok (one_reading us p q (subst (λ l. ReadsAs l p) (one_tokens text ts us t u) reads) others)

@@ -1,5 +1,5 @@
 -- Where tokens stop beginning a text of the form: the place of the refusal of one that isn't.
-use Rattle.std.specs.Prelude.{◌≡◌, ℕ, ◌+◌, ◌≤◌, ◌<◌, List, ◌++◌, length, take, map, slice_index_or}
+use Rattle.std.specs.Prelude.{◌≡◌, ℕ, ◌≤◌, List, length, map, slice_index_or}
 use Rattle.sl_base.specs.declared.limits.TheConstants.{STATEMENTS}
 use Rattle.sl_base.specs.declared.place.Place.{Place}
 use Rattle.sl_base.specs.declared.token.Token.{Token}

@@ -4,6 +4,7 @@ ghost use Rattle.sl_base.specs.Pieces.{TokenRule};
 ghost use Rattle.sl_base.specs.Tokens.{Tokens, TokenFault};
 ghost use Rattle.sl_base.specs.declared.limits.TheConstants.{TEXT_BYTES};
 ghost use Rattle.sl_lexer.specs.Faults.{fault_of};
+ghost use Rattle.sl_syntax.specs.Begins.{IsProgram, Stops, words_in};
 ghost use Rattle.sl_model.specs.Covers.{Warning as WarningValue};
 ghost use Rattle.sl_model.specs.Texts.{report_text};
 ghost use Rattle.sl_tool.specs.Answers.{IsReport, status_of};
@@ -21,6 +22,7 @@ use crate::reporting::report_on;
 use crate::status::Status;
 use sl_base::{Items, Place, Token, place_of};
 use sl_lexer::{LexErr, lex};
+use sl_parser::{ParseErr, parse};
 use sl_syntax::typed::Typed;
 use sl_warnings::{Report, render};
 use std::alloc::{AllocError, Global};
@@ -37,7 +39,7 @@ pub fn typed_text(alloc: Global, text: &[u8]) -> Result<Result<Typed, Refusal>, 
     }
 }
 
-// The text with these tokens in numbers, or where they stop.
+// The text with these tokens in numbers, or where they stop: beginning a program first, then a text of the form.
 fn typed_tokens(
     alloc: Global,
     text: &[u8],
@@ -45,6 +47,39 @@ fn typed_tokens(
 ) -> Result<Result<Typed, Refusal>, AllocError>
     requires short { length text.now ≤ TEXT_BYTES }
     requires cut { Tokens text.now tokens.now }
+    ensures { IfOk result (IsReadOf text.now) }
+{
+    match parse(alloc, tokens) {
+        Ok(_) => built_tokens(alloc, text, tokens),
+        Err(error) => Ok(Err(grammar_refusal(text, tokens, error)?)),
+    }
+}
+
+// The refusal of a text with these tokens, of which the parser answers this error.
+fn grammar_refusal(text: &[u8], tokens: &[Token], error: ParseErr) -> Result<Refusal, AllocError>
+    requires short { length text.now ≤ TEXT_BYTES }
+    requires cut { Tokens text.now tokens.now }
+    requires stops { (k : ℕ) → error ≡ ParseErr.Grammar k → Stops IsProgram (words_in tokens.now) k }
+    ensures { IfOk result (IsRefused text.now) }
+{
+    match error {
+        ParseErr::Memory => Err(AllocError),
+        ParseErr::Grammar { token } => Ok(Refusal {
+            place: stop_place(text, tokens, token as usize),
+            reason: Reason::Grammar,
+        }),
+    }
+}
+
+// The text with these tokens of a program in numbers, or where they stop beginning one of the form.
+fn built_tokens(
+    alloc: Global,
+    text: &[u8],
+    tokens: &[Token],
+) -> Result<Result<Typed, Refusal>, AllocError>
+    requires short { length text.now ≤ TEXT_BYTES }
+    requires cut { Tokens text.now tokens.now }
+    requires whole { IsProgram (words_in tokens.now) }
     ensures { IfOk result (IsReadOf text.now) }
 {
     match read_text(alloc, tokens)? {

@@ -17,6 +17,8 @@ pub enum Reason {
     OpenText,
     /// A `#` that begins no directive.
     BadDirective,
+    /// The words are those of no program of the grammar.
+    Grammar,
     /// The text isn't of the form that is checked so far.
     NotBuilt,
 }
@@ -32,6 +34,7 @@ impl Reason {
             Reason::OpenComment => "open comment",
             Reason::OpenText => "open text",
             Reason::BadDirective => "bad directive",
+            Reason::Grammar => "grammar",
             Reason::NotBuilt => "not built",
         }
     }

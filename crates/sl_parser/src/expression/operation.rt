@@ -86,11 +86,7 @@ fn goes_on(kind: Kind) -> u8
 impl<F: Fn(Global, &mut Tokens<'_>, usize, u8) -> Result<(Expr, usize), Fault>> Nested<F> {
     /// An expression whose operators bind at least so tightly.
     #[tactic(auto, unfolding(crate::specs::Reader::from_operand))]
-    pub fn from_operand(
-        &self,
-        tokens: &mut Tokens<'_>,
-        least: u8,
-    ) -> Result<(Expr, usize), Fault>
+    pub fn from_operand(&self, tokens: &mut Tokens<'_>, least: u8) -> Result<(Expr, usize), Fault>
         requires { Nests self.now.room (F.pre self.now.inner) (F.post self.now.inner) }
         ensures reads { Reads tall_expr (spec.from_operand (spec.expr self.now.room) (spec.expr (self.now.room - 1)) self.now.room least tokens.old) result tokens.new }
         ensures low { IfOk result (λ x. x.1 ≤ self.now.room) }
@@ -176,11 +172,7 @@ impl<F: Fn(Global, &mut Tokens<'_>, usize, u8) -> Result<(Expr, usize), Fault>> 
 
     // A piece behind an operand.
     #[tactic(auto, unfolding(crate::specs::Reader::piece))]
-    fn piece(
-        &self,
-        tokens: &mut Tokens<'_>,
-        left: (Expr, usize),
-    ) -> Result<(Expr, usize), Fault>
+    fn piece(&self, tokens: &mut Tokens<'_>, left: (Expr, usize)) -> Result<(Expr, usize), Fault>
         requires reader { Nests self.now.room (F.pre self.now.inner) (F.post self.now.inner) }
         requires room { left.1 < self.now.room }
         ensures reads { Reads tall_expr (spec.piece (spec.expr self.now.room) (spec.expr (self.now.room - 1)) self.now.room (tall_expr left) tokens.old) result tokens.new }
@@ -188,7 +180,11 @@ impl<F: Fn(Global, &mut Tokens<'_>, usize, u8) -> Result<(Expr, usize), Fault>> 
     {
         match tokens.kind() {
             Kind::Mark(Mark::PlusPlus) => self.postfixed(tokens, left, PostfixOperator::Increment),
-            Kind::Mark(Mark::MinusMinus) => self.postfixed(tokens, left, PostfixOperator::Decrement),
+            Kind::Mark(Mark::MinusMinus) => self.postfixed(
+                tokens,
+                left,
+                PostfixOperator::Decrement,
+            ),
             Kind::Mark(Mark::LeftBracket) => self.indexed(tokens, left),
             Kind::Mark(Mark::Dot) => self.dotted(tokens, left),
             Kind::Mark(Mark::Arrow) => self.pointed(tokens, left),
@@ -222,11 +218,7 @@ impl<F: Fn(Global, &mut Tokens<'_>, usize, u8) -> Result<(Expr, usize), Fault>> 
     }
 
     #[tactic(auto, using(crate::proofs::Views::expr_views), unfolding(crate::specs::Reader::indexed))]
-    fn indexed(
-        &self,
-        tokens: &mut Tokens<'_>,
-        left: (Expr, usize),
-    ) -> Result<(Expr, usize), Fault>
+    fn indexed(&self, tokens: &mut Tokens<'_>, left: (Expr, usize)) -> Result<(Expr, usize), Fault>
         requires reader { Nests self.now.room (F.pre self.now.inner) (F.post self.now.inner) }
         requires room { left.1 < self.now.room }
         ensures reads { Reads tall_expr (spec.indexed (spec.expr self.now.room) (spec.expr (self.now.room - 1)) self.now.room (tall_expr left) tokens.old) result tokens.new }
@@ -251,11 +243,7 @@ impl<F: Fn(Global, &mut Tokens<'_>, usize, u8) -> Result<(Expr, usize), Fault>> 
 
     // `.` and a member, or a call of it.
     #[tactic(auto, unfolding(crate::specs::Reader::dotted))]
-    fn dotted(
-        &self,
-        tokens: &mut Tokens<'_>,
-        left: (Expr, usize),
-    ) -> Result<(Expr, usize), Fault>
+    fn dotted(&self, tokens: &mut Tokens<'_>, left: (Expr, usize)) -> Result<(Expr, usize), Fault>
         requires reader { Nests self.now.room (F.pre self.now.inner) (F.post self.now.inner) }
         requires room { left.1 < self.now.room }
         ensures reads { Reads tall_expr (spec.dotted (spec.expr self.now.room) (spec.expr (self.now.room - 1)) self.now.room (tall_expr left) tokens.old) result tokens.new }
@@ -273,11 +261,7 @@ impl<F: Fn(Global, &mut Tokens<'_>, usize, u8) -> Result<(Expr, usize), Fault>> 
 
     // `->` and a member.
     #[tactic(auto, unfolding(crate::specs::Reader::pointed))]
-    fn pointed(
-        &self,
-        tokens: &mut Tokens<'_>,
-        left: (Expr, usize),
-    ) -> Result<(Expr, usize), Fault>
+    fn pointed(&self, tokens: &mut Tokens<'_>, left: (Expr, usize)) -> Result<(Expr, usize), Fault>
         requires room { left.1 < self.now.room }
         ensures reads { Reads tall_expr (spec.pointed (spec.expr self.now.room) (spec.expr (self.now.room - 1)) self.now.room (tall_expr left) tokens.old) result tokens.new }
         ensures low { IfOk result (λ x. x.1 ≤ self.now.room) }

@@ -7,4 +7,4 @@ abbrev pub invariant-loop-turn : goal.invariant-loop-turn
 invariant-loop-turn g l =
     (l.left.1 ≤ l.self.room)
     × (climb (expr l.self.room) (expr (l.self.room - 1)) l.self.room l.least l.self.room (tall_expr l.fn.left) l.fn.tokens
-      ≡ climb (expr l.self.room) (expr (l.self.room - 1)) l.self.room l.least (l._turn-end - l._turn) (tall_expr l.left) l.tokens)
+    ≡ climb (expr l.self.room) (expr (l.self.room - 1)) l.self.room l.least (l._turn-end - l._turn) (tall_expr l.left) l.tokens)

@@ -14,10 +14,10 @@ returns-in_err-tree-clause-reads g c =
 
 pub loop-turn-preserved : goal.loop-turn-preserved
 loop-turn-preserved g c = (
-    omega (arith, c.max-height.ensures, c.loop-turn.invariant.0, c.in_ok-tree.ensures.low),
-    loop-turn _ _ _ _ _ _ _ _ _ _ c.loop-turn-test.true c.loop-turn.invariant.1 (sym c.sees.ensures ∙ c.if-not-sees.false) c.in_ok-tree.ensures.reads
-        (rw (c.in_ok-push.ensures.items, map-append, c.max-height.ensures) refl),
-  )
+  omega (arith, c.max-height.ensures, c.loop-turn.invariant.0, c.in_ok-tree.ensures.low),
+  loop-turn _ _ _ _ _ _ _ _ _ _ c.loop-turn-test.true c.loop-turn.invariant.1 (sym c.sees.ensures ∙ c.if-not-sees.false) c.in_ok-tree.ensures.reads
+      (rw (c.in_ok-push.ensures.items, map-append, c.max-height.ensures) refl),
+)
 
 pub returns-then-sees-clause-reads : goal.returns-then-sees-clause-reads
 returns-then-sees-clause-reads g c some = rw c.refuse.ensures (loop-spent _ _ _ _ _ _ _ c.loop-turn-test.false c.loop-turn.invariant.1 (sym c.if-sees.ensures))

@@ -10,4 +10,4 @@ invariant-loop-turn g l =
     let item = comma_expr (expr l.self.room 1) (expr (l.self.room - 1) 1) (l.self.room - 1) in
     (l.height < l.self.room - 1)
     × (repeat (is_mark m.Comma) item (length l.fn.tokens) (map expr_of l.fn.list.items, 0) l.fn.tokens
-      ≡ repeat (is_mark m.Comma) item (l._turn-end - l._turn) (map expr_of l.list.items, l.height) l.tokens)
+    ≡ repeat (is_mark m.Comma) item (l._turn-end - l._turn) (map expr_of l.list.items, l.height) l.tokens)
