@@ -38,4 +38,12 @@ fn words_of_command(rt: &HostRuntime) -> Result<Vec<String>, AllocError> {
 }
 
 #[cfg(test)]
+mod depth_tests;
+#[cfg(test)]
+mod expression_tests;
+#[cfg(test)]
+mod grammar_tests;
+#[cfg(test)]
 mod tests;
+#[cfg(test)]
+mod tree_tests;

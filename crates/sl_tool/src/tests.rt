@@ -2,6 +2,7 @@
 
 use crate::status::Status;
 use crate::tool::run_tool;
+use crate::tree_tests::REALISTIC;
 use sl_base::{MemFiles, MemSink, RealFiles, StdSink};
 use std::alloc::{AllocError, Global};
 use std::test::Fail;
@@ -60,61 +61,86 @@ fn check(alloc: Global, text: &[u8]) -> Result<Ran, AllocError> {
 
 const PASSED: &str = "a.cpp: passed\n";
 
-// The line of a text that is refused at this place, and where there is none of one that passes.
-fn answer_at(alloc: Global, place: &str) -> Result<String, AllocError> {
+// The line of a text that is refused at this place for this reason, and where there is no place of one that passes.
+fn answer_at(alloc: Global, place: &str, why: &str) -> Result<String, AllocError> {
     if place.is_empty() {
         return String::from_str(alloc, PASSED);
     }
-    refused_at(alloc, place, "not built")
+    refused_at(alloc, place, why)
 }
 
 fn refused_at(alloc: Global, place: &str, why: &str) -> Result<String, AllocError> {
     format!(in alloc; "a.cpp:{place}: refused: {why}\n")
 }
 
+/// Texts, each with the place at which it is refused and the reason. No place: the text passes.
+const TEXTS: [(&str, &str, &str); 37] = [
+    ("int main() {}", "", ""),
+    ("int main() {}\n", "", ""),
+    ("int main() {\r\n}\r\n", "", ""),
+    ("\t int\n\nmain ( )\r{ } ", "", ""),
+    ("intmain() {}", "1:1", "grammar"),
+    ("int main() {", "1:13", "grammar"),
+    ("int main() {\n", "2:1", "grammar"),
+    ("int main() {}}", "1:14", "grammar"),
+    ("int main() { int x = 1; }", "1:14", "not built"),
+    ("int main(int) {}", "1:13", "grammar"),
+    ("int main(int x) {}", "1:10", "not built"),
+    ("void main() {}", "1:1", "not built"),
+    ("int mein() {}", "1:5", "not built"),
+    ("std::int main() {}", "1:1", "grammar"),
+    ("int std::main() {}", "1:5", "grammar"),
+    ("int Main() {}", "1:5", "not built"),
+    ("int main() {} ++", "1:15", "grammar"),
+    ("int main() {} \"int\"", "1:15", "grammar"),
+    ("int main() {} int f() {}", "1:15", "not built"),
+    (
+        "#include <vector>\n# include <map> // maps\nint main() { /* nothing */ }",
+        "",
+        "",
+    ),
+    ("#include <vector>", "1:18", "grammar"),
+    ("", "1:1", "grammar"),
+    (" ", "1:2", "grammar"),
+    ("// int main() {}", "1:17", "grammar"),
+    ("int", "1:4", "grammar"),
+    (
+        "int x64_aaaaaaaaaaaaaaaaaaaaaaaaaaaaaaaaaaaaaaaaaaaaaaaaaaaaaaaaaaaa",
+        "1:69",
+        "grammar",
+    ),
+    ("int main() {} 2147483647", "1:15", "grammar"),
+    ("0", "1:1", "grammar"),
+    (
+        "int main() {\n  std::vector<int> v;\n  v.",
+        "3:5",
+        "grammar",
+    ),
+    (
+        "int main() {\n  std::vector<int> v;\n  v.\n",
+        "4:1",
+        "grammar",
+    ),
+    // A fault of the grammar comes before an earlier token of another form.
+    ("int main() { int x = 1; } ;", "1:27", "grammar"),
+    ("int mein() {}\nint", "2:4", "grammar"),
+    ("int mein() {", "1:13", "grammar"),
+    ("int mein() { return }", "1:21", "grammar"),
+    ("int mein() { return 0; }", "1:5", "not built"),
+    ("int main() { f(1, 2); g(3; }", "1:26", "grammar"),
+    (REALISTIC, "7:5", "not built"),
+];
+
 #[test]
 fn texts(rt: HostRuntime) -> Result<(), Fail> {
-    // No place: the text passes.
-    let cases = [
-        ("int main() {}", ""),
-        ("int main() {}\n", ""),
-        ("int main() {\r\n}\r\n", ""),
-        ("\t int\n\nmain ( )\r{ } ", ""),
-        ("intmain() {}", "1:1"),
-        ("int main() {", "1:13"),
-        ("int main() {\n", "2:1"),
-        ("int main() {}}", "1:14"),
-        ("int main() { int x = 1; }", "1:14"),
-        ("int main(int) {}", "1:10"),
-        ("int mein() {}", "1:5"),
-        ("std::int main() {}", "1:1"),
-        ("int std::main() {}", "1:5"),
-        ("int Main() {}", "1:5"),
-        ("int main() {} ++", "1:15"),
-        ("int main() {} \"int\"", "1:15"),
-        (
-            "#include <vector>\n# include <map> // maps\nint main() { /* nothing */ }",
-            "",
-        ),
-        ("#include <vector>", "1:18"),
-        ("", "1:1"),
-        (" ", "1:2"),
-        ("int", "1:4"),
-        (
-            "int x64_aaaaaaaaaaaaaaaaaaaaaaaaaaaaaaaaaaaaaaaaaaaaaaaaaaaaaaaaaaaa",
-            "1:5",
-        ),
-        ("int main() {} 2147483647", "1:15"),
-        ("0", "1:1"),
-    ];
-    for (text, place) in cases {
+    for (text, place, why) in TEXTS {
         let ran = check(rt.alloc(), text.as_bytes())?;
         let status = if place.is_empty() {
             Status::Passed
         } else {
             Status::Refused
         };
-        let line = answer_at(rt.alloc(), place)?;
+        let line = answer_at(rt.alloc(), place, why)?;
         assert_eq!(rt; ran.status, status, "{text:?}");
         assert_eq!(rt; ran.out.bytes(), line.as_bytes(), "{text:?}");
     }
@@ -136,8 +162,10 @@ fn texts_without_tokens(rt: HostRuntime) -> Result<(), Fail> {
         ("int main() {\r\n  \"x\r\n}", "2:3", "open text"),
         ("int main() { '' }", "1:14", "open text"),
         ("int main() {} #", "1:15", "bad directive"),
-        // The fault of a later token comes before a text of another form.
+        // The fault of a later token comes before a text of another form, and before a fault of the grammar.
         ("int mein() {}\n #", "2:2", "bad directive"),
+        ("int int\n #", "2:2", "bad directive"),
+        ("int main() { double d; } \"", "1:26", "open text"),
         ("\n#include <string>\nint main() {}", "2:1", "bad directive"),
         ("\n\n\\", "3:1", "bad byte"),
         (
@@ -167,54 +195,56 @@ fn main_of(alloc: Global, statements: &str) -> Result<String, AllocError> {
     Ok(text)
 }
 
+/// Statements of `main`, and the answer to them.
+const REPORTS: [(&str, &str); 10] = [
+    (
+        "std::vector<int> v; v.push_back(1); auto it = v.begin(); int x = *it;",
+        PASSED,
+    ),
+    (
+        "std::vector<int> v; v.push_back(1); auto it = v.begin(); v.push_back(2); int x = *it;",
+        "a.cpp:6:11: invalid iterator in *: it, invalidated at 5:5\na.cpp: warnings: 1\n",
+    ),
+    // What was dereferenced is valid in each run that goes on.
+    (
+        "std::vector<int> v; v.push_back(1); auto it = v.begin(); v.push_back(2); int x = *it; int y = *it;",
+        "a.cpp:6:11: invalid iterator in *: it, invalidated at 5:5\na.cpp: warnings: 1\n",
+    ),
+    (
+        "std::vector<int> v; v.push_back(1); auto it = v.begin(); v.push_back(2); v.push_back(3); int x = *it;",
+        "a.cpp:7:11: invalid iterator in *: it, invalidated at 5:5, 6:5\na.cpp: warnings: 1\n",
+    ),
+    // An iterator from behind the growth is valid.
+    (
+        "std::vector<int> v; v.push_back(1); auto it = v.begin(); v.push_back(2); auto at = v.begin(); int x = *at; int y = *it;",
+        "a.cpp:8:11: invalid iterator in *: it, invalidated at 5:5\na.cpp: warnings: 1\n",
+    ),
+    // Two iterators are invalid, each by its own calls.
+    (
+        "std::vector<int> v; auto a = v.begin(); v.push_back(1); auto b = v.begin(); v.push_back(2); int x = *b; int y = *a;",
+        "a.cpp:7:11: invalid iterator in *: b, invalidated at 6:5\na.cpp:8:11: invalid iterator in *: a, invalidated at 4:5, 6:5\na.cpp: warnings: 2\n",
+    ),
+    (
+        "std::vector<int> v; auto it = v.begin(); int x = *it;",
+        "a.cpp:4:11: end iterator in *: it\na.cpp: warnings: 1\n",
+    ),
+    (
+        "std::vector<int> v; auto it = v.begin(); v.push_back(1); int x = *it;",
+        "a.cpp:5:11: invalid iterator in *: it, invalidated at 4:5\na.cpp: warnings: 1\n",
+    ),
+    (
+        "std::vector<int> v; std::vector<int> w; v.push_back(1); auto it = v.begin(); w.push_back(2); int x = *it;",
+        PASSED,
+    ),
+    (
+        "std::vector<int> v; std::vector<int> w; auto a = v.begin(); auto b = w.begin(); v.push_back(2147483647); int x = *a; int y = *b;",
+        "a.cpp:7:11: invalid iterator in *: a, invalidated at 6:5\na.cpp:8:11: end iterator in *: b\na.cpp: warnings: 2\n",
+    ),
+];
+
 #[test]
 fn reports(rt: HostRuntime) -> Result<(), Fail> {
-    let cases = [
-        (
-            "std::vector<int> v; v.push_back(1); auto it = v.begin(); int x = *it;",
-            PASSED,
-        ),
-        (
-            "std::vector<int> v; v.push_back(1); auto it = v.begin(); v.push_back(2); int x = *it;",
-            "a.cpp:6:11: invalid iterator in *: it, invalidated at 5:5\na.cpp: warnings: 1\n",
-        ),
-        // What was dereferenced is valid in each run that goes on.
-        (
-            "std::vector<int> v; v.push_back(1); auto it = v.begin(); v.push_back(2); int x = *it; int y = *it;",
-            "a.cpp:6:11: invalid iterator in *: it, invalidated at 5:5\na.cpp: warnings: 1\n",
-        ),
-        (
-            "std::vector<int> v; v.push_back(1); auto it = v.begin(); v.push_back(2); v.push_back(3); int x = *it;",
-            "a.cpp:7:11: invalid iterator in *: it, invalidated at 5:5, 6:5\na.cpp: warnings: 1\n",
-        ),
-        // An iterator from behind the growth is valid.
-        (
-            "std::vector<int> v; v.push_back(1); auto it = v.begin(); v.push_back(2); auto at = v.begin(); int x = *at; int y = *it;",
-            "a.cpp:8:11: invalid iterator in *: it, invalidated at 5:5\na.cpp: warnings: 1\n",
-        ),
-        // Two iterators are invalid, each by its own calls.
-        (
-            "std::vector<int> v; auto a = v.begin(); v.push_back(1); auto b = v.begin(); v.push_back(2); int x = *b; int y = *a;",
-            "a.cpp:7:11: invalid iterator in *: b, invalidated at 6:5\na.cpp:8:11: invalid iterator in *: a, invalidated at 4:5, 6:5\na.cpp: warnings: 2\n",
-        ),
-        (
-            "std::vector<int> v; auto it = v.begin(); int x = *it;",
-            "a.cpp:4:11: end iterator in *: it\na.cpp: warnings: 1\n",
-        ),
-        (
-            "std::vector<int> v; auto it = v.begin(); v.push_back(1); int x = *it;",
-            "a.cpp:5:11: invalid iterator in *: it, invalidated at 4:5\na.cpp: warnings: 1\n",
-        ),
-        (
-            "std::vector<int> v; std::vector<int> w; v.push_back(1); auto it = v.begin(); w.push_back(2); int x = *it;",
-            PASSED,
-        ),
-        (
-            "std::vector<int> v; std::vector<int> w; auto a = v.begin(); auto b = w.begin(); v.push_back(2147483647); int x = *a; int y = *b;",
-            "a.cpp:7:11: invalid iterator in *: a, invalidated at 6:5\na.cpp:8:11: end iterator in *: b\na.cpp: warnings: 2\n",
-        ),
-    ];
-    for (statements, answer) in cases {
+    for (statements, answer) in REPORTS {
         let text = main_of(rt.alloc(), statements)?;
         let ran = check(rt.alloc(), text.as_bytes())?;
         let status = if answer == PASSED {
@@ -228,76 +258,140 @@ fn reports(rt: HostRuntime) -> Result<(), Fail> {
     Ok(())
 }
 
+/// Statements of `main` that are refused, with the place and the reason.
+const OTHER_STATEMENTS: [(&str, &str, &str); 38] = [
+    ("v.clear();", "2:3", "not built"),
+    ("std::vector<int> v; v.clear();", "3:5", "not built"),
+    (
+        "std::vector<int> v; v.push_back(1); auto it = v.begin(); v.clear(); int x = *it;",
+        "5:5",
+        "not built",
+    ),
+    // used before it is declared
+    ("v.push_back(1); std::vector<int> v;", "2:3", "not built"),
+    (
+        "auto it = v.begin(); std::vector<int> v;",
+        "2:3",
+        "not built",
+    ),
+    (
+        "std::vector<int> v; int x = *it; auto it = v.begin();",
+        "3:3",
+        "not built",
+    ),
+    // declared twice
+    (
+        "std::vector<int> v; std::vector<int> v;",
+        "3:20",
+        "not built",
+    ),
+    (
+        "std::vector<int> v; auto v = v.begin();",
+        "3:8",
+        "not built",
+    ),
+    (
+        "std::vector<int> v; auto it = v.begin(); auto it = v.begin();",
+        "4:8",
+        "not built",
+    ),
+    (
+        "std::vector<int> v; auto it = v.begin(); int v = *it;",
+        "4:7",
+        "not built",
+    ),
+    (
+        "std::vector<int> v; auto it = v.begin(); int it = *it;",
+        "4:7",
+        "not built",
+    ),
+    // of the wrong kind
+    ("std::vector<int> v; int x = *v;", "3:3", "not built"),
+    (
+        "std::vector<int> v; auto it = v.begin(); int x = *v;",
+        "4:12",
+        "not built",
+    ),
+    (
+        "std::vector<int> v; auto it = v.begin(); it.push_back(1);",
+        "4:3",
+        "not built",
+    ),
+    (
+        "std::vector<int> v; auto it = v.begin(); auto at = it.begin();",
+        "4:13",
+        "not built",
+    ),
+    (
+        "std::vector<int> v; v.push_back(1); auto it = v.begin(); int x = *it; int y = *x;",
+        "6:12",
+        "not built",
+    ),
+    // of another form
+    ("std::list<int> v;", "2:3", "not built"),
+    ("std::vector<int> v; v.push_back();", "3:15", "not built"),
+    ("std::vector<int> v; v.push_back(v);", "3:15", "not built"),
+    (
+        "std::vector<int> v; int it = v.begin();",
+        "3:3",
+        "not built",
+    ),
+    (
+        "std::vector<int> v; auto it = v.end();",
+        "3:15",
+        "not built",
+    ),
+    (
+        "std::vector<int> v; auto it = v.begin(); auto x = *it;",
+        "4:12",
+        "not built",
+    ),
+    (
+        "std::vector<int> v; auto it = v.begin(); *it;",
+        "4:3",
+        "not built",
+    ),
+    (
+        "std::vector<int> v; { v.push_back(1); }",
+        "3:3",
+        "not built",
+    ),
+    ("if (1) return 0;", "2:3", "not built"),
+    // of none
+    ("std::vector<bool> v;", "2:15", "grammar"),
+    ("std::vector<int> v", "3:1", "grammar"),
+    ("std::vector<int> v; v.push_back(1; );", "3:16", "grammar"),
+    ("std::vector<int> v; v.push_back(1)", "4:1", "grammar"),
+    (
+        "std::vector<int> v; v.push_back(1); auto it;",
+        "4:10",
+        "grammar",
+    ),
+    (
+        "std::vector<int> v; auto it = v.begin(); int x = *;",
+        "4:12",
+        "grammar",
+    ),
+    ("double d;", "2:3", "grammar"),
+    (";", "2:3", "grammar"),
+    ("std::vector<int> v; ;", "3:3", "grammar"),
+    // of none, behind what is of another form
+    (
+        "v.clear(); std::vector<int> v; v.push_back(1;",
+        "4:16",
+        "grammar",
+    ),
+    ("std::vector<int> v; v.clear(); double d;", "4:3", "grammar"),
+    ("std::list<int> v; std::list<int> v;;", "4:3", "grammar"),
+    ("std::list<int> v = 3;", "2:22", "grammar"),
+];
+
 #[test]
 fn other_statements(rt: HostRuntime) -> Result<(), Fail> {
-    let cases = [
-        ("v.clear();", "2:3"),
-        ("std::vector<int> v; v.clear();", "3:5"),
-        (
-            "std::vector<int> v; v.push_back(1); auto it = v.begin(); v.clear(); int x = *it;",
-            "5:5",
-        ),
-        // used before it is declared
-        ("v.push_back(1); std::vector<int> v;", "2:3"),
-        ("auto it = v.begin(); std::vector<int> v;", "2:3"),
-        (
-            "std::vector<int> v; int x = *it; auto it = v.begin();",
-            "3:3",
-        ),
-        // declared twice
-        ("std::vector<int> v; std::vector<int> v;", "3:20"),
-        ("std::vector<int> v; auto v = v.begin();", "3:8"),
-        (
-            "std::vector<int> v; auto it = v.begin(); auto it = v.begin();",
-            "4:8",
-        ),
-        (
-            "std::vector<int> v; auto it = v.begin(); int v = *it;",
-            "4:7",
-        ),
-        (
-            "std::vector<int> v; auto it = v.begin(); int it = *it;",
-            "4:7",
-        ),
-        // of the wrong kind
-        ("std::vector<int> v; int x = *v;", "3:3"),
-        (
-            "std::vector<int> v; auto it = v.begin(); int x = *v;",
-            "4:12",
-        ),
-        (
-            "std::vector<int> v; auto it = v.begin(); it.push_back(1);",
-            "4:3",
-        ),
-        (
-            "std::vector<int> v; auto it = v.begin(); auto at = it.begin();",
-            "4:13",
-        ),
-        (
-            "std::vector<int> v; v.push_back(1); auto it = v.begin(); int x = *it; int y = *x;",
-            "6:12",
-        ),
-        // of another form
-        ("std::list<int> v;", "2:3"),
-        ("std::vector<bool> v;", "2:15"),
-        ("std::vector<int> v", "3:1"),
-        ("std::vector<int> v; v.push_back();", "3:15"),
-        ("std::vector<int> v; v.push_back(v);", "3:15"),
-        ("std::vector<int> v; v.push_back(1; );", "3:16"),
-        ("std::vector<int> v; int it = v.begin();", "3:3"),
-        ("std::vector<int> v; auto it = v.end();", "3:15"),
-        (
-            "std::vector<int> v; auto it = v.begin(); auto x = *it;",
-            "4:12",
-        ),
-        ("std::vector<int> v; auto it = v.begin(); *it;", "4:3"),
-        ("double d;", "2:3"),
-        (";", "2:3"),
-    ];
-    for (statements, place) in cases {
+    for (statements, place, why) in OTHER_STATEMENTS {
         let text = main_of(rt.alloc(), statements)?;
         let ran = check(rt.alloc(), text.as_bytes())?;
-        let line = answer_at(rt.alloc(), place)?;
+        let line = answer_at(rt.alloc(), place, why)?;
         assert_eq!(rt; ran.status, Status::Refused, "{statements}");
         assert_eq!(rt; ran.out.bytes(), line.as_bytes(), "{statements}");
     }
@@ -360,7 +454,7 @@ fn limits(rt: HostRuntime) -> Result<(), Fail> {
             ..HONEST
         };
         let ran = run(rt.alloc(), &["check", "a.cpp"], &outside)?;
-        let line = answer_at(rt.alloc(), place)?;
+        let line = answer_at(rt.alloc(), place, "not built")?;
         assert_eq!(rt;
             ran.out.bytes(),
             line.as_bytes(),
@@ -502,6 +596,11 @@ fn write_faults(rt: HostRuntime) -> Result<(), Fail> {
             "write {call}, room {room}"
         );
     }
+    Ok(())
+}
+
+#[test]
+fn cut_answers(rt: HostRuntime) -> Result<(), Fail> {
     // A report may be cut.
     let statements =
         "std::vector<int> v; v.push_back(1); auto it = v.begin(); v.push_back(2); int x = *it;";
