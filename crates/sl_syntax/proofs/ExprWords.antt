@@ -60,8 +60,18 @@ pub words-Member : (x : Box ExprCode Global) (s : Selector) (p : Place) (f : Ide
     → expr_words_of (e.Member x s p f) ≡ expr_words_of x.value ++ w.Mark (selector_mark s) ∷ w.Name f.name ∷ []
 words-Member x s p f = as_data (e.Member x s p f) _ (expr_of-Member x s p f) ∙ rw words_of-append refl
 
-pub ruleset expr_words = (words-Call, words-LibraryCall, words-Parentheses, words-Prefix, words-Binary, words-Postfix, words-Index,
-    words-MemberCall, words-Member, words_of-append)
+pub ruleset expr_words = (
+  words-Call,
+  words-LibraryCall,
+  words-Parentheses,
+  words-Prefix,
+  words-Binary,
+  words-Postfix,
+  words-Index,
+  words-MemberCall,
+  words-Member,
+  words_of-append,
+)
 
 rest_words : (xs : List ExprCode) → words_of (rest_written (exprs_of xs)) ≡ flat_map (λ y. w.Mark m.Comma ∷ expr_words_of y) xs
 rest_words [] = refl
