@@ -11,7 +11,7 @@ use Rattle.sl_syntax.specs.Depth.{declaration_height, stmt_height}
 use Rattle.sl_syntax.specs.Shaped.{IsCond, IsStmt, IsItem}
 use Rattle.sl_syntax.specs.Tree as t
 use Rattle.sl_syntax.specs.Tree.{Cond, Declaration, Stmt, Item}
-use Rattle.sl_syntax.specs.Written.{Written, written, cond_written, declaration_written, container_written, effect_written, stmt_written, item_written, from_place}
+use Rattle.sl_syntax.specs.Written.{Written, cond_written, declaration_written, container_written, effect_written, stmt_written, item_written, from_place}
 use Rattle.sl_syntax.specs.Written as v
 use Rattle.sl_grammar.specs.Effects.{effect}
 use Rattle.sl_grammar.specs.Statements.{is_else, is_item, declared, item_by, for_behind, for_by, effect_stmt, stmt_by}
@@ -19,7 +19,8 @@ use Rattle.sl_grammar.specs.Steps.{Reader, Tall, ◌>>=◌, pure, only, kind_at,
 use Rattle.sl_grammar.proofs.CompleteDeclarations.{reader_of, type-kind}
 use Rattle.sl_grammar.proofs.CompleteEffects.{EndsEffect, begins_effect, begins-effect, effect-begins, effect-some}
 use Rattle.sl_grammar.proofs.CompleteKinds.{expr-begins, scalar-kind}
-use Rattle.sl_grammar.proofs.CompleteSteps.{Spelled, split, at_word, from_word}
+use Rattle.sl_grammar.proofs.KindLaws.{not_mark}
+use Rattle.sl_grammar.proofs.Spelling.{Spelled, split, at_word, from_word}
 
 pub semicolon-ends : EndsEffect (k.Mark m.Semicolon)
 semicolon-ends = record { ends = record { stops = omega arith; not_call = refl }; no_read = refl; no_print = refl; no_assignment = λ room. refl }
@@ -28,14 +29,10 @@ pub parenthesis-ends : EndsEffect (k.Mark m.RightParenthesis)
 parenthesis-ends = record { ends = record { stops = omega arith; not_call = refl }; no_read = refl; no_print = refl; no_assignment = λ room. refl }
 
 pub effect-not_semicolon : (kind : Kind) → begins_effect kind ≡ true → is_mark m.Semicolon kind ≡ false
-effect-not_semicolon (k.Mark m.Semicolon) h = absurd (false≢true h)
-effect-not_semicolon (k.Mark _) h = refl
-effect-not_semicolon _ h = refl
+effect-not_semicolon kind h = not_mark begins_effect m.Semicolon kind refl h
 
 pub effect-not_parenthesis : (kind : Kind) → begins_effect kind ≡ true → is_mark m.RightParenthesis kind ≡ false
-effect-not_parenthesis (k.Mark m.RightParenthesis) h = absurd (false≢true h)
-effect-not_parenthesis (k.Mark _) h = refl
-effect-not_parenthesis _ h = refl
+effect-not_parenthesis kind h = not_mark begins_effect m.RightParenthesis kind refl h
 
 pub cond-begins : (c : Cond) (ts rest : List Token) → IsCond c → Spelled (cond_written c) ts rest → begins_effect (kind_at ts) ≡ true
 cond-begins (t.tests_read r) ts rest g s = at_word s (λ o us e a. rw e refl)
@@ -68,18 +65,10 @@ pub does-some : (e : _) → 1 ≤ length (effect_written e ++ v.mark m.Semicolon
 does-some e = rw length-append (omega (arith, effect-some e))
 
 pub stmt-begins : (x : Stmt) (ts rest : List Token) → IsStmt x → Spelled (stmt_written x) ts rest → begins_stmt (kind_at ts) ≡ true
-stmt-begins (t.block opens items closes) ts rest g s = at_word s (λ o us e a. rw e refl)
-stmt-begins (t.choice place c x) ts rest g s = at_word s (λ o us e a. rw e refl)
-stmt-begins (t.choice_else place c x y) ts rest g s = at_word s (λ o us e a. rw e refl)
-stmt-begins (t.while place c x) ts rest g s = at_word s (λ o us e a. rw e refl)
-stmt-begins (t.for place first c step x) ts rest g s = at_word s (λ o us e a. rw e refl)
-stmt-begins (t.range_for place auto x y body) ts rest g s = at_word s (λ o us e a. rw e refl)
-stmt-begins (t.break place) ts rest g s = at_word s (λ o us e a. rw e refl)
-stmt-begins (t.continue place) ts rest g s = at_word s (λ o us e a. rw e refl)
-stmt-begins (t.gives_back place x) ts rest g s = at_word s (λ o us e a. rw e refl)
 stmt-begins (t.does place e) ts rest g s =
     split (effect_written e) (from_word place (effect_written e ++ v.mark m.Semicolon ∷ []) (does-some e) s).0
     (λ mid a b. begins-stmt (kind_at ts) (effect-begins e ts mid g a))
+stmt-begins _ ts rest g s = at_word s (λ o us e a. rw e refl)
 
 -- the word begins an item
 abbrev pub begins_item : Kind → Bool
@@ -115,20 +104,11 @@ item-goes_on _ h = refl
 
 pub declaration-height_some : (d : Declaration) → 1 ≤ declaration_height d
 declaration-height_some (t.declares_scalar place s x y) = omega arith
-declaration-height_some (t.declares_auto place x y) = omega arith
-declaration-height_some (t.declares_container c x i) = omega arith
+declaration-height_some _ = omega arith
 
 pub stmt-height_some : (x : Stmt) → 1 ≤ stmt_height x
 stmt-height_some (t.block opens items closes) = omega arith
-stmt-height_some (t.choice place c x) = omega arith
-stmt-height_some (t.choice_else place c x y) = omega arith
-stmt-height_some (t.while place c x) = omega arith
-stmt-height_some (t.for place first c step x) = omega arith
-stmt-height_some (t.range_for place auto x y body) = omega arith
-stmt-height_some (t.break place) = omega arith
-stmt-height_some (t.continue place) = omega arith
-stmt-height_some (t.gives_back place x) = omega arith
-stmt-height_some (t.does place e) = omega arith
+stmt-height_some _ = omega arith
 
 -- an item has a word at least
 from-length : (place : Place) (xs : List Written) → length (from_place place xs) ≡ length xs
@@ -136,16 +116,8 @@ from-length place [] = refl
 from-length place (x ∷ xs) = refl
 
 stmt-some : (x : Stmt) → 1 ≤ length (stmt_written x)
-stmt-some (t.block opens items closes) = omega arith
-stmt-some (t.choice place c x) = omega arith
-stmt-some (t.choice_else place c x y) = omega arith
-stmt-some (t.while place c x) = omega arith
-stmt-some (t.for place first c step x) = omega arith
-stmt-some (t.range_for place auto x y body) = omega arith
-stmt-some (t.break place) = omega arith
-stmt-some (t.continue place) = omega arith
-stmt-some (t.gives_back place x) = omega arith
 stmt-some (t.does place e) = omega (arith, from-length place (effect_written e ++ v.mark m.Semicolon ∷ []), does-some e)
+stmt-some _ = omega arith
 
 declaration-some : (d : Declaration) → 1 ≤ length (declaration_written d)
 declaration-some (t.declares_scalar place s x None) = omega arith

@@ -1,5 +1,5 @@
 -- The words of a block are read as that block, where those of its statements are read as they are.
-use Rattle.std.proofs.Common.{◌≡◌, ℕ, ◌+◌, ◌-◌, ◌≤◌, max, true, false, List, [], ◌∷◌, ◌++◌, flat_map, Ok, refl, ap, subst, ◌∙◌, arith}
+use Rattle.std.proofs.Common.{◌≡◌, ℕ, ◌+◌, ◌-◌, ◌≤◌, true, false, List, [], ◌∷◌, flat_map, Ok, refl, sym, ap, ◌∙◌, arith}
 use Rattle.std.proofs.lemmas.Bool.{lt-ltb}
 use Rattle.sl_base.specs.declared.mark.Mark.TheVariants as m
 use Rattle.sl_base.specs.declared.place.Place.{Place}
@@ -9,13 +9,15 @@ use Rattle.sl_syntax.specs.Depth.{highest, stmt_height, item_height, items_heigh
 use Rattle.sl_syntax.specs.Shaped.{Each, ends_open, IsStmt, IsItem, AreItems}
 use Rattle.sl_syntax.specs.Tree as t
 use Rattle.sl_syntax.specs.Tree.{Stmt, Item, Items, items_from}
-use Rattle.sl_syntax.specs.Written.{Written, declaration_written, stmt_written, item_written, items_written}
+use Rattle.sl_syntax.specs.Written.{declaration_written, stmt_written, item_written, items_written}
 use Rattle.sl_grammar.specs.Statements.{is_else, is_item, item, braced}
 use Rattle.sl_grammar.specs.Steps.{Reader, Tall, kind_at, mark, all_behind}
 use Rattle.sl_grammar.proofs.CompleteBegins.{stmt-begins, item-begins, item-not_else, item-goes_on, item-some, declaration-height_some, declared-kind, stated-kind}
 use Rattle.sl_grammar.proofs.CompleteDeclarations.{declaration-complete}
 use Rattle.sl_grammar.proofs.CompleteLists.{zero-max}
-use Rattle.sl_grammar.proofs.CompleteSteps.{Spelled, split, at_word, plain_word, Turn, row, all-row}
+use Rattle.sl_grammar.proofs.CompleteSteps.{Turn, row, all-row}
+use Rattle.sl_grammar.proofs.Rows.{items-written, items-height}
+use Rattle.sl_grammar.proofs.Spelling.{Spelled, split, at_word, plain_word, respelled}
 
 -- statements that are at most so high are read as they are
 pub record ReadsStmts (room : ℕ) (reader : Reader (Tall Stmt)) : Type 0 where
@@ -33,12 +35,10 @@ from-list t.no_more = refl
 from-list (t.followed x xs) = ap (t.followed x) (from-list xs)
 
 written-list : (xs : Items) → items_written xs ≡ flat_map item_written (items_list xs)
-written-list t.no_more = refl
-written-list (t.followed x xs) = ap (λ (l : List Written). item_written x ++ l) (written-list xs)
+written-list xs = ap items_written (sym (from-list xs)) ∙ sym (items-written (items_list xs))
 
 highest-list : (xs : Items) → highest item_height (items_list xs) ≡ items_height xs
-highest-list t.no_more = refl
-highest-list (t.followed x xs) = ap (max (item_height x)) (highest-list xs)
+highest-list xs = sym (items-height (items_list xs)) ∙ ap items_height (from-list xs)
 
 module _ (inner : Reader (Tall Stmt)) (room : ℕ) (i : ReadsStmts room inner) where
   abbrev LowItem : Item → Type 0
@@ -77,7 +77,7 @@ module _ (inner : Reader (Tall Stmt)) (room : ℕ) (i : ReadsStmts room inner) w
       → Spelled (items_written xs) ts rest
       → all_behind is_item (item room inner) ([], 0) ts ≡ Ok ((items_list xs, items_height xs), rest)
   items-read xs ts rest a l f s =
-      let s' : Spelled (flat_map item_written (items_list xs)) ts rest = subst (λ (w : List Written). Spelled w ts rest) (written-list xs) s in
+      let s' : Spelled (flat_map item_written (items_list xs)) ts rest = respelled (written-list xs) s in
       let r = row is_item (item room inner) item_height item_written LowItem (λ kind. is_else kind ≡ false) item-turn item-fits item-some
       (items_list xs) ts rest (low-items xs a l) (rw f refl) (rw f refl) s' in
       all-row is_item (item room inner) item_height (items_list xs) [] 0 ts rest r ∙ rw (zero-max, highest-list) refl

@@ -9,10 +9,10 @@ use Rattle.sl_syntax.specs.declared.tree.declaration.ContainerType.{ContainerTyp
 use Rattle.sl_syntax.specs.declared.tree.function.Param.{Param}
 use Rattle.sl_syntax.specs.declared.tree.function.Param.TheVariants as r
 use Rattle.sl_syntax.specs.Depth.{list_height, highest, initializer_height, declaration_height, param_height}
-use Rattle.sl_syntax.specs.Shaped.{AreExprs, Each, IsInitializer, IsDeclaration}
+use Rattle.sl_syntax.specs.Shaped.{AreExprs, IsInitializer, IsDeclaration}
 use Rattle.sl_syntax.specs.Tree as t
-use Rattle.sl_syntax.specs.Tree.{Expr, Exprs, Initializer, Declaration}
-use Rattle.sl_syntax.specs.Written.{Written, is_map, list_written, elements_written, container_written, initializer_written, declaration_written, param_written, params_written}
+use Rattle.sl_syntax.specs.Tree.{Exprs, Initializer, Declaration}
+use Rattle.sl_syntax.specs.Written.{is_map, list_written, elements_written, container_written, initializer_written, declaration_written, param_written, params_written}
 use Rattle.sl_syntax.specs.Written as v
 use Rattle.sl_grammar.specs.Declarations.{int, elements_by, container_type, optional_value, scalar_declaration, auto_declaration, braces, constructed, initializer, container_declaration, scalar_param, container_param, const_param, param, comma_param, params}
 use Rattle.sl_grammar.specs.Expressions.{expr}
@@ -20,7 +20,9 @@ use Rattle.sl_grammar.specs.Steps.{Reader, Tall, kind_at, is_mark, mark, identif
 use Rattle.sl_grammar.proofs.CompleteExpressions.{whole-complete}
 use Rattle.sl_grammar.proofs.CompleteKinds.{scalar-kind, form-kind}
 use Rattle.sl_grammar.proofs.CompleteLists.{brace-close, list-reads, list_before-reads}
-use Rattle.sl_grammar.proofs.CompleteSteps.{Spelled, split, at_word, plain_word, Turn, row, all-row}
+use Rattle.sl_grammar.proofs.CompleteSteps.{Turn, row, all-row}
+use Rattle.sl_grammar.proofs.Rows.{Anything, each-anything, comma_param_written}
+use Rattle.sl_grammar.proofs.Spelling.{Spelled, split, at_word, plain_word}
 
 elements-read : (b : Bool) (ts rest : List Token) → Spelled (elements_written b) ts rest → elements_by b ts ≡ Ok (tt, rest)
 unfolding int mark
@@ -131,17 +133,7 @@ param-begins (r.Reference place s x) ts rest h = at_word h (λ o1 t1 e1 s1. rw (
 param-begins (r.Container c x) ts rest h = split (container_written c) h (λ mid a b. rw (type-kind c ts mid a) refl)
 param-begins (r.ConstContainer place c x) ts rest h = at_word h (λ o1 t1 e1 s1. rw e1 refl)
 
-abbrev behind_comma : Param → List Written
-behind_comma x = v.mark m.Comma ∷ param_written x
-
-abbrev Any : Param → Type 0
-Any x = ⊤
-
-each-any : (xs : List Param) → Each Any xs
-each-any [] = tt
-each-any (x ∷ xs) = (tt, each-any xs)
-
-param-turn : (x : Param) (ts mid : List Token) → Any x → ⊤ → Spelled (behind_comma x) ts mid → Turn (is_mark m.Comma) comma_param param_height x ts mid
+param-turn : (x : Param) (ts mid : List Token) → Anything x → ⊤ → Spelled (comma_param_written x) ts mid → Turn (is_mark m.Comma) comma_param param_height x ts mid
 unfolding mark
 param-turn x ts mid p f s = plain_word s (λ o place us e a. record { goes_on = rw e refl; reads = rw (e, param-reads x us mid a) refl })
 
@@ -152,7 +144,7 @@ unfolding params
 params-complete [] ts rest f s = let e : ts ≡ rest = s.spells in rw (e, f) refl
 params-complete (x ∷ xs) ts rest f s =
     split (param_written x) s (λ mid a b.
-    let r = row (is_mark m.Comma) comma_param param_height behind_comma Any (λ kind. ⊤) param-turn (λ y us vs p q. tt) (λ y. omega arith) xs mid rest
-    (each-any xs) tt (rw f refl) b in
+    let r = row (is_mark m.Comma) comma_param param_height comma_param_written Anything (λ kind. ⊤) param-turn (λ y us vs p q. tt) (λ y. omega arith) xs mid rest
+    (each-anything xs) tt (rw f refl) b in
     let others = all-row (is_mark m.Comma) comma_param param_height xs (x ∷ []) (param_height x) mid rest r in
     rw (param-begins x ts mid a, param-reads x ts mid a, others) refl)

@@ -15,14 +15,16 @@ use Rattle.sl_syntax.specs.Depth.{height, highest, out_height, effect_height, co
 use Rattle.sl_syntax.specs.Shaped.{IsExpr, Each, AreSome, IsRead, IsOut, IsEffect, IsCond}
 use Rattle.sl_syntax.specs.Tree as t
 use Rattle.sl_syntax.specs.Tree.{Expr, Out, Effect, Cond}
-use Rattle.sl_syntax.specs.Written.{Written, written, named, read_written, out_written, print_written, effect_written, cond_written, assignment_mark}
+use Rattle.sl_syntax.specs.Written.{written, read_written, out_written, print_written, effect_written, cond_written}
 use Rattle.sl_syntax.specs.Written as v
 use Rattle.sl_grammar.specs.Effects.{shifted_name, read, is_input, out_by, shifted_out, print, assignment_of, assigned, effect_by, effect, begins_no_read, no_read, cond_by, cond}
 use Rattle.sl_grammar.specs.Expressions.{expr}
 use Rattle.sl_grammar.specs.Steps.{and_then, ◌>>=◌, pure, kind_at, is_mark, mark, identifier, all_behind}
 use Rattle.sl_grammar.proofs.CompleteExpressions.{expr-complete, whole-complete}
 use Rattle.sl_grammar.proofs.CompleteKinds.{Ends, assignment-mark, assignment-ends, begins_expr, expr-begins, expr-some}
-use Rattle.sl_grammar.proofs.CompleteSteps.{Spelled, split, at_word, plain_word, Turn, row, all-row}
+use Rattle.sl_grammar.proofs.CompleteSteps.{Turn, row, all-row}
+use Rattle.sl_grammar.proofs.Rows.{Anything, each-anything, name_written, flat, shifted_written}
+use Rattle.sl_grammar.proofs.Spelling.{Spelled, split, at_word, plain_word}
 
 -- what follows an effect or a condition
 pub record EndsEffect (kind : Kind) : Type 0 where
@@ -31,21 +33,8 @@ pub record EndsEffect (kind : Kind) : Type 0 where
   pub no_print : is_mark m.ShiftLeft kind ≡ false
   pub no_assignment : (room : ℕ) → assignment_of room kind ≡ None
 
-abbrev shift_name : Identifier → List Written
-shift_name x = v.mark m.ShiftRight ∷ named x ∷ []
-
-abbrev Any : {A : Type 0} → A → Type 0
-Any x = ⊤
-
-each-any : {A : Type 0} (xs : List A) → Each Any xs
-each-any [] = tt
-each-any (x ∷ xs) = (tt, each-any xs)
-
-abbrev no_height : Identifier → ℕ
-no_height x = 0
-
-name-turn : (x : Identifier) (ts mid : List Token) → Any x → ⊤ → Spelled (shift_name x) ts mid
-    → Turn (is_mark m.ShiftRight) shifted_name no_height x ts mid
+name-turn : (x : Identifier) (ts mid : List Token) → Anything x → ⊤ → Spelled (name_written x) ts mid
+    → Turn (is_mark m.ShiftRight) shifted_name flat x ts mid
 unfolding shifted_name mark identifier
 name-turn x ts mid p f s =
     plain_word s (λ o place us e a. at_word a (λ o2 vs e2 b.
@@ -53,11 +42,12 @@ name-turn x ts mid p f s =
     record { goes_on = rw e refl; reads = rw (e, e2, e3) refl }))
 
 names-row : (xs : List Identifier) (x : Identifier) (ts rest : List Token) → is_mark m.ShiftRight (kind_at rest) ≡ false
-    → Spelled (flat_map shift_name xs) ts rest
-    → all_behind (is_mark m.ShiftRight) shifted_name (x ∷ [], 0) ts ≡ Ok ((x ∷ xs, max 0 (highest no_height xs)), rest)
+    → Spelled (flat_map name_written xs) ts rest
+    → all_behind (is_mark m.ShiftRight) shifted_name (x ∷ [], 0) ts ≡ Ok ((x ∷ xs, max 0 (highest flat xs)), rest)
 names-row xs x ts rest e s =
-    all-row (is_mark m.ShiftRight) shifted_name no_height xs (x ∷ []) 0 ts rest
-    (row (is_mark m.ShiftRight) shifted_name no_height shift_name Any (λ k. ⊤) name-turn (λ x ts mid p s. tt) (λ x. omega arith) xs ts rest (each-any xs) tt e s)
+    all-row (is_mark m.ShiftRight) shifted_name flat xs (x ∷ []) 0 ts rest
+    (row (is_mark m.ShiftRight) shifted_name flat name_written Anything (λ k. ⊤) name-turn (λ x ts mid p s. tt) (λ x. omega arith)
+    xs ts rest (each-anything xs) tt e s)
 
 no-input : (kind : Kind) → begins_expr kind ≡ true → is_input kind ≡ false
 no-input k.Input h = absurd (false≢true h)
@@ -69,7 +59,7 @@ and-false false = refl
 
 module _ (room : ℕ) where
   read-names : (place : Place) (xs : List Identifier) (ts rest : List Token) → 0 < room → AreSome xs → is_mark m.ShiftRight (kind_at rest) ≡ false
-      → Spelled (v.at place (w.Lib (codes "cin")) ∷ flat_map shift_name xs) ts rest
+      → Spelled (v.at place (w.Lib (codes "cin")) ∷ flat_map name_written xs) ts rest
       → read room ts ≡ Ok ((record { place = place; variables = xs }, 1), rest)
   unfolding read shifted_name mark identifier
   read-names place [] ts rest l a e s = absurd (omega arith)
@@ -88,9 +78,6 @@ module _ (room : ℕ) where
   out-kind k.EndLine h = absurd (false≢true h)
   out-kind _ h = refl
 
-  abbrev shift_out : Out → List Written
-  shift_out x = v.mark m.ShiftLeft ∷ out_written x
-
   abbrev LowOut : Out → Type 0
   LowOut x = IsOut x × (out_height x < room)
 
@@ -103,23 +90,23 @@ module _ (room : ℕ) where
     (expr-complete room).reads x 5 ts rest p.0.1 p.1 p.0.0 f s,
   ) refl
 
-  shift-reads : (x : Out) (ts rest : List Token) → LowOut x → Ends 5 (kind_at rest) → Spelled (shift_out x) ts rest
+  shift-reads : (x : Out) (ts rest : List Token) → LowOut x → Ends 5 (kind_at rest) → Spelled (shifted_written x) ts rest
       → shifted_out room ts ≡ Ok ((x, out_height x), rest)
   unfolding shifted_out mark
   shift-reads x ts rest p f s = plain_word s (λ o place us e a. rw e (out-reads x us rest p f a))
 
-  out-turn : (x : Out) (ts mid : List Token) → LowOut x → Ends 5 (kind_at mid) → Spelled (shift_out x) ts mid
+  out-turn : (x : Out) (ts mid : List Token) → LowOut x → Ends 5 (kind_at mid) → Spelled (shifted_written x) ts mid
       → Turn (is_mark m.ShiftLeft) (shifted_out room) out_height x ts mid
   out-turn x ts mid p f s = record { goes_on = plain_word s (λ o place us e a. rw e refl); reads = shift-reads x ts mid p f s }
 
-  out-ends : (x : Out) (ts mid : List Token) → LowOut x → Spelled (shift_out x) ts mid → Ends 5 (kind_at ts)
+  out-ends : (x : Out) (ts mid : List Token) → LowOut x → Spelled (shifted_written x) ts mid → Ends 5 (kind_at ts)
   out-ends x ts mid p s = plain_word s (λ o place us e a. rw e (record { stops = omega arith; not_call = refl }))
 
   low-outs : (xs : List Out) → Each IsOut xs → highest out_height xs < room → Each LowOut xs
   low-outs [] a l = tt
   low-outs (x ∷ xs) a l = ((a.0, omega arith), low-outs xs a.1 (omega arith))
 
-  outs-ends : (xs : List Out) (ts rest : List Token) → Ends 5 (kind_at rest) → Spelled (flat_map shift_out xs) ts rest → Ends 5 (kind_at ts)
+  outs-ends : (xs : List Out) (ts rest : List Token) → Ends 5 (kind_at rest) → Spelled (flat_map shifted_written xs) ts rest → Ends 5 (kind_at ts)
   outs-ends [] ts rest f s = subst (λ (u : List Token). Ends 5 (kind_at u)) (sym s.spells) f
   outs-ends (x ∷ xs) ts rest f s = plain_word s (λ o place us e a. rw e (record { stops = omega arith; not_call = refl }))
 
@@ -130,11 +117,11 @@ module _ (room : ℕ) where
   print-reads place [] ts rest n a l f s = absurd (omega arith)
   print-reads place (x ∷ xs) ts rest n a l f s =
       at_word s (λ o us e b.
-      split (shift_out x) b (λ mid c d.
+      split (shifted_written x) b (λ mid c d.
       let ends : Ends 5 (kind_at rest) = record { stops = omega (arith, f.ends.stops); not_call = f.ends.not_call } in
       let low : Each LowOut (x ∷ xs) = low-outs (x ∷ xs) a l in
       let first = shift-reads x us mid low.0 (outs-ends xs mid rest ends d) c in
-      let r = row (is_mark m.ShiftLeft) (shifted_out room) out_height shift_out LowOut (Ends 5) out-turn out-ends
+      let r = row (is_mark m.ShiftLeft) (shifted_out room) out_height shifted_written LowOut (Ends 5) out-turn out-ends
       (λ y. omega arith) xs mid rest low.1 ends f.no_print d in
       let others = all-row (is_mark m.ShiftLeft) (shifted_out room) out_height xs (x ∷ []) (out_height x) mid rest r in
       rw (e, lt-ltb 0 room (omega arith), first, others) refl))
@@ -170,47 +157,23 @@ module _ (room : ℕ) where
         (whole-complete room).reads y us rest g.1 (omega arith) f.ends c,
       ) refl))
 
-  -- no expression begins with `(std::cin`
-  parenthesis-no_read : (r : Expr) (ts rest : List Token) → IsExpr r → Spelled (written r) ts rest
-      → is_mark m.LeftParenthesis (kind_at ts) && is_input (kind_at (drop 1 ts)) ≡ false
-  parenthesis-no_read (t.number place n) ts rest g h = at_word h (λ o us e _. rw e refl)
-  parenthesis-no_read (t.truth place true) ts rest g h = at_word h (λ o us e _. rw e refl)
-  parenthesis-no_read (t.truth place false) ts rest g h = at_word h (λ o us e _. rw e refl)
-  parenthesis-no_read (t.name x) ts rest g h = at_word h (λ o us e _. rw e refl)
-  parenthesis-no_read (t.call f xs) ts rest g h = at_word h (λ o us e _. rw e refl)
-  parenthesis-no_read (t.library_call f xs) ts rest g h = at_word h (λ o us e _. rw (e, g.0) refl)
-  parenthesis-no_read (t.parentheses place x) ts rest g h = at_word h (λ o us e d. split (written x) d
-      (λ mid p q. rw e (no-input (kind_at us) (expr-begins x us mid g p))))
-  parenthesis-no_read (t.prefix p.Not place x) ts rest g h = at_word h (λ o us e _. rw e refl)
-  parenthesis-no_read (t.prefix p.Negate place x) ts rest g h = at_word h (λ o us e _. rw e refl)
-  parenthesis-no_read (t.prefix p.Dereference place x) ts rest g h = at_word h (λ o us e _. rw e refl)
-  parenthesis-no_read (t.prefix p.Increment place x) ts rest g h = at_word h (λ o us e _. rw e refl)
-  parenthesis-no_read (t.prefix p.Decrement place x) ts rest g h = at_word h (λ o us e _. rw e refl)
-  parenthesis-no_read (t.binary x op place y) ts rest g h = split (written x) h (λ mid p q. parenthesis-no_read x ts mid g.2 p)
-  parenthesis-no_read (t.postfix x op place) ts rest g h = split (written x) h (λ mid p q. parenthesis-no_read x ts mid g.1 p)
-  parenthesis-no_read (t.index x place y) ts rest g h = split (written x) h (λ mid p q. parenthesis-no_read x ts mid g.1 p)
-  parenthesis-no_read (t.member_call x f xs) ts rest g h = split (written x) h (λ mid p q. parenthesis-no_read x ts mid g.1 p)
-  parenthesis-no_read (t.member x s place f) ts rest g h = split (written x) h (λ mid p q. parenthesis-no_read x ts mid g.1 p)
-
-  -- nor with `!(std::cin`
-  not-no_read : (r : Expr) (ts rest : List Token) → IsExpr r → Spelled (written r) ts rest → begins_no_read room ts ≡ false
-  not-no_read (t.number place n) ts rest g h = at_word h (λ o us e _. rw e refl)
-  not-no_read (t.truth place true) ts rest g h = at_word h (λ o us e _. rw e refl)
-  not-no_read (t.truth place false) ts rest g h = at_word h (λ o us e _. rw e refl)
-  not-no_read (t.name x) ts rest g h = at_word h (λ o us e _. rw e refl)
-  not-no_read (t.call f xs) ts rest g h = at_word h (λ o us e _. rw e refl)
-  not-no_read (t.library_call f xs) ts rest g h = at_word h (λ o us e _. rw (e, g.0) refl)
-  not-no_read (t.parentheses place x) ts rest g h = at_word h (λ o us e _. rw e refl)
-  not-no_read (t.prefix p.Not place x) ts rest g h = at_word h (λ o us e d. rw e (parenthesis-no_read x us rest g.1 d))
-  not-no_read (t.prefix p.Negate place x) ts rest g h = at_word h (λ o us e _. rw e refl)
-  not-no_read (t.prefix p.Dereference place x) ts rest g h = at_word h (λ o us e _. rw e refl)
-  not-no_read (t.prefix p.Increment place x) ts rest g h = at_word h (λ o us e _. rw e refl)
-  not-no_read (t.prefix p.Decrement place x) ts rest g h = at_word h (λ o us e _. rw e refl)
-  not-no_read (t.binary x op place y) ts rest g h = split (written x) h (λ mid p q. not-no_read x ts mid g.2 p)
-  not-no_read (t.postfix x op place) ts rest g h = split (written x) h (λ mid p q. not-no_read x ts mid g.1 p)
-  not-no_read (t.index x place y) ts rest g h = split (written x) h (λ mid p q. not-no_read x ts mid g.1 p)
-  not-no_read (t.member_call x f xs) ts rest g h = split (written x) h (λ mid p q. not-no_read x ts mid g.1 p)
-  not-no_read (t.member x s place f) ts rest g h = split (written x) h (λ mid p q. not-no_read x ts mid g.1 p)
+  -- no expression begins with `(std::cin`, nor with `!(std::cin`
+  begins-none : (r : Expr) (ts rest : List Token) → IsExpr r → Spelled (written r) ts rest
+      → (is_mark m.LeftParenthesis (kind_at ts) && is_input (kind_at (drop 1 ts)) ≡ false) × (begins_no_read room ts ≡ false)
+  begins-none (t.truth place true) ts rest g h = at_word h (λ o us e _. rw e (refl, refl))
+  begins-none (t.truth place false) ts rest g h = at_word h (λ o us e _. rw e (refl, refl))
+  begins-none (t.library_call f xs) ts rest g h = at_word h (λ o us e _. rw (e, g.0) (refl, refl))
+  begins-none (t.parentheses place x) ts rest g h = at_word h (λ o us e d. split (written x) d
+      (λ mid p q. rw e (no-input (kind_at us) (expr-begins x us mid g p), refl)))
+  begins-none (t.prefix p.Not place x) ts rest g h = at_word h (λ o us e d. rw e (refl, (begins-none x us rest g.1 d).0))
+  begins-none (t.prefix p.Negate place x) ts rest g h = at_word h (λ o us e _. rw e (refl, refl))
+  begins-none (t.prefix _ place x) ts rest g h = at_word h (λ o us e _. rw e (refl, refl))
+  begins-none (t.binary x op place y) ts rest g h = split (written x) h (λ mid p q. begins-none x ts mid g.2 p)
+  begins-none (t.postfix x op place) ts rest g h = split (written x) h (λ mid p q. begins-none x ts mid g.1 p)
+  begins-none (t.index x place y) ts rest g h = split (written x) h (λ mid p q. begins-none x ts mid g.1 p)
+  begins-none (t.member_call x f xs) ts rest g h = split (written x) h (λ mid p q. begins-none x ts mid g.1 p)
+  begins-none (t.member x s place f) ts rest g h = split (written x) h (λ mid p q. begins-none x ts mid g.1 p)
+  begins-none _ ts rest g h = at_word h (λ o us e _. rw e (refl, refl))
 
   cond-kind : (kind : Kind) (ts : List Token) → begins_expr kind ≡ true → begins_no_read room ts ≡ false
       → cond_by room kind ts ≡ and_then (expr (room + 1) 1 ts) (λ x. pure (t.tests x.0, x.1))
@@ -235,7 +198,7 @@ module _ (room : ℕ) where
       rw (e, e2, input, lt-ltb 1 room (omega arith), inside, e3, e4) refl))))
   cond-complete (t.tests x) ts rest g l f s =
       rw (
-        cond-kind (kind_at ts) ts (expr-begins x ts rest g s) (not-no_read x ts rest g s),
+        cond-kind (kind_at ts) ts (expr-begins x ts rest g s) (begins-none x ts rest g s).1,
         (whole-complete (room + 1)).reads x ts rest g (omega arith) f.ends s,
       ) refl
 

@@ -18,28 +18,18 @@ use Rattle.sl_syntax.specs.Kinds.{kind_of}
 use Rattle.sl_syntax.specs.Shaped.{level, binary_level, IsExpr, AreExprs}
 use Rattle.sl_syntax.specs.Tree as t
 use Rattle.sl_syntax.specs.Tree.{Expr, Exprs}
-use Rattle.sl_syntax.specs.Written.{Written, written, list_written, named, binary_mark, prefix_mark, postfix_mark, selector_mark}
+use Rattle.sl_syntax.specs.Written.{written, list_written, named, binary_mark, prefix_mark, postfix_mark}
 use Rattle.sl_syntax.specs.Written as v
 use Rattle.sl_grammar.specs.Expressions as x
 use Rattle.sl_grammar.specs.Expressions.{goes_on, arguments, library_call, parentheses, prefixed, operand_by, operand, indexed, dotted, pointed, piece, combined, operation, climb, from_operand, expr}
 use Rattle.sl_grammar.specs.Steps.{Reader, Tall, kind_at, is_mark, mark, identifier, library}
 use Rattle.sl_grammar.proofs.CompleteKinds.{Ends, truth-kind, infix-mark, binary-level, binary-level_some, binary-not_call, sign-level}
 use Rattle.sl_grammar.proofs.CompleteLists.{ReadsWhole, parenthesis-close, list_before-reads}
-use Rattle.sl_grammar.proofs.CompleteSteps.{token, Spelled, split, at_word, plain_word}
+use Rattle.sl_grammar.proofs.Spelling.{token, Spelled, split, at_word, plain_word}
 
 pub level-some : (r : Expr) → 1 ≤ level r
 level-some (t.binary x op place y) = binary-level_some op
-level-some (t.number place n) = omega arith
-level-some (t.truth place v) = omega arith
-level-some (t.name x) = omega arith
-level-some (t.call f xs) = omega arith
-level-some (t.library_call f xs) = omega arith
-level-some (t.parentheses place x) = omega arith
-level-some (t.prefix op place x) = omega arith
-level-some (t.postfix x op place) = omega arith
-level-some (t.index x place y) = omega arith
-level-some (t.member_call x f xs) = omega arith
-level-some (t.member x s place f) = omega arith
+level-some _ = omega arith
 
 -- expressions that are less high than this, and belong to the rule, are read as they are
 pub record ReadsBelow (bound : ℕ) (reader : ℕ → Reader (Tall Expr)) : Type 0 where
@@ -121,10 +111,7 @@ module _ (inner smaller : ℕ → Reader (Tall Expr)) (room : ℕ) where
 
   prefix-kind : (op : PrefixOperator) → operand_by inner smaller room (k.Mark (prefix_mark op)) ≡ prefixed inner smaller room op
   prefix-kind p.Not = refl
-  prefix-kind p.Negate = refl
-  prefix-kind p.Dereference = refl
-  prefix-kind p.Increment = refl
-  prefix-kind p.Decrement = refl
+  prefix-kind _ = refl
 
   prefix-reads : (op : PrefixOperator) (place : Place) (o : ℕ) (x : Tall Expr) (us rest : List Token) → 0 < room → inner 7 us ≡ Ok (x, rest)
       → operand inner smaller room (token (w.Mark (prefix_mark op)) o place ∷ us) ≡ Ok ((t.prefix op place x.0, x.1 + 1), rest)
@@ -185,7 +172,8 @@ module _ (inner smaller : ℕ → Reader (Tall Expr)) (room : ℕ) where
         plain_word d (λ o2 place2 vs e2 f.
         let e3 : vs ≡ rest = f.spells in
         let list = list_before-reads (inner 1) (smaller 1) (room - 1) room (reads-whole room inner i) (reads-whole (room - 1) smaller j) (omega arith)
-        m.RightParenthesis xs us mid parenthesis-close a (omega arith) (rw e2 (record { is = refl; ends = record { stops = omega arith; not_call = refl }; no_comma = refl })) c in
+        m.RightParenthesis xs us mid parenthesis-close a (omega arith)
+        (rw e2 (record { is = refl; ends = record { stops = omega arith; not_call = refl }; no_comma = refl })) c in
         rw (e, list, e2, e3) refl)))
 
     arrives : (r : Expr) (least : ℕ) (ts rest : List Token) → IsExpr r → height r ≤ room → least ≤ level r → goes_on (kind_at rest) ≤ level r

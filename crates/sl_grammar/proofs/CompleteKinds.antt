@@ -24,7 +24,7 @@ use Rattle.sl_syntax.specs.Written.{binary_mark, prefix_mark, assignment_mark, t
 use Rattle.sl_grammar.specs.Effects.{assignment_of}
 use Rattle.sl_grammar.specs.Expressions.{infix_of, goes_on}
 use Rattle.sl_grammar.specs.Steps.{kind_at, is_mark}
-use Rattle.sl_grammar.proofs.CompleteSteps.{Spelled, split, at_word}
+use Rattle.sl_grammar.proofs.Spelling.{Spelled, split, at_word}
 
 pub truth-kind : (v : Bool) → kind_of (truth_word v) ≡ k.Truth v
 truth-kind true = refl
@@ -32,69 +32,37 @@ truth-kind false = refl
 
 pub scalar-kind : (s : Scalar) → kind_of (scalar_word s) ≡ k.Scalar s
 scalar-kind c.Int = refl
-scalar-kind c.Bool = refl
-scalar-kind c.Size = refl
-scalar-kind c.Diff = refl
+scalar-kind _ = refl
 
 pub form-kind : (x : Form) → kind_of (form_word x) ≡ k.Container x
 form-kind f.Vector = refl
-form-kind f.Deque = refl
-form-kind f.List = refl
-form-kind f.Set = refl
-form-kind f.Map = refl
-form-kind f.HashSet = refl
-form-kind f.HashMap = refl
+form-kind _ = refl
 
 pub infix-mark : (op : BinaryOperator) → infix_of (k.Mark (binary_mark op)) ≡ Some op
 infix-mark b.Or = refl
-infix-mark b.And = refl
 infix-mark (b.Comparison l.Equal) = refl
-infix-mark (b.Comparison l.NotEqual) = refl
-infix-mark (b.Comparison l.Less) = refl
-infix-mark (b.Comparison l.LessEqual) = refl
-infix-mark (b.Comparison l.Greater) = refl
-infix-mark (b.Comparison l.GreaterEqual) = refl
 infix-mark (b.Arithmetic a.Add) = refl
-infix-mark (b.Arithmetic a.Subtract) = refl
-infix-mark (b.Arithmetic a.Multiply) = refl
-infix-mark (b.Arithmetic a.Divide) = refl
-infix-mark (b.Arithmetic a.Remainder) = refl
+infix-mark _ = refl
 
 pub binary-level : (op : BinaryOperator) → goes_on (k.Mark (binary_mark op)) ≡ binary_level op
 binary-level op = rw infix-mark refl
 
 pub binary-level_some : (op : BinaryOperator) → 1 ≤ binary_level op
 binary-level_some b.Or = omega arith
-binary-level_some b.And = omega arith
 binary-level_some (b.Comparison l.Equal) = omega arith
-binary-level_some (b.Comparison l.NotEqual) = omega arith
-binary-level_some (b.Comparison _) = omega arith
 binary-level_some (b.Arithmetic a.Add) = omega arith
-binary-level_some (b.Arithmetic a.Subtract) = omega arith
-binary-level_some (b.Arithmetic _) = omega arith
+binary-level_some _ = omega arith
 
 pub binary-not_call : (op : BinaryOperator) → is_mark m.LeftParenthesis (k.Mark (binary_mark op)) ≡ false
 binary-not_call b.Or = refl
-binary-not_call b.And = refl
 binary-not_call (b.Comparison l.Equal) = refl
-binary-not_call (b.Comparison l.NotEqual) = refl
-binary-not_call (b.Comparison l.Less) = refl
-binary-not_call (b.Comparison l.LessEqual) = refl
-binary-not_call (b.Comparison l.Greater) = refl
-binary-not_call (b.Comparison l.GreaterEqual) = refl
 binary-not_call (b.Arithmetic a.Add) = refl
-binary-not_call (b.Arithmetic a.Subtract) = refl
-binary-not_call (b.Arithmetic a.Multiply) = refl
-binary-not_call (b.Arithmetic a.Divide) = refl
-binary-not_call (b.Arithmetic a.Remainder) = refl
+binary-not_call _ = refl
 
 pub assignment-mark : (room : ℕ) (op : Assignment) → assignment_of room (k.Mark (assignment_mark op)) ≡ Some op
 assignment-mark room g.Set = refl
 assignment-mark room (g.Update a.Add) = refl
-assignment-mark room (g.Update a.Subtract) = refl
-assignment-mark room (g.Update a.Multiply) = refl
-assignment-mark room (g.Update a.Divide) = refl
-assignment-mark room (g.Update a.Remainder) = refl
+assignment-mark room _ = refl
 
 -- What follows an expression, after which it goes on by no operator that binds so tightly, and not as a call.
 pub record Ends (least : ℕ) (kind : Kind) : Type 0 where
@@ -104,10 +72,7 @@ pub record Ends (least : ℕ) (kind : Kind) : Type 0 where
 pub assignment-ends : (op : Assignment) → Ends 1 (k.Mark (assignment_mark op))
 assignment-ends g.Set = record { stops = omega arith; not_call = refl }
 assignment-ends (g.Update a.Add) = record { stops = omega arith; not_call = refl }
-assignment-ends (g.Update a.Subtract) = record { stops = omega arith; not_call = refl }
-assignment-ends (g.Update a.Multiply) = record { stops = omega arith; not_call = refl }
-assignment-ends (g.Update a.Divide) = record { stops = omega arith; not_call = refl }
-assignment-ends (g.Update a.Remainder) = record { stops = omega arith; not_call = refl }
+assignment-ends _ = record { stops = omega arith; not_call = refl }
 
 -- no word binds exactly as an operator before an operand does
 pub sign-level : (kind : Kind) → goes_on kind ≤ 7 → goes_on kind < 7
@@ -135,10 +100,7 @@ begins_expr _ = false
 
 begins-prefix : (op : PrefixOperator) → begins_expr (k.Mark (prefix_mark op)) ≡ true
 begins-prefix p.Not = refl
-begins-prefix p.Negate = refl
-begins-prefix p.Dereference = refl
-begins-prefix p.Increment = refl
-begins-prefix p.Decrement = refl
+begins-prefix _ = refl
 
 pub expr-begins : (r : Expr) (ts rest : List Token) → IsExpr r → Spelled (written r) ts rest → begins_expr (kind_at ts) ≡ true
 expr-begins (t.number place n) ts rest g h = at_word h (λ o us e _. rw e refl)
@@ -156,15 +118,9 @@ expr-begins (t.member x s place f) ts rest g h = split (written x) h (λ mid p q
 
 -- an expression has a word at least
 pub expr-some : (r : Expr) → 1 ≤ length (written r)
-expr-some (t.number place n) = omega arith
-expr-some (t.truth place v) = omega arith
-expr-some (t.name x) = omega arith
-expr-some (t.call f xs) = omega arith
-expr-some (t.library_call f xs) = omega arith
-expr-some (t.parentheses place x) = omega arith
-expr-some (t.prefix op place x) = omega arith
 expr-some (t.binary x op place y) = rw length-append (omega (arith, expr-some x))
 expr-some (t.postfix x op place) = rw length-append (omega (arith, expr-some x))
 expr-some (t.index x place y) = rw length-append (omega (arith, expr-some x))
 expr-some (t.member_call x f xs) = rw length-append (omega (arith, expr-some x))
 expr-some (t.member x s place f) = rw length-append (omega (arith, expr-some x))
+expr-some _ = omega arith

@@ -1,21 +1,22 @@
 -- The words of a list of expressions are read as that list.
-use Rattle.std.proofs.Common.{◌≡◌, ℕ, ◌<◌, ◌≤◌, max, true, false, List, [], ◌∷◌, ◌++◌, flat_map, Ok, refl, ap, subst, ◌∙◌, arith}
-use Rattle.std.proofs.lemmas.Bool.{lt-ltb, false≢true}
+use Rattle.std.proofs.Common.{◌≡◌, ℕ, ◌<◌, ◌≤◌, max, true, false, List, [], ◌∷◌, flat_map, Ok, refl, sym, ap, ◌∙◌, arith}
+use Rattle.std.proofs.lemmas.Bool.{lt-ltb}
 use Rattle.sl_base.specs.declared.mark.Mark.{Mark}
 use Rattle.sl_base.specs.declared.mark.Mark.TheVariants as m
 use Rattle.sl_base.specs.declared.token.Token.{Token}
 use Rattle.sl_syntax.specs.declared.kind.Kind.{Kind}
-use Rattle.sl_syntax.specs.declared.kind.Kind.TheVariants as k
 use Rattle.sl_syntax.specs.Depth.{height, list_height, rest_height, highest}
 use Rattle.sl_syntax.specs.Shaped.{IsExpr, AreExprs, Each}
 use Rattle.sl_syntax.specs.Tree as t
 use Rattle.sl_syntax.specs.Tree.{Expr, Exprs, exprs_from}
-use Rattle.sl_syntax.specs.Written.{Written, written, list_written, rest_written}
-use Rattle.sl_syntax.specs.Written as v
+use Rattle.sl_syntax.specs.Written.{written, list_written, rest_written}
 use Rattle.sl_grammar.specs.Expressions.{comma_expr, list_behind, list, list_before}
 use Rattle.sl_grammar.specs.Steps.{Reader, Tall, kind_at, is_mark, all_behind, mark}
 use Rattle.sl_grammar.proofs.CompleteKinds.{Ends, begins_expr, expr-begins}
-use Rattle.sl_grammar.proofs.CompleteSteps.{Spelled, split, plain_word, Turn, row, all-row}
+use Rattle.sl_grammar.proofs.CompleteSteps.{Turn, row, all-row}
+use Rattle.sl_grammar.proofs.KindLaws.{not_mark}
+use Rattle.sl_grammar.proofs.Rows.{comma_expr_written, rest-written, rest-height}
+use Rattle.sl_grammar.proofs.Spelling.{Spelled, split, plain_word, respelled}
 
 -- a whole expression that is less high than this is read as it is
 pub record ReadsWhole (bound : ℕ) (reader : Reader (Tall Expr)) : Type 0 where
@@ -32,29 +33,14 @@ pub record Closes (close : Mark) (kind : Kind) : Type 0 where
 pub record IsClose (close : Mark) : Type 0 where
   pub begins : (kind : Kind) → begins_expr kind ≡ true → is_mark close kind ≡ false
 
-parenthesis : (kind : Kind) → begins_expr kind ≡ true → is_mark m.RightParenthesis kind ≡ false
-parenthesis (k.Mark m.RightParenthesis) h = absurd (false≢true h)
-parenthesis (k.Mark _) h = refl
-parenthesis _ h = refl
-
-brace : (kind : Kind) → begins_expr kind ≡ true → is_mark m.RightBrace kind ≡ false
-brace (k.Mark m.RightBrace) h = absurd (false≢true h)
-brace (k.Mark _) h = refl
-brace _ h = refl
-
-semicolon : (kind : Kind) → begins_expr kind ≡ true → is_mark m.Semicolon kind ≡ false
-semicolon (k.Mark m.Semicolon) h = absurd (false≢true h)
-semicolon (k.Mark _) h = refl
-semicolon _ h = refl
-
 pub parenthesis-close : IsClose m.RightParenthesis
-parenthesis-close = record { begins = parenthesis }
+parenthesis-close = record { begins = λ kind h. not_mark begins_expr m.RightParenthesis kind refl h }
 
 pub brace-close : IsClose m.RightBrace
-brace-close = record { begins = brace }
+brace-close = record { begins = λ kind h. not_mark begins_expr m.RightBrace kind refl h }
 
 pub semicolon-close : IsClose m.Semicolon
-semicolon-close = record { begins = semicolon }
+semicolon-close = record { begins = λ kind h. not_mark begins_expr m.Semicolon kind refl h }
 
 -- the expressions as a list
 abbrev exprs_list : Exprs → List Expr
@@ -65,16 +51,11 @@ from-list : (xs : Exprs) → exprs_from (exprs_list xs) ≡ xs
 from-list t.none = refl
 from-list (t.with x xs) = ap (t.with x) (from-list xs)
 
-abbrev behind_comma : Expr → List Written
-behind_comma x = v.mark m.Comma ∷ written x
-
-rest-list : (xs : Exprs) → rest_written xs ≡ flat_map behind_comma (exprs_list xs)
-rest-list t.none = refl
-rest-list (t.with x xs) = ap (λ (l : List Written). v.mark m.Comma ∷ (written x ++ l)) (rest-list xs)
+rest-list : (xs : Exprs) → rest_written xs ≡ flat_map comma_expr_written (exprs_list xs)
+rest-list xs = ap rest_written (sym (from-list xs)) ∙ sym (rest-written (exprs_list xs))
 
 rest-highest : (xs : Exprs) → highest height (exprs_list xs) ≡ rest_height xs
-rest-highest t.none = refl
-rest-highest (t.with x xs) = ap (max (height x)) (rest-highest xs)
+rest-highest xs = sym (rest-height (exprs_list xs)) ∙ ap rest_height (from-list xs)
 
 pub zero-max : (n : ℕ) → max 0 n ≡ n
 zero-max n = omega arith
@@ -83,12 +64,12 @@ module _ (one more : Reader (Tall Expr)) (n bound : ℕ) (o : ReadsWhole bound o
   abbrev Low : Expr → Type 0
   Low x = IsExpr x × (height x < n)
 
-  comma-turn : (x : Expr) (ts mid : List Token) → Low x → Ends 1 (kind_at mid) → Spelled (behind_comma x) ts mid
+  comma-turn : (x : Expr) (ts mid : List Token) → Low x → Ends 1 (kind_at mid) → Spelled (comma_expr_written x) ts mid
       → Turn (is_mark m.Comma) (comma_expr one more n) height x ts mid
   unfolding mark
   comma-turn x ts mid p f s = plain_word s (λ a place us e b. record { goes_on = rw e refl; reads = rw (e, q.reads x us mid p.0 p.1 f b) refl })
 
-  comma-ends : (x : Expr) (ts mid : List Token) → Low x → Spelled (behind_comma x) ts mid → Ends 1 (kind_at ts)
+  comma-ends : (x : Expr) (ts mid : List Token) → Low x → Spelled (comma_expr_written x) ts mid → Ends 1 (kind_at ts)
   comma-ends x ts mid p s = plain_word s (λ a place us e b. rw e (record { stops = omega arith; not_call = refl }))
 
   low-each : (xs : Exprs) → AreExprs xs → rest_height xs < n → Each Low (exprs_list xs)
@@ -99,8 +80,8 @@ module _ (one more : Reader (Tall Expr)) (n bound : ℕ) (o : ReadsWhole bound o
       → is_mark m.Comma (kind_at rest) ≡ false → Spelled (rest_written xs) ts rest
       → all_behind (is_mark m.Comma) (comma_expr one more n) ([], 0) ts ≡ Ok ((exprs_list xs, rest_height xs), rest)
   rest-row xs ts rest a l f e s =
-      let s' : Spelled (flat_map behind_comma (exprs_list xs)) ts rest = subst (λ (w : List Written). Spelled w ts rest) (rest-list xs) s in
-      let r = row (is_mark m.Comma) (comma_expr one more n) height behind_comma Low (Ends 1) comma-turn comma-ends (λ x. omega arith)
+      let s' : Spelled (flat_map comma_expr_written (exprs_list xs)) ts rest = respelled (rest-list xs) s in
+      let r = row (is_mark m.Comma) (comma_expr one more n) height comma_expr_written Low (Ends 1) comma-turn comma-ends (λ x. omega arith)
       (exprs_list xs) ts rest (low-each xs a l) f e s' in
       all-row (is_mark m.Comma) (comma_expr one more n) height (exprs_list xs) [] 0 ts rest r ∙ rw (zero-max, rest-highest) refl
 

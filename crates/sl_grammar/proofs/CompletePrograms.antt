@@ -17,7 +17,8 @@ use Rattle.sl_grammar.proofs.CompleteBlocks.{block-reads}
 use Rattle.sl_grammar.proofs.CompleteDeclarations.{params-complete}
 use Rattle.sl_grammar.proofs.CompleteKinds.{scalar-kind}
 use Rattle.sl_grammar.proofs.CompleteStatements.{stmt-complete}
-use Rattle.sl_grammar.proofs.CompleteSteps.{Spelled, spelled, split, at_word, plain_word, Turn, row, all-row}
+use Rattle.sl_grammar.proofs.CompleteSteps.{Turn, row, all-row}
+use Rattle.sl_grammar.proofs.Spelling.{Spelled, split, at_word, plain_word}
 
 abbrev LowFunction : Function → Type 0
 LowFunction f = IsFunction f × (function_height f ≤ TREE_DEPTH)
@@ -65,4 +66,4 @@ functions-read (f ∷ fs) ts n a l s =
 
 -- The tokens that spell a program that follows the grammar are read as that program, with its depth, to the last.
 pub reads_program : (ts : List Token) (p : Program) → Shaped p → Placed p ts → program ts ≡ Ok ((p, depth p), [])
-reads_program ts p shaped placed = functions-read p ts shaped.some shaped.each shaped.depth (spelled placed)
+reads_program ts p shaped placed = functions-read p ts shaped.some shaped.each shaped.depth (record { spells = placed })

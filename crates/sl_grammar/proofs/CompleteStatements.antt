@@ -21,7 +21,7 @@ use Rattle.sl_grammar.proofs.CompleteEffects.{and-false, effect-complete, effect
 use Rattle.sl_grammar.proofs.CompleteExpressions.{whole-complete}
 use Rattle.sl_grammar.proofs.CompleteKinds.{scalar-kind, expr-begins}
 use Rattle.sl_grammar.proofs.CompleteLists.{semicolon-close}
-use Rattle.sl_grammar.proofs.CompleteSteps.{Spelled, split, at_word, plain_word, from_word}
+use Rattle.sl_grammar.proofs.Spelling.{Spelled, split, at_word, plain_word, from_word}
 
 -- the words of a `for` behind its first part
 abbrev for_written : Option Cond → Option Effect → Stmt → List Written

@@ -1,76 +1,12 @@
 -- What the tokens are that spell some words, and how a row of items is read.
-use Rattle.std.proofs.Common.{append-nil, subst, ◌≡◌, ℕ, zero, suc, ◌+◌, ◌<◌, ◌≤◌, max, Bool, true, false, List, [], ◌∷◌, ◌++◌, length, flat_map, Ok, refl, sym, ap, ◌∙◌, arith, append_assoc}
-use Rattle.sl_base.specs.declared.place.Place.{Place}
+use Rattle.std.proofs.Common.{append-nil, subst, ◌≡◌, ℕ, zero, suc, ◌<◌, ◌≤◌, max, Bool, true, false, List, [], ◌∷◌, ◌++◌, length, flat_map, Ok, refl, sym, ◌∙◌, arith, append_assoc}
 use Rattle.sl_base.specs.declared.token.Token.{Token}
-use Rattle.sl_base.specs.declared.word.Word.{Word}
 use Rattle.sl_syntax.specs.declared.kind.Kind.{Kind}
 use Rattle.sl_syntax.specs.Depth.{highest}
-use Rattle.sl_syntax.specs.Placed.{Spells}
 use Rattle.sl_syntax.specs.Shaped.{Each}
-use Rattle.sl_syntax.specs.Written.{Written, at, plain, from_place}
-use Rattle.sl_grammar.specs.Steps.{Outcome, Reader, Tall, kind_at, here, repeat, all_behind}
-
-abbrev pub token : Word → ℕ → Place → Token
-token word offset place = record { word = word; offset = offset; place = place }
-
--- `Spells` as a record
-pub record Spelled (xs : List Written) (ts rest : List Token) : Type 0 where
-  pub spells : Spells xs ts rest
-
-pub spelled : {xs : List Written} {ts rest : List Token} → Spells xs ts rest → Spelled xs ts rest
-spelled h = record { spells = h }
-
-splits : {C : Type 0} (a b : List Written) (ts rest : List Token) → Spells (a ++ b) ts rest
-    → ((mid : List Token) → Spelled a ts mid → Spelled b mid rest → C) → C
-splits [] b ts rest h go = go ts (record { spells = refl }) (record { spells = h })
-splits (x ∷ a) b [] rest h go = absurd h
-splits (x ∷ a) b (t ∷ ts) rest h go = splits a b ts rest h.1 (λ mid p q. go mid (record { spells = (h.0, p.spells) }) q)
-
--- words behind words: between them some tokens are left
-pub split : {C : Type 0} (a : List Written) {b : List Written} {ts rest : List Token} → Spelled (a ++ b) ts rest
-    → ((mid : List Token) → Spelled a ts mid → Spelled b mid rest → C) → C
-split a {b} {ts} {rest} h go = splits a b ts rest h.spells go
-
-at_words : {C : Type 0} (place : Place) (word : Word) (xs : List Written) (ts rest : List Token) → Spells (at place word ∷ xs) ts rest
-    → ((offset : ℕ) (us : List Token) → ts ≡ token word offset place ∷ us → Spelled xs us rest → C) → C
-at_words place word xs [] rest h go = absurd h
-at_words place word xs (t ∷ us) rest h go =
-    go t.offset us (ap (λ (v : Word). token v t.offset t.place ∷ us) h.0.0 ∙ ap (λ (p : Place). token word t.offset p ∷ us) (sym h.0.1.0))
-    (record { spells = h.1 })
-
--- a word whose place is told
-pub at_word : {C : Type 0} {place : Place} {word : Word} {xs : List Written} {ts rest : List Token} → Spelled (at place word ∷ xs) ts rest
-    → ((offset : ℕ) (us : List Token) → ts ≡ token word offset place ∷ us → Spelled xs us rest → C) → C
-at_word {place} {word} {xs} {ts} {rest} h go = at_words place word xs ts rest h.spells go
-
-plain_words : {C : Type 0} (word : Word) (xs : List Written) (ts rest : List Token) → Spells (plain word ∷ xs) ts rest
-    → ((offset : ℕ) (place : Place) (us : List Token) → ts ≡ token word offset place ∷ us → Spelled xs us rest → C) → C
-plain_words word xs [] rest h go = absurd h
-plain_words word xs (t ∷ us) rest h go = go t.offset t.place us (ap (λ (v : Word). token v t.offset t.place ∷ us) h.0.0) (record { spells = h.1 })
-
--- a word whose place isn't told
-pub plain_word : {C : Type 0} {word : Word} {xs : List Written} {ts rest : List Token} → Spelled (plain word ∷ xs) ts rest
-    → ((offset : ℕ) (place : Place) (us : List Token) → ts ≡ token word offset place ∷ us → Spelled xs us rest → C) → C
-plain_word {C} {word} {xs} {ts} {rest} h go = plain_words word xs ts rest h.spells go
-
--- words the first of which has this place too
-from_words : (place : Place) (xs : List Written) (ts rest : List Token) → 1 ≤ length xs → Spells (from_place place xs) ts rest
-    → Spelled xs ts rest × (place ≡ here ts)
-from_words place [] ts rest l h = absurd (omega arith)
-from_words place (x ∷ xs) [] rest l h = absurd h
-from_words place (x ∷ xs) (t ∷ ts) rest l h = (record { spells = ((h.0.0, h.0.1.1), h.1) }, h.0.1.0)
-
-pub from_word : (place : Place) (xs : List Written) {ts rest : List Token} → 1 ≤ length xs → Spelled (from_place place xs) ts rest
-    → Spelled xs ts rest × (place ≡ here ts)
-from_word place xs {ts} {rest} l h = from_words place xs ts rest l h.spells
-
-spells-length : (xs : List Written) (ts rest : List Token) → Spells xs ts rest → length ts ≡ length xs + length rest
-spells-length [] ts rest h = ap length h ∙ omega arith
-spells-length (x ∷ xs) [] rest h = absurd h
-spells-length (x ∷ xs) (t ∷ ts) rest h = omega (arith, spells-length xs ts rest h.1)
-
-pub spelled-length : {xs : List Written} {ts rest : List Token} → Spelled xs ts rest → length ts ≡ length xs + length rest
-spelled-length {xs} {ts} {rest} h = spells-length xs ts rest h.spells
+use Rattle.sl_syntax.specs.Written.{Written}
+use Rattle.sl_grammar.specs.Steps.{Outcome, Reader, Tall, kind_at, repeat, all_behind}
+use Rattle.sl_grammar.proofs.Spelling.{Spelled, split, spells-length}
 
 -- one turn of a repetition reads this item
 pub record Turn {A : Type 0} (goes : Kind → Bool) (item : Reader (Tall A)) (h : A → ℕ) (x : A) (ts mid : List Token) : Type 0 where
@@ -128,4 +64,4 @@ module _ {A : Type 0} (goes : Kind → Bool) (item : Reader (Tall A)) (h : A →
     row [] ts rest p f e s = (s.spells, e)
     row (x ∷ xs) ts rest p f e s =
         split (w x) s
-        (λ mid a b. (mid, turn x ts mid p.0 (fits xs mid rest p.1 f b) a, omega (arith, some x, spelled-length a), row xs mid rest p.1 f e b))
+        (λ mid a b. (mid, turn x ts mid p.0 (fits xs mid rest p.1 f b) a, omega (arith, some x, spells-length (w x) ts mid a.spells), row xs mid rest p.1 f e b))

@@ -30,7 +30,8 @@ head = w.Key (codes "int") ∷ w.Name (codes "main") ∷ w.Mark m.LeftParenthesi
 -- int main() { int x = 1 + 2 * 3; }
 sum_words : List Token
 sum_words = in_line 1 (w.Key (codes "int") ∷ w.Name (codes "main") ∷ w.Mark m.LeftParenthesis ∷ w.Mark m.RightParenthesis ∷ w.Mark m.LeftBrace
-    ∷ w.Key (codes "int") ∷ w.Name (codes "x") ∷ w.Mark m.Equal ∷ w.Number 1 ∷ w.Mark m.Plus ∷ w.Number 2 ∷ w.Mark m.Star ∷ w.Number 3 ∷ w.Mark m.Semicolon ∷ w.Mark m.RightBrace ∷ [])
+    ∷ w.Key (codes "int") ∷ w.Name (codes "x") ∷ w.Mark m.Equal ∷ w.Number 1 ∷ w.Mark m.Plus ∷ w.Number 2
+    ∷ w.Mark m.Star ∷ w.Number 3 ∷ w.Mark m.Semicolon ∷ w.Mark m.RightBrace ∷ [])
 
 sum_program : Program
 sum_program = record {
@@ -40,10 +41,12 @@ sum_program = record {
   params = [];
   opens = at 5;
   items = t.followed (t.declares (t.declares_scalar (at 6) c.Int (record { name = codes "x"; place = at 7 })
-      (Some (t.binary (t.number (at 9) 1) (b.Arithmetic a.Add) (at 10) (t.binary (t.number (at 11) 2) (b.Arithmetic a.Multiply) (at 12) (t.number (at 13) 3)))))) t.no_more;
+      (Some (t.binary (t.number (at 9) 1) (b.Arithmetic a.Add) (at 10)
+      (t.binary (t.number (at 11) 2) (b.Arithmetic a.Multiply) (at 12) (t.number (at 13) 3)))))) t.no_more;
   closes = at 15;
 } ∷ []
 
 sum_is_read : program sum_words ≡ Ok ((sum_program, 6), [])
-unfolding program function function_behind params braced repeat item scalar_declaration optional_value expr from_operand operand climb operation combined mark identifier stmt sum_words sum_program
+unfolding program function function_behind params braced repeat item scalar_declaration optional_value expr from_operand operand climb operation combined
+    mark identifier stmt sum_words sum_program
 sum_is_read = refl

@@ -1,7 +1,7 @@
 -- What a kind tells of its word: a key, a lib or a mark that the grammar names is the kind's own word, and a name, a number and a text are what
 -- they hold.
 use Rattle.std.proofs.Common.{◌≡◌, ℕ, Bool, true, false, cond, List, [], ◌∷◌, Option, Some, None, refl, sym, ap, subst, ◌∙◌, rules}
-use Rattle.std.specs.Prelude.{codes, find, option_map}
+use Rattle.std.specs.Prelude.{codes, find, option_map, ◌&&◌}
 use Rattle.std.specs.Str.{bytes_eq}
 use Rattle.std.proofs.lemmas.Bool.{false≢true}
 use Rattle.std.proofs.lemmas.Slice.Eq.{bytes_eq-Decides}
@@ -16,6 +16,14 @@ use Rattle.sl_syntax.specs.Kinds.{keys, libs, kind_or, kind_in, kind_of}
 use Rattle.sl_syntax.specs.Shaped.{Each}
 use Rattle.sl_syntax.specs.Written.{truth_word, scalar_word, form_word}
 use Rattle.sl_grammar.specs.Steps.{is_mark, name_in, number_in, text_in}
+
+pub some_one : {A : Type 0} {a b : A} → Some a ≡ Some b → a ≡ b
+some_one h = cc
+
+-- both of two tests
+pub both : (a b : Bool) → a && b ≡ true → (a ≡ true) × (b ≡ true)
+both true b h = (refl, h)
+both false b h = absurd (false≢true h)
 
 -- the word of a kind that has just one
 abbrev pub fixed : Kind → Option Word
@@ -60,67 +68,19 @@ Only make bytes kind = (x : Word) → fixed kind ≡ Some x → make bytes ≡ x
 none_fixed : (make : List ℕ → Word) (bytes : List ℕ) (kind : Kind) → fixed kind ≡ None → Only make bytes kind
 none_fixed make bytes kind h x e = absurd cc
 
+-- rows of which each is its kind's own word
+only_rows : (make : List ℕ → Word) (rows : List (List ℕ × Kind)) → Each (λ (row : List ℕ × Kind). fixed row.1 ≡ Some (make row.0)) rows
+    → Each (λ (row : List ℕ × Kind). Only make row.0 row.1) rows
+only_rows make [] h = tt
+only_rows make (row ∷ rows) h = (λ x e. some_one (sym h.0 ∙ e), only_rows make rows h.1)
+
 key_fixed : (bytes : List ℕ) → Only w.Key bytes (kind_in keys k.Other bytes)
-key_fixed bytes =
-    in_rows (Only w.Key) bytes k.Other (none_fixed w.Key bytes k.Other refl) keys (
-      λ x e. cc,
-      (
-        λ x e. cc,
-        (
-          λ x e. cc,
-          (
-            λ x e. cc,
-            (
-              λ x e. cc,
-              (
-                λ x e. cc,
-                (
-                  λ x e. cc,
-                  (
-                    λ x e. cc,
-                    (
-                      λ x e. cc,
-                      (λ x e. cc, (λ x e. cc, (λ x e. cc, (λ x e. cc, (λ x e. cc, tt))))),
-                    ),
-                  ),
-                ),
-              ),
-            ),
-          ),
-        ),
-      ),
-    )
+key_fixed bytes = in_rows (Only w.Key) bytes k.Other (none_fixed w.Key bytes k.Other refl) keys (only_rows w.Key keys
+    (refl, (refl, (refl, (refl, (refl, (refl, (refl, (refl, (refl, (refl, (refl, (refl, (refl, (refl, tt)))))))))))))))
 
 lib_fixed : (bytes : List ℕ) → Only w.Lib bytes (kind_in libs k.Library bytes)
-lib_fixed bytes =
-    in_rows (Only w.Lib) bytes k.Library (none_fixed w.Lib bytes k.Library refl) libs (
-      λ x e. cc,
-      (
-        λ x e. cc,
-        (
-          λ x e. cc,
-          (
-            λ x e. cc,
-            (
-              λ x e. cc,
-              (
-                λ x e. cc,
-                (
-                  λ x e. cc,
-                  (
-                    λ x e. cc,
-                    (
-                      λ x e. cc,
-                      (λ x e. cc, (λ x e. cc, (λ x e. cc, tt))),
-                    ),
-                  ),
-                ),
-              ),
-            ),
-          ),
-        ),
-      ),
-    )
+lib_fixed bytes = in_rows (Only w.Lib) bytes k.Library (none_fixed w.Lib bytes k.Library refl) libs (only_rows w.Lib libs
+    (refl, (refl, (refl, (refl, (refl, (refl, (refl, (refl, (refl, (refl, (refl, (refl, tt)))))))))))))
 
 -- a word of a kind that has one word is that word
 pub fixed_word : (y x : Word) → fixed (kind_of y) ≡ Some x → y ≡ x
@@ -146,17 +106,23 @@ abbrev no_library : Kind → Bool
 no_library k.Library = false
 no_library _ = true
 
-key_of_table : (bytes : List ℕ) → of_table (kind_in keys k.Other bytes) ≡ true
-key_of_table bytes = in_rows (λ _ kind. of_table kind ≡ true) bytes k.Other refl keys
-    (refl, (refl, (refl, (refl, (refl, (refl, (refl, (refl, (refl, (refl, (refl, (refl, (refl, (refl, tt))))))))))))))
+-- a test that all kinds of a table pass
+abbrev all_pass : (Kind → Bool) → List (List ℕ × Kind) → Bool
+all_pass test [] = true
+all_pass test (row ∷ rows) = test row.1 && all_pass test rows
 
-lib_of_table : (bytes : List ℕ) → of_table (kind_in libs k.Library bytes) ≡ true
-lib_of_table bytes = in_rows (λ _ kind. of_table kind ≡ true) bytes k.Library refl libs
-    (refl, (refl, (refl, (refl, (refl, (refl, (refl, (refl, (refl, (refl, (refl, (refl, tt))))))))))))
+each_passes : (test : Kind → Bool) (rows : List (List ℕ × Kind)) → all_pass test rows ≡ true
+    → Each (λ (row : List ℕ × Kind). test row.1 ≡ true) rows
+each_passes test [] h = tt
+each_passes test (row ∷ rows) h =
+    let of = both (test row.1) (all_pass test rows) h in
+    (of.0, each_passes test rows of.1)
 
-key_no_library : (bytes : List ℕ) → no_library (kind_in keys k.Other bytes) ≡ true
-key_no_library bytes = in_rows (λ _ kind. no_library kind ≡ true) bytes k.Other refl keys
-    (refl, (refl, (refl, (refl, (refl, (refl, (refl, (refl, (refl, (refl, (refl, (refl, (refl, (refl, tt))))))))))))))
+key_passes : (test : Kind → Bool) (bytes : List ℕ) → test k.Other ≡ true → all_pass test keys ≡ true → test (kind_in keys k.Other bytes) ≡ true
+key_passes test bytes other all = in_rows (λ _ kind. test kind ≡ true) bytes k.Other other keys (each_passes test keys all)
+
+lib_passes : (test : Kind → Bool) (bytes : List ℕ) → test k.Library ≡ true → all_pass test libs ≡ true → test (kind_in libs k.Library bytes) ≡ true
+lib_passes test bytes other all = in_rows (λ _ kind. test kind ≡ true) bytes k.Library other libs (each_passes test libs all)
 
 -- two kinds that a test tells apart
 apart : (test : Kind → Bool) (a b : Kind) → test a ≡ true → test b ≡ false → a ≡ b → ⊥
@@ -164,24 +130,24 @@ apart test a b yes_a no_b e = false≢true (sym no_b ∙ ap test (sym e) ∙ yes
 
 pub name_word : (y : Word) → kind_of y ≡ k.Name → y ≡ w.Name (name_in y)
 name_word (w.Name name) h = refl
-name_word (w.Lib name) h = absurd (apart of_table _ _ (lib_of_table name) refl h)
-name_word (w.Key name) h = absurd (apart of_table _ _ (key_of_table name) refl h)
+name_word (w.Lib name) h = absurd (apart of_table _ _ (lib_passes of_table name refl refl) refl h)
+name_word (w.Key name) h = absurd (apart of_table _ _ (key_passes of_table name refl refl) refl h)
 name_word (w.Number n) h = absurd cc
 name_word (w.Text bytes) h = absurd cc
 name_word (w.Mark m) h = absurd cc
 
 pub number_word : (y : Word) → kind_of y ≡ k.Number → y ≡ w.Number (number_in y)
 number_word (w.Name name) h = absurd cc
-number_word (w.Lib name) h = absurd (apart of_table _ _ (lib_of_table name) refl h)
-number_word (w.Key name) h = absurd (apart of_table _ _ (key_of_table name) refl h)
+number_word (w.Lib name) h = absurd (apart of_table _ _ (lib_passes of_table name refl refl) refl h)
+number_word (w.Key name) h = absurd (apart of_table _ _ (key_passes of_table name refl refl) refl h)
 number_word (w.Number n) h = refl
 number_word (w.Text bytes) h = absurd cc
 number_word (w.Mark m) h = absurd cc
 
 pub text_word : (y : Word) → kind_of y ≡ k.Text → y ≡ w.Text (text_in y)
 text_word (w.Name name) h = absurd cc
-text_word (w.Lib name) h = absurd (apart of_table _ _ (lib_of_table name) refl h)
-text_word (w.Key name) h = absurd (apart of_table _ _ (key_of_table name) refl h)
+text_word (w.Lib name) h = absurd (apart of_table _ _ (lib_passes of_table name refl refl) refl h)
+text_word (w.Key name) h = absurd (apart of_table _ _ (key_passes of_table name refl refl) refl h)
 text_word (w.Number n) h = absurd cc
 text_word (w.Text bytes) h = refl
 text_word (w.Mark m) h = absurd cc
@@ -190,7 +156,7 @@ text_word (w.Mark m) h = absurd cc
 pub library_word : (y : Word) → kind_of y ≡ k.Library → (y ≡ w.Lib (name_in y)) × (kind_of (w.Lib (name_in y)) ≡ k.Library)
 library_word (w.Name name) h = absurd cc
 library_word (w.Lib name) h = (refl, h)
-library_word (w.Key name) h = absurd (apart no_library _ _ (key_no_library name) refl h)
+library_word (w.Key name) h = absurd (apart no_library _ _ (key_passes no_library name refl refl) refl h)
 library_word (w.Number n) h = absurd cc
 library_word (w.Text bytes) h = absurd cc
 library_word (w.Mark m) h = absurd cc
@@ -199,19 +165,11 @@ abbrev no_end : Kind → Bool
 no_end k.End = false
 no_end _ = true
 
-key_no_end : (bytes : List ℕ) → no_end (kind_in keys k.Other bytes) ≡ true
-key_no_end bytes = in_rows (λ _ kind. no_end kind ≡ true) bytes k.Other refl keys
-    (refl, (refl, (refl, (refl, (refl, (refl, (refl, (refl, (refl, (refl, (refl, (refl, (refl, (refl, tt))))))))))))))
-
-lib_no_end : (bytes : List ℕ) → no_end (kind_in libs k.Library bytes) ≡ true
-lib_no_end bytes = in_rows (λ _ kind. no_end kind ≡ true) bytes k.Library refl libs
-    (refl, (refl, (refl, (refl, (refl, (refl, (refl, (refl, (refl, (refl, (refl, (refl, tt))))))))))))
-
 -- a word is no end
 pub not_end : (y : Word) → kind_of y ≡ k.End → ⊥
 not_end (w.Name name) h = absurd cc
-not_end (w.Lib name) h = apart no_end _ _ (lib_no_end name) refl h
-not_end (w.Key name) h = apart no_end _ _ (key_no_end name) refl h
+not_end (w.Lib name) h = apart no_end _ _ (lib_passes no_end name refl refl) refl h
+not_end (w.Key name) h = apart no_end _ _ (key_passes no_end name refl refl) refl h
 not_end (w.Number n) h = absurd cc
 not_end (w.Text bytes) h = absurd cc
 not_end (w.Mark m) h = absurd cc
@@ -220,3 +178,10 @@ not_end (w.Mark m) h = absurd cc
 pub is_mark_kind : (x : Mark) (kind : Kind) → is_mark x kind ≡ true → kind ≡ k.Mark x
 is_mark_kind x (k.Mark y) h = ap k.Mark (same_true the_type (search rules) y x h)
 is_mark_kind x _ h = absurd (false≢true h)
+
+-- a kind that passes a test is none of a mark that doesn't
+pub not_mark : (test : Kind → Bool) (x : Mark) (kind : Kind) → test (k.Mark x) ≡ false → test kind ≡ true → is_mark x kind ≡ false
+not_mark test x kind fails passes = by_test (is_mark x kind) refl where
+  by_test : (b : Bool) → is_mark x kind ≡ b → is_mark x kind ≡ false
+  by_test true e = absurd (apart test kind (k.Mark x) passes fails (is_mark_kind x kind e))
+  by_test false e = e

@@ -1,5 +1,5 @@
 -- The laws of the reader of programs, put together: what it reads and where it stops, against the definitions of the grammar.
-use Rattle.std.proofs.Common.{◌≡◌, ℕ, zero, suc, ◌+◌, ◌-◌, ◌<◌, ◌≤◌, List, [], ◌∷◌, ◌++◌, length, take, map, Result, Ok, Err, refl, sym, ap, ◌∙◌, subst, arith, length-append}
+use Rattle.std.proofs.Common.{◌≡◌, ℕ, zero, suc, ◌+◌, ◌-◌, ◌<◌, ◌≤◌, List, [], ◌∷◌, ◌++◌, length, take, map, Ok, Err, refl, sym, ap, ◌∙◌, subst, arith, length-append}
 use Rattle.std.proofs.lemmas.List.{length-map, map-append}
 use Rattle.std.proofs.Math.Seq.{take-append_seam}
 use Rattle.sl_base.specs.declared.token.Token.{Token}
@@ -17,8 +17,9 @@ use Rattle.sl_grammar.specs.declared.fault.Fault.TheVariants.{Grammar}
 use Rattle.sl_grammar.specs.Statements.{program}
 use Rattle.sl_grammar.specs.Steps.{Outcome, Tall}
 use Rattle.sl_grammar.proofs.CompletePrograms.{reads_program}
-use Rattle.sl_grammar.proofs.NearSteps.{Same, step, end, cut, Agree, in_step, at_fault, past, left_over, Level}
 use Rattle.sl_grammar.proofs.NearStatements.{near_program, program-shrinks}
+use Rattle.sl_grammar.proofs.NearSteps.{Same, step, end, cut, Agree, in_step, at_fault, past, left_over, Level}
+use Rattle.sl_grammar.proofs.SoundSteps.{ok_one}
 use Rattle.sl_grammar.proofs.ViablePrograms.{viable_program}
 use Rattle.sl_grammar.proofs.ViableSteps.{Viable}
 
@@ -27,7 +28,8 @@ pub reads_blank : (p : Program) → Shaped p → program (map blank_token (words
 reads_blank p shaped = reads_program (map blank_token (words p)) (blank p) (blank-shaped p shaped) (blank-placed_alone p)
 
 -- where one run stops at a fault that isn't behind the cut, the other doesn't read
-no_reading : {A : Type 0} (b n : ℕ) (R : A → A → Type 0) (o o' : Outcome A) (y : A × List Token) → Agree b R o o' → o ≡ Err (Grammar n) → b ≤ n → o' ≡ Ok y → ⊥
+no_reading : {A : Type 0} (b n : ℕ) (R : A → A → Type 0) (o o' : Outcome A) (y : A × List Token) → Agree b R o o'
+    → o ≡ Err (Grammar n) → b ≤ n → o' ≡ Ok y → ⊥
 no_reading b n R _ _ y (in_step x x' s s' r same) e le q = cc
 no_reading b n R _ _ y (at_fault s s' same) e le q = cc
 no_reading b n R o o' y (past _ _ l) e le q = omega (arith, ap left_over e)
@@ -64,20 +66,19 @@ module _ (ts : List Token) (n : ℕ) (fault : program ts ≡ Err (Grammar n)) wh
   pub no_program : IsProgram (words_in ts) → ⊥
   no_program (p, shaped, is) =
       let us : List Token = map blank_token (words p) in
-      no_reading 0 n Level (program ts) (program us) _ (near_program 0 ts us (same_words ts us (sym is ∙ sym (words_of_blank (words p))))) fault (omega arith) (reads_blank p shaped)
+      no_reading 0 n Level (program ts) (program us) _
+      (near_program 0 ts us (same_words ts us (sym is ∙ sym (words_of_blank (words p))))) fault (omega arith) (reads_blank p shaped)
 
   pub nothing_begins : length ts - n < length ts → Begins IsProgram (take (length ts - n + 1) (words_in ts)) → ⊥
   nothing_begins some (more, whole) =
       let p = whole.0 in
       let us : List Token = map blank_token (words p) in
       no_reading n n Level (program ts) (program us) _
-      (near_program n ts us (same_front n (length ts - n + 1) ts us more (omega (arith, within)) (omega (arith, within)) (words_of_blank (words p) ∙ whole.2))) fault (omega arith) (reads_blank p whole.1)
-
-one_ok : {A E : Type 0} {a b : A} → ◌≡◌ {A = Result A E} (Ok a) (Ok b) → a ≡ b
-one_ok h = cc
+      (near_program n ts us (same_front n (length ts - n + 1) ts us more (omega (arith, within)) (omega (arith, within))
+      (words_of_blank (words p) ∙ whole.2))) fault (omega arith) (reads_blank p whole.1)
 
 same_read : (a b : Program) (h k : ℕ) → ◌≡◌ {A = Outcome (Tall Program)} (Ok ((a, h), [])) (Ok ((b, k), [])) → a ≡ b
-same_read a b h k e = ap (λ (y : Tall Program × List Token). y.0.0) (one_ok e)
+same_read a b h k e = ap (λ (y : Tall Program × List Token). y.0.0) (ok_one e)
 
 -- the words before the last of two lists, where the first has all the others
 words_before : (ts front rest : List Token) → ts ≡ front ++ rest → take (length ts - length rest) (words_in ts) ≡ words_in front

@@ -1,4 +1,7 @@
 mod Examples
+pub mod KindLaws
+pub mod Spelling
+pub mod Rows
 pub mod CompleteSteps
 pub mod CompleteKinds
 pub mod CompleteLists
@@ -14,7 +17,6 @@ pub mod NearExpressions
 pub mod NearDeclarations
 pub mod NearEffects
 pub mod NearStatements
-pub mod KindLaws
 pub mod SoundSteps
 pub mod SoundLists
 pub mod SoundOperands
@@ -29,10 +31,8 @@ pub mod Laws
 pub mod ViableSteps
 pub mod ViableLists
 pub mod ViableOperands
-pub mod ViableLonger
 pub mod ViableExpressions
 pub mod ViableEffects
-pub mod ViableTaken
 pub mod ViableDeclarations
 pub mod ViableParams
 pub mod ViableBlocks

@@ -11,7 +11,7 @@ use Rattle.sl_syntax.specs.declared.tree.function.ResultType.{ResultType}
 use Rattle.sl_syntax.specs.declared.tree.function.ResultType.TheVariants as z
 use Rattle.sl_syntax.specs.declared.tree.identifier.Identifier.{Identifier}
 use Rattle.sl_syntax.specs.Tree as t
-use Rattle.sl_syntax.specs.Tree.{Cond, Declaration, First, Stmt, Program}
+use Rattle.sl_syntax.specs.Tree.{Cond, Declaration, First, Stmt}
 use Rattle.sl_grammar.specs.declared.fault.Fault.TheVariants.{Memory}
 use Rattle.sl_grammar.specs.Declarations.{scalar_declaration, auto_declaration, container_declaration}
 use Rattle.sl_grammar.specs.Statements.{is_else, is_item, is_more, ranges, is_auto, declared, item_by, item, braced, block, condition, otherwise, choice, loop, optional_cond, optional_effect, for_behind, range_behind, valued_first, variable_behind, declared_first, for_by, for_loop, returned, return_stmt, effect_stmt, word_stmt, stmt_by, stmt, function_behind, function_by, function, program}

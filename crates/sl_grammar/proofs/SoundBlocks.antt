@@ -1,26 +1,27 @@
 -- What is read as a block is the words of items that follow the grammar.
-use Rattle.std.proofs.Common.{◌≡◌, ℕ, ◌+◌, ◌-◌, ◌<◌, max, true, false, List, [], ◌∷◌, ◌++◌, Ok, refl, ap, arith, append_assoc}
-use Rattle.std.specs.Prelude.{flat_map, nat_lt}
+use Rattle.std.proofs.Common.{◌≡◌, ℕ, ◌+◌, ◌-◌, ◌<◌, true, false, List, [], ◌∷◌, ◌++◌, Ok, refl, ap, arith, append_assoc}
+use Rattle.std.specs.Prelude.{nat_lt}
 use Rattle.std.proofs.lemmas.Bool.{ltb-true}
 use Rattle.sl_base.specs.declared.mark.Mark.TheVariants as m
 use Rattle.sl_base.specs.declared.place.Place.{Place}
 use Rattle.sl_base.specs.declared.token.Token.{Token}
 use Rattle.sl_syntax.specs.declared.kind.Kind.{Kind}
 use Rattle.sl_syntax.specs.declared.kind.Kind.TheVariants as k
-use Rattle.sl_syntax.specs.Depth.{highest, declaration_height, cond_height, stmt_height, item_height, items_height}
-use Rattle.sl_syntax.specs.Shaped.{IsDeclaration, IsCond, IsStmt, IsItem, AreItems, ends_open, Each}
+use Rattle.sl_syntax.specs.Depth.{declaration_height, cond_height, stmt_height, item_height, items_height}
+use Rattle.sl_syntax.specs.Shaped.{IsDeclaration, IsCond, IsStmt, IsItem, AreItems, ends_open}
 use Rattle.sl_syntax.specs.Tree as t
-use Rattle.sl_syntax.specs.Tree.{Expr, Declaration, Effect, Cond, First, Stmt, Item, Items, items_from, Function, Program}
+use Rattle.sl_syntax.specs.Tree.{Declaration, Cond, Stmt, Item, Items}
 use Rattle.sl_syntax.specs.Written as s
-use Rattle.sl_syntax.specs.Written.{Written, at, plain, scalar_word, element_word, result_word, written, value_written, declaration_written, option_written, effect_written, cond_written, first_written, tested, stmt_written, item_written, items_written, params_written, function_written, program_written}
+use Rattle.sl_syntax.specs.Written.{Written, declaration_written, cond_written, tested, stmt_written, item_written}
 use Rattle.sl_grammar.specs.Declarations.{scalar_declaration, auto_declaration, container_declaration}
-use Rattle.sl_grammar.specs.Effects.{effect}
 use Rattle.sl_grammar.specs.Effects as effects
 use Rattle.sl_grammar.specs.Statements.{is_else, is_item, declared, item_by, item, braced, condition}
 use Rattle.sl_grammar.specs.Steps.{Reader, Tall, kind_at, mark, all_behind}
+use Rattle.sl_grammar.proofs.Rows.{items-written, items-height, are_items}
 use Rattle.sl_grammar.proofs.SoundDeclarations.{scalar-part, auto-part, container-part}
 use Rattle.sl_grammar.proofs.SoundEffects.{cond-part}
-use Rattle.sl_grammar.proofs.SoundSteps.{Took, bound, guarded, answered, ◌⨾◌, respelled, mark_took, mark_plain, mark_here, Part, Parts, behind}
+use Rattle.sl_grammar.proofs.SoundSteps.{Took, bound, guarded, answered, mark_took, mark_plain, mark_here, Part, Parts, behind}
+use Rattle.sl_grammar.proofs.Spelling.{◌⨾◌, respelled}
 
 -- What is read as a statement: where it ends in an `if` that has no `else`, none follows.
 pub record FoundStmt (room : ℕ) (ts : List Token) (p : Tall Stmt) (rest : List Token) : Type 0 where
@@ -30,19 +31,6 @@ pub record FoundStmt (room : ℕ) (ts : List Token) (p : Tall Stmt) (rest : List
 -- what a reader of statements answers is such
 abbrev pub Finds : Reader (Tall Stmt) → ℕ → Type 0
 Finds inner room = (ts : List Token) (y : Took Stmt) → inner ts ≡ Ok y → FoundStmt room ts y.0 y.1
-
--- items in their order
-items-written : (xs : List Item) → flat_map item_written xs ≡ items_written (items_from xs)
-items-written [] = refl
-items-written (x ∷ xs) = ap (λ (l : List Written). item_written x ++ l) (items-written xs)
-
-items-height : (xs : List Item) → items_height (items_from xs) ≡ highest item_height xs
-items-height [] = refl
-items-height (x ∷ xs) = ap (max (item_height x)) (items-height xs)
-
-are_items : (xs : List Item) → Each IsItem xs → AreItems (items_from xs)
-are_items [] h = tt
-are_items (x ∷ xs) h = (h.0, are_items xs h.1)
 
 -- a block by its parts
 abbrev pub block_written : Place × Items × Place → List Written
@@ -100,7 +88,7 @@ module _ (inner : Reader (Tall Stmt)) (room : ℕ) (f : Finds inner room) where
       declared-part (container_declaration (room - 2) form) ts y (ltb-true 1 room high) (λ x read. container-part (room - 2) form ts x e read) h1)
   item-by _ ts y e h = states-part ts y h
 
-  item-part : Parts item_written IsItem item_height room (item room inner)
+  pub item-part : Parts item_written IsItem item_height room (item room inner)
   unfolding item
   item-part ts y h = item-by (kind_at ts) ts y refl h
 

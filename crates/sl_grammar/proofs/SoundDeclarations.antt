@@ -1,6 +1,6 @@
 -- What is read as a type, a declaration or parameters is the words of such that follow the grammar.
 use Rattle.std.proofs.Common.{◌≡◌, ℕ, ◌+◌, ◌-◌, ◌<◌, Bool, true, false, List, [], ◌∷◌, ◌++◌, Option, Some, None, Ok, refl, arith, drop}
-use Rattle.std.specs.Prelude.{nat_lt, codes, ⊤}
+use Rattle.std.specs.Prelude.{nat_lt, codes}
 use Rattle.std.proofs.lemmas.Bool.{ltb-true}
 use Rattle.sl_base.specs.declared.form.Form.{Form}
 use Rattle.sl_base.specs.declared.mark.Mark.TheVariants as m
@@ -23,13 +23,11 @@ use Rattle.sl_syntax.specs.Written.{Written, at, plain, is_map, scalar_word, for
 use Rattle.sl_grammar.specs.Declarations.{int_by, int, elements_by, container_type, optional_value, scalar_declaration, auto_declaration, braces, behind_equal_by, constructed, initializer_by, initializer, container_declaration, scalar_param, container_param, container_by, const_param, param_by, param, comma_param, params}
 use Rattle.sl_grammar.specs.Expressions.{expr, list, list_before}
 use Rattle.sl_grammar.specs.Steps.{kind_at, here, is_mark, mark, identifier}
-use Rattle.sl_grammar.proofs.SoundExpressions.{sound, expr-part}
+use Rattle.sl_grammar.proofs.Rows.{Anything, comma_param_written}
+use Rattle.sl_grammar.proofs.SoundExpressions.{sound, whole-part}
 use Rattle.sl_grammar.proofs.SoundLists.{list-part, list-before-part}
-use Rattle.sl_grammar.proofs.SoundSteps.{Took, bound, chosen, guarded, answered, Spelled, ◌⨾◌, no_words, respelled, one_word, one_plain, seen, mark_plain, identifier_took, Part, Parts, behind}
-
--- of a parameter nothing more is asked
-abbrev pub AnyParam : Param → Type 0
-AnyParam x = ⊤
+use Rattle.sl_grammar.proofs.SoundSteps.{Took, bound, chosen, guarded, answered, one_word, one_plain, seen, mark_plain, identifier_took, Part, Parts, behind}
+use Rattle.sl_grammar.proofs.Spelling.{Spelled, ◌⨾◌, no_words, respelled}
 
 -- what is read from these tokens
 abbrev pub DeclarationAt : ℕ → List Token → Took Declaration → Type 0
@@ -39,7 +37,7 @@ abbrev pub InitializerAt : ℕ → List Token → Took Initializer → Type 0
 InitializerAt room ts y = Part initializer_written IsInitializer initializer_height room ts y.0 y.1
 
 abbrev pub ParamAt : ℕ → List Token → Took Param → Type 0
-ParamAt room ts y = Part param_written AnyParam param_height room ts y.0 y.1
+ParamAt room ts y = Part param_written Anything param_height room ts y.0 y.1
 
 int-by : (kind : Kind) (ts : List Token) (y : Unit {0} × List Token) → kind_at ts ≡ kind → int_by kind ts ≡ Ok y
     → Spelled (plain (scalar_word c.Int) ∷ []) ts y.1
@@ -48,7 +46,7 @@ int-by (k.Scalar c.Int) ts y e h = answered _ y (λ z. Spelled (plain (scalar_wo
 int-by (k.Scalar _) ts y e h = absurd cc
 int-by _ ts y e h = absurd cc
 
-int-took : (ts : List Token) (y : Unit {0} × List Token) → int ts ≡ Ok y → Spelled (plain (scalar_word c.Int) ∷ []) ts y.1
+pub int-took : (ts : List Token) (y : Unit {0} × List Token) → int ts ≡ Ok y → Spelled (plain (scalar_word c.Int) ∷ []) ts y.1
 unfolding int
 int-took ts y h = int-by (kind_at ts) ts y refl h
 
@@ -69,7 +67,7 @@ elements-took true ts y h =
     answered _ y P h5 (mark_plain m.Less ts u less
     ⨾ (int-took u.1 x one ⨾ (mark_plain m.Comma x.1 a comma ⨾ (int-took a.1 b two ⨾ mark_plain m.Greater b.1 v greater)))))))))
 
-type-took : (form : Form) (ts : List Token) (y : ContainerType × List Token) → kind_at ts ≡ k.Container form → container_type form ts ≡ Ok y
+pub type-took : (form : Form) (ts : List Token) (y : ContainerType × List Token) → kind_at ts ≡ k.Container form → container_type form ts ≡ Ok y
     → Spelled (container_written y.0) ts y.1
 unfolding container_type
 type-took form ts y e h =
@@ -77,22 +75,32 @@ type-took form ts y e h =
     bound (elements_by (is_map form) (drop 1 ts)) _ y P h (λ u elements h1.
     answered _ y P h1 (one_word ts (k.Container form) (form_word form) e refl ⨾ elements-took (is_map form) (drop 1 ts) u elements))
 
+pub scalar-written : (place : Place) (scalar : Scalar) (x : Identifier) (v : Option Expr)
+    → at place (scalar_word scalar) ∷ s.named x ∷ option_written value_written v ≡ declaration_written (t.declares_scalar place scalar x v)
+scalar-written place scalar x None = refl
+scalar-written place scalar x (Some v) = refl
+
+-- what stands before the elements
+abbrev pub opening : Bool → List Written
+opening true = s.mark m.Equal ∷ s.mark m.LeftBrace ∷ []
+opening false = s.mark m.LeftBrace ∷ []
+
+pub braces-written : (equal : Bool) (xs : Exprs)
+    → opening equal ++ (list_written xs ++ s.mark m.RightBrace ∷ []) ≡ initializer_written (t.braces equal xs)
+braces-written true xs = refl
+braces-written false xs = refl
+
 module _ (room : ℕ) where
   value-part : Parts (option_written value_written) (IfThere IsExpr) (option_height height) room (optional_value room)
   unfolding optional_value
   value-part ts y h =
       let P : Took (Option Expr) → Type 0 = λ z. Part (option_written value_written) (IfThere IsExpr) (option_height height) room ts z.0 z.1 in
-      chosen (is_mark m.Equal (kind_at ts)) _ _ y P h
+      chosen (is_mark m.Equal (kind_at ts)) _ _ _ (P y) h
       (λ equal h1.
       bound (expr (room + 1) 1 (drop 1 ts)) _ y P h1 (λ x read h2.
-      let found = expr-part room 1 (omega arith) (omega arith) (drop 1 ts) x read in
+      let found = whole-part room (drop 1 ts) x read in
       answered _ y P h2 (record { spelled = seen m.Equal ts equal ⨾ found.spelled; fits = found.fits; size = found.size; low = found.low })))
       (λ bare h1. answered _ y P h1 (record { spelled = no_words ts; fits = tt; size = refl; low = omega arith }))
-
-  scalar-written : (place : Place) (scalar : Scalar) (x : Identifier) (v : Option Expr)
-      → at place (scalar_word scalar) ∷ s.named x ∷ option_written value_written v ≡ declaration_written (t.declares_scalar place scalar x v)
-  scalar-written place scalar x None = refl
-  scalar-written place scalar x (Some v) = refl
 
   pub scalar-part : (scalar : Scalar) (ts : List Token) (y : Took Declaration) → kind_at ts ≡ k.Scalar scalar
       → scalar_declaration room scalar ts ≡ Ok y
@@ -119,7 +127,7 @@ module _ (room : ℕ) where
       bound (identifier (drop 1 ts)) _ y P h (λ x name h1.
       bound (mark m.Equal x.1) _ y P h1 (λ u equal h2.
       bound (expr (room + 1) 1 u.1) _ y P h2 (λ v read h3.
-      let found = expr-part room 1 (omega arith) (omega arith) u.1 v read in
+      let found = whole-part room u.1 v read in
       answered _ y P h3 (record {
         spelled = one_word ts k.Auto (w.Key (codes "auto")) e refl
             ⨾ (identifier_took (drop 1 ts) x name ⨾ (mark_plain m.Equal x.1 u equal ⨾ found.spelled));
@@ -128,20 +136,10 @@ module _ (room : ℕ) where
         low = omega (arith, found.low);
       }))))
 
-  inner-part : (ts : List Token) (y : Took Expr) → expr room 1 ts ≡ Ok y → (0 < room) × Part written IsExpr height (room - 1) ts y.0 y.1
+  pub inner-part : (ts : List Token) (y : Took Expr) → expr room 1 ts ≡ Ok y → (0 < room) × Part written IsExpr height (room - 1) ts y.0 y.1
   inner-part ts y h =
       let found = sound room 1 ts y (omega arith) (omega arith) h in
       (found.0, found.1.part)
-
-  -- what stands before the elements
-  abbrev opening : Bool → List Written
-  opening true = s.mark m.Equal ∷ s.mark m.LeftBrace ∷ []
-  opening false = s.mark m.LeftBrace ∷ []
-
-  braces-written : (equal : Bool) (xs : Exprs)
-      → opening equal ++ (list_written xs ++ s.mark m.RightBrace ∷ []) ≡ initializer_written (t.braces equal xs)
-  braces-written true xs = refl
-  braces-written false xs = refl
 
   braces-part : (equal : Bool) (ts us : List Token) (y : Took Initializer) → Spelled (opening equal) ts us → braces room equal us ≡ Ok y
       → InitializerAt room ts y
@@ -151,7 +149,7 @@ module _ (room : ℕ) where
       bound (list_before (expr (room + 1) 1) (expr room 1) room m.RightBrace us) _ y P h (λ xs read h1.
       bound (mark m.RightBrace xs.1) _ y P h1 (λ v closed h2.
       let found = list-before-part (expr (room + 1) 1) (expr room 1) room
-      (expr-part room 1 (omega arith) (omega arith)) inner-part m.RightBrace us xs read in
+      (whole-part room) inner-part m.RightBrace us xs read in
       answered _ y P h2 (record {
         spelled = respelled (braces-written equal xs.0.0) (opened ⨾ (found.spelled ⨾ mark_plain m.RightBrace xs.1 v closed));
         fits = found.fits;
@@ -177,7 +175,7 @@ module _ (room : ℕ) where
       let P : Took Initializer → Type 0 = InitializerAt room ts in
       bound (list (expr (room + 1) 1) (expr room 1) room (drop 1 ts)) _ y P h (λ xs read h1.
       bound (mark m.RightParenthesis xs.1) _ y P h1 (λ v closed h2.
-      let found = list-part (expr (room + 1) 1) (expr room 1) room (expr-part room 1 (omega arith) (omega arith)) inner-part (drop 1 ts) xs read in
+      let found = list-part (expr (room + 1) 1) (expr room 1) room (whole-part room) inner-part (drop 1 ts) xs read in
       answered _ y P h2 (record {
         spelled = one_plain ts (k.Mark m.LeftParenthesis) (w.Mark m.LeftParenthesis) e refl
             ⨾ (found.spelled ⨾ mark_plain m.RightParenthesis xs.1 v closed);
@@ -228,7 +226,7 @@ unfolding scalar_param
 scalar_param-part scalar ts y e h =
     let P : Took Param → Type 0 = ParamAt 2 ts in
     let first = one_word ts (k.Scalar scalar) (scalar_word scalar) e refl in
-    chosen (is_mark m.And (kind_at (drop 1 ts))) _ _ y P h
+    chosen (is_mark m.And (kind_at (drop 1 ts))) _ _ _ (P y) h
     (λ sees h1.
     bound (identifier (drop 1 (drop 1 ts))) _ y P h1 (λ x name h2.
     answered _ y P h2 (record {
@@ -256,7 +254,7 @@ container_param-part form ts y e h =
       low = omega arith;
     }))))
 
-by-took : (kind : Kind) (ts : List Token) (y : ContainerType × List Token) → kind_at ts ≡ kind → container_by kind ts ≡ Ok y
+pub by-took : (kind : Kind) (ts : List Token) (y : ContainerType × List Token) → kind_at ts ≡ kind → container_by kind ts ≡ Ok y
     → Spelled (container_written y.0) ts y.1
 by-took (k.Container form) ts y e h = type-took form ts y e h
 by-took _ ts y e h = absurd cc
@@ -282,34 +280,27 @@ param-by (k.Container form) ts y e h = container_param-part form ts y e h
 param-by k.Const ts y e h = const_param-part ts y e h
 param-by _ ts y e h = absurd cc
 
-param-part : Parts param_written AnyParam param_height 2 param
+pub param-part : Parts param_written Anything param_height 2 param
 unfolding param
 param-part ts y h = param-by (kind_at ts) ts y refl h
 
--- a parameter behind a comma
-abbrev comma_written : Param → List Written
-comma_written x = s.mark m.Comma ∷ param_written x
-
-comma-part : Parts comma_written AnyParam param_height 2 comma_param
+pub comma-part : Parts comma_param_written Anything param_height 2 comma_param
 comma-part ts y h =
-    let P : Took Param → Type 0 = λ z. Part comma_written AnyParam param_height 2 ts z.0 z.1 in
+    let P : Took Param → Type 0 = λ z. Part comma_param_written Anything param_height 2 ts z.0 z.1 in
     bound (mark m.Comma ts) _ y P h (λ u comma h1.
     let found = param-part u.1 y h1 in
     record { spelled = mark_plain m.Comma ts u comma ⨾ found.spelled; fits = tt; size = found.size; low = found.low })
 
-abbrev pub AnyParams : List Param → Type 0
-AnyParams xs = ⊤
-
-pub params-part : Parts params_written AnyParams (highest param_height) 2 params
+pub params-part : Parts params_written Anything (highest param_height) 2 params
 unfolding params
 params-part ts y h =
-    let P : Took (List Param) → Type 0 = λ z. Part params_written AnyParams (highest param_height) 2 ts z.0 z.1 in
-    chosen (is_mark m.RightParenthesis (kind_at ts)) _ _ y P h
+    let P : Took (List Param) → Type 0 = λ z. Part params_written Anything (highest param_height) 2 ts z.0 z.1 in
+    chosen (is_mark m.RightParenthesis (kind_at ts)) _ _ _ (P y) h
     (λ closes h1. answered _ y P h1 (record { spelled = no_words ts; fits = tt; size = refl; low = omega arith }))
     (λ opens h1.
     bound (param ts) _ y P h1 (λ x one h2.
     let first = param-part ts x one in
-    let others = behind comma_written AnyParam param_height 2 (is_mark m.Comma) comma_param comma-part (x.0.0 ∷ [], x.0.1) x.1 y h2 in
+    let others = behind comma_param_written Anything param_height 2 (is_mark m.Comma) comma_param comma-part (x.0.0 ∷ [], x.0.1) x.1 y h2 in
     record {
       spelled = rw others.all (first.spelled ⨾ others.spelled);
       fits = tt;

@@ -1,8 +1,9 @@
 -- What is read as an effect or a condition is the words of one that follows the grammar.
 use Rattle.std.proofs.Common.{◌≡◌, ℕ, ◌+◌, ◌-◌, ◌<◌, true, List, [], ◌∷◌, Option, Some, None, Ok, refl, sym, ap, ◌∙◌, arith, drop}
-use Rattle.std.specs.Prelude.{nat_lt, ◌&&◌, codes, ⊤}
+use Rattle.std.specs.Prelude.{nat_lt, ◌&&◌, codes}
 use Rattle.std.proofs.lemmas.Bool.{ltb-true, false≢true}
 use Rattle.sl_base.specs.declared.mark.Mark.TheVariants as m
+use Rattle.sl_base.specs.declared.place.Place.{Place}
 use Rattle.sl_base.specs.declared.token.Token.{Token}
 use Rattle.sl_base.specs.declared.word.Word.TheVariants as w
 use Rattle.sl_syntax.specs.declared.kind.Kind.{Kind}
@@ -12,29 +13,19 @@ use Rattle.sl_syntax.specs.declared.tree.effect.Read.{Read}
 use Rattle.sl_syntax.specs.declared.tree.identifier.Identifier.{Identifier}
 use Rattle.sl_syntax.specs.Depth.{height, out_height, effect_height, cond_height}
 use Rattle.sl_syntax.specs.Shaped.{IsExpr, IsRead, IsOut, IsEffect, IsCond}
-use Rattle.sl_syntax.specs.Tree as t
 use Rattle.sl_syntax.specs.Tree.{Expr, Out, Effect, Cond}
-use Rattle.sl_syntax.specs.Written as s
-use Rattle.sl_syntax.specs.Written.{Written, at, assignment_mark, written, out_written, read_written, effect_written, cond_written}
+use Rattle.sl_syntax.specs.Written.{assignment_mark, written, out_written, read_written, effect_written, cond_written}
 use Rattle.sl_grammar.specs.Effects.{shifted_name, read, is_input, out_by, shifted_out, print, assignment_of, assigned_by, assigned, effect_by, effect, begins_no_read, no_read, cond_by}
 use Rattle.sl_grammar.specs.Effects as effects
 use Rattle.sl_grammar.specs.Expressions.{expr}
 use Rattle.sl_grammar.specs.Steps.{Tall, kind_at, is_mark, mark, identifier, all_behind}
-use Rattle.sl_grammar.proofs.KindLaws.{is_mark_kind}
-use Rattle.sl_grammar.proofs.SoundExpressions.{sound, expr-part}
-use Rattle.sl_grammar.proofs.SoundSteps.{Took, bound, some_one, both, chosen, guarded, answered, ◌⨾◌, one_word, one_text, mark_plain, mark_rest, identifier_took, Part, Parts, behind}
+use Rattle.sl_grammar.proofs.KindLaws.{is_mark_kind, some_one, both}
+use Rattle.sl_grammar.proofs.Rows.{Anything, name_written, flat, shifted_written}
+use Rattle.sl_grammar.proofs.SoundExpressions.{sound, whole-part}
+use Rattle.sl_grammar.proofs.SoundSteps.{Took, bound, chosen, guarded, answered, one_word, one_text, mark_plain, mark_rest, identifier_took, Part, Parts, behind}
+use Rattle.sl_grammar.proofs.Spelling.{◌⨾◌}
 
--- `>> x`
-abbrev name_written : Identifier → List Written
-name_written x = s.mark m.ShiftRight ∷ s.named x ∷ []
-
-abbrev Anything : Identifier → Type 0
-Anything x = ⊤
-
-abbrev flat : Identifier → ℕ
-flat x = 0
-
-shifted_name-part : Parts name_written Anything flat 0 shifted_name
+pub shifted_name-part : Parts name_written Anything flat 0 shifted_name
 unfolding shifted_name
 shifted_name-part ts y h =
     let P : Took Identifier → Type 0 = λ z. Part name_written Anything flat 0 ts z.0 z.1 in
@@ -81,16 +72,35 @@ read-part room ts y e h =
       low = omega arith;
     }))))
 
-module _ (room : ℕ) where
-  value-out : (ts : List Token) (y : Took Expr) → expr room 5 ts ≡ Ok y → Part out_written IsOut out_height (room - 1) ts (t.value y.0.0, y.0.1) y.1
-  value-out ts y h =
-      let found = sound room 5 ts y (omega arith) (omega arith) h in
-      record { spelled = found.1.part.spelled; fits = (found.1.tight, found.1.part.fits); size = found.1.part.size; low = found.1.part.low }
+is_input_kind : (kind : Kind) → is_input kind ≡ true → kind ≡ k.Input
+is_input_kind k.Input h = refl
+is_input_kind _ h = absurd (false≢true h)
 
+drop_twice : (ts : List Token) → drop 2 ts ≡ drop 1 (drop 1 ts)
+drop_twice [] = refl
+drop_twice (x ∷ ts) = refl
+
+-- `!(std::cin`, where there is room for it
+pub no_read-begins : (room : ℕ) (ts : List Token) → nat_lt 1 room && begins_no_read room ts ≡ true
+    → (1 < room) × (is_mark m.Not (kind_at ts) ≡ true) × (is_input (kind_at (drop 2 ts)) ≡ true)
+no_read-begins room ts begins =
+    let high = both (nat_lt 1 room) (begins_no_read room ts) begins in
+    let input = both (is_mark m.Not (kind_at ts) && is_mark m.LeftParenthesis (kind_at (drop 1 ts))) (is_input (kind_at (drop 2 ts))) high.1 in
+    (ltb-true 1 room high.0, (both (is_mark m.Not (kind_at ts)) (is_mark m.LeftParenthesis (kind_at (drop 1 ts))) input.0).0, input.1)
+
+-- what stands behind its `(`
+pub input-behind : (ts : List Token) (u : Place × List Token) → mark m.LeftParenthesis (drop 1 ts) ≡ Ok u → is_input (kind_at (drop 2 ts)) ≡ true
+    → kind_at u.1 ≡ k.Input
+input-behind ts u opened input =
+    ap kind_at (mark_rest m.LeftParenthesis (drop 1 ts) u opened ∙ sym (drop_twice ts)) ∙ is_input_kind (kind_at (drop 2 ts)) input
+
+module _ (room : ℕ) where
   value-part : (ts : List Token) (y : Took Out) → out_by room k.End ts ≡ Ok y → OutAt (room - 1) ts y
   value-part ts y h =
       let P : Took Out → Type 0 = OutAt (room - 1) ts in
-      bound (expr room 5 ts) _ y P h (λ x read h1. answered _ y P h1 (value-out ts x read))
+      bound (expr room 5 ts) _ y P h (λ x read h1.
+      let found = (sound room 5 ts x (omega arith) (omega arith) read).1 in
+      answered _ y P h1 (record { spelled = found.part.spelled; fits = (found.tight, found.part.fits); size = found.part.size; low = found.part.low }))
 
   out-by : (kind : Kind) (ts : List Token) (y : Took Out) → kind_at ts ≡ kind → out_by room kind ts ≡ Ok y → OutAt (room - 1) ts y
   out-by k.Text ts y e h = answered _ y (OutAt (room - 1) ts) h
@@ -99,11 +109,7 @@ module _ (room : ℕ) where
       (record { spelled = one_word ts k.EndLine (w.Lib (codes "endl")) e refl; fits = tt; size = refl; low = omega arith })
   out-by _ ts y e h = value-part ts y h
 
-  -- `<< x`
-  abbrev shifted_written : Out → List Written
-  shifted_written x = s.mark m.ShiftLeft ∷ out_written x
-
-  shifted-part : Parts shifted_written IsOut out_height (room - 1) (shifted_out room)
+  pub shifted-part : Parts shifted_written IsOut out_height (room - 1) (shifted_out room)
   unfolding shifted_out
   shifted-part ts y h =
       let P : Took Out → Type 0 = λ z. Part shifted_written IsOut out_height (room - 1) ts z.0 z.1 in
@@ -129,7 +135,7 @@ module _ (room : ℕ) where
         low = omega (arith, above, first.size, first.low, others.size, others.low);
       }))))
 
-  assignment-mark : (kind : Kind) (op : Assignment) → assignment_of room kind ≡ Some op → kind ≡ k.Mark (assignment_mark op)
+  pub assignment-mark : (kind : Kind) (op : Assignment) → assignment_of room kind ≡ Some op → kind ≡ k.Mark (assignment_mark op)
   assignment-mark (k.Mark m.Equal) op h = ap (λ (o : Assignment). k.Mark (assignment_mark o)) (some_one h)
   assignment-mark (k.Mark m.PlusEqual) op h = ap (λ (o : Assignment). k.Mark (assignment_mark o)) (some_one h)
   assignment-mark (k.Mark m.MinusEqual) op h = ap (λ (o : Assignment). k.Mark (assignment_mark o)) (some_one h)
@@ -163,7 +169,7 @@ module _ (room : ℕ) where
   value-effect ts y h =
       let P : Took Effect → Type 0 = EffectAt room ts in
       bound (expr (room + 1) 1 ts) _ y P h (λ x read h1.
-      assigned-by (assignment_of room (kind_at x.1)) ts x.1 x.0 y (expr-part room 1 (omega arith) (omega arith) ts x read) refl h1)
+      assigned-by (assignment_of room (kind_at x.1)) ts x.1 x.0 y (whole-part room ts x read) refl h1)
 
   effect-by : (kind : Kind) (ts : List Token) (y : Took Effect) → kind_at ts ≡ kind → effect_by room kind ts ≡ Ok y → EffectAt room ts y
   effect-by k.Input ts y e h =
@@ -178,14 +184,6 @@ module _ (room : ℕ) where
   unfolding effect
   effect-part ts y h = effect-by (kind_at ts) ts y refl h
 
-  is_input_kind : (kind : Kind) → is_input kind ≡ true → kind ≡ k.Input
-  is_input_kind k.Input h = refl
-  is_input_kind _ h = absurd (false≢true h)
-
-  drop_twice : (ts : List Token) → drop 2 ts ≡ drop 1 (drop 1 ts)
-  drop_twice [] = refl
-  drop_twice (x ∷ ts) = refl
-
   no_read-part : (ts : List Token) (y : Took Cond) → 1 < room → is_mark m.Not (kind_at ts) ≡ true → is_input (kind_at (drop 2 ts)) ≡ true
       → no_read room ts ≡ Ok y
       → CondAt room ts y
@@ -195,8 +193,7 @@ module _ (room : ℕ) where
       bound (mark m.LeftParenthesis (drop 1 ts)) _ y P h (λ u opened h1.
       bound (read room u.1) _ y P h1 (λ r reads h2.
       bound (mark m.RightParenthesis r.1) _ y P h2 (λ v closed h3.
-      let at_input : drop 2 ts ≡ u.1 = drop_twice ts ∙ sym (mark_rest m.LeftParenthesis (drop 1 ts) u opened) in
-      let kind : kind_at u.1 ≡ k.Input = ap kind_at (sym at_input) ∙ is_input_kind (kind_at (drop 2 ts)) input in
+      let kind = input-behind ts u opened input in
       let found = read-part room u.1 r kind reads in
       answered _ y P h3 (record {
         spelled = one_word ts (k.Mark m.Not) (w.Mark m.Not) (is_mark_kind m.Not (kind_at ts) sees) refl
@@ -209,15 +206,13 @@ module _ (room : ℕ) where
   value-cond : (ts : List Token) (y : Took Cond) → cond_by room k.End ts ≡ Ok y → CondAt room ts y
   value-cond ts y h =
       let P : Took Cond → Type 0 = CondAt room ts in
-      chosen (nat_lt 1 room && begins_no_read room ts) _ _ y P h
+      chosen (nat_lt 1 room && begins_no_read room ts) _ _ _ (P y) h
       (λ begins h1.
-      let high = both (nat_lt 1 room) (begins_no_read room ts) begins in
-      let input = both (is_mark m.Not (kind_at ts) && is_mark m.LeftParenthesis (kind_at (drop 1 ts))) (is_input (kind_at (drop 2 ts))) high.1 in
-      let sees = both (is_mark m.Not (kind_at ts)) (is_mark m.LeftParenthesis (kind_at (drop 1 ts))) input.0 in
-      no_read-part ts y (ltb-true 1 room high.0) sees.0 input.1 h1)
+      let of = no_read-begins room ts begins in
+      no_read-part ts y of.0 of.1 of.2 h1)
       (λ other h1.
       bound (expr (room + 1) 1 ts) _ y P h1 (λ x read h2.
-      let found = expr-part room 1 (omega arith) (omega arith) ts x read in
+      let found = whole-part room ts x read in
       answered _ y P h2 (record { spelled = found.spelled; fits = found.fits; size = found.size; low = found.low })))
 
   cond-by : (kind : Kind) (ts : List Token) (y : Took Cond) → kind_at ts ≡ kind → cond_by room kind ts ≡ Ok y → CondAt room ts y

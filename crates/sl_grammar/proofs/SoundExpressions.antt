@@ -17,7 +17,8 @@ use Rattle.sl_syntax.specs.Written.{binary_mark, postfix_mark, written}
 use Rattle.sl_grammar.specs.Expressions.{infix_of, binds_or, piece_level, goes_on, arguments, operand, indexed, dotted, pointed, postfixed, piece_by, piece, combined, operation_by, operation, climb, from_operand, expr}
 use Rattle.sl_grammar.specs.Steps.{Reader, Tall, kind_at, is_mark, mark, identifier}
 use Rattle.sl_grammar.proofs.SoundOperands.{Found, Left, Finds, goes-low, binary-low, infix-mark, arguments-part, operand-left}
-use Rattle.sl_grammar.proofs.SoundSteps.{Took, bound, chosen, guarded, answered, ◌⨾◌, one_word, one_plain, mark_plain, identifier_took, Part, Parts}
+use Rattle.sl_grammar.proofs.SoundSteps.{Took, bound, chosen, guarded, answered, one_word, one_plain, mark_plain, identifier_took, Part, Parts}
+use Rattle.sl_grammar.proofs.Spelling.{◌⨾◌}
 
 module _ (inner smaller : ℕ → Reader (Tall Expr)) (room : ℕ) (f : Finds inner room) (g : Finds smaller (room - 1)) (ts : List Token)
     (left : Tall Expr) (us : List Token) where
@@ -74,7 +75,7 @@ module _ (inner smaller : ℕ → Reader (Tall Expr)) (room : ℕ) (f : Finds in
       let P : Took Expr → Type 0 = Longer 8 in
       bound (identifier (drop 1 us)) _ y P h (λ x name h1.
       let member = identifier_took (drop 1 us) x name in
-      chosen (is_mark m.LeftParenthesis (kind_at x.1)) _ _ y P h1
+      chosen (is_mark m.LeftParenthesis (kind_at x.1)) _ _ _ (P y) h1
       (λ calls h2.
       bound (arguments inner smaller room x.1) _ y P h2 (λ xs read h3.
       let found = arguments-part inner smaller room f g (omega arith) x.1 xs read in
@@ -147,7 +148,7 @@ module _ (inner smaller : ℕ → Reader (Tall Expr)) (room : ℕ) (f : Finds in
   operation-by (Some op) y first below goes e h = binary-longer op y first below goes e h
   operation-by None y first below goes e h = piece-by (kind_at us) y first below goes refl h
 
-  operation-longer : (y : Took Expr) → Left room 1 ts left us → left.1 < room → operation inner smaller room left us ≡ Ok y
+  pub operation-longer : (y : Took Expr) → Left room 1 ts left us → left.1 < room → operation inner smaller room left us ≡ Ok y
       → Longer (goes_on (kind_at us)) y
   unfolding operation
   operation-longer y first below h = operation-by (infix_of (kind_at us)) y first.part below first.goes refl h
@@ -162,7 +163,7 @@ module _ (inner smaller : ℕ → Reader (Tall Expr)) (room : ℕ) (f : Finds in
       answered _ y P h1 (record { part = first.part; tight = first.tight; stops = ltb-true (goes_on (kind_at us)) least stop }))
   climb-found (suc n) least ts left us y one first h =
       let P : Took Expr → Type 0 = λ z. Found room least ts z.0 z.1 in
-      chosen (nat_lt (goes_on (kind_at us)) least) _ _ y P h
+      chosen (nat_lt (goes_on (kind_at us)) least) _ _ _ (P y) h
       (λ stop h1. answered _ y P h1 (record { part = first.part; tight = first.tight; stops = ltb-true (goes_on (kind_at us)) least stop }))
       (λ on h1.
       let some : least ≤ goes_on (kind_at us) = ltb-false (goes_on (kind_at us)) least on in
@@ -191,9 +192,9 @@ sound (suc zero) least ts y one low h =
 sound (suc (suc n)) least ts y one low h =
     (omega arith, rw sub-one (from_operand-found (expr (suc n)) (expr n) (suc n) (sound (suc n)) (rw sub-one (sound n)) least ts y one low h))
 
--- the same, of a depth that isn't 0
-pub expr-part : (room least : ℕ) → 1 ≤ least → least ≤ 7 → Parts written IsExpr height room (expr (room + 1) least)
-expr-part room least one low ts y h =
-    let found = sound (room + 1) least ts y one low h in
+-- the same, of a whole expression that has so much room
+pub whole-part : (room : ℕ) → Parts written IsExpr height room (expr (room + 1) 1)
+whole-part room ts y h =
+    let found = sound (room + 1) 1 ts y (omega arith) (omega arith) h in
     let same : room + 1 - 1 ≡ room = omega arith in
     (rw same at found.1).part

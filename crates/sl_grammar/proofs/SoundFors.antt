@@ -15,75 +15,80 @@ use Rattle.sl_syntax.specs.declared.tree.identifier.Identifier.{Identifier}
 use Rattle.sl_syntax.specs.Depth.{height, option_height, effect_height, cond_height, first_height}
 use Rattle.sl_syntax.specs.Shaped.{IsExpr, IfThere, IsEffect, IsCond, IsFirst}
 use Rattle.sl_syntax.specs.Tree as t
-use Rattle.sl_syntax.specs.Tree.{Expr, Declaration, Effect, Cond, First, Stmt, Item, Items, items_from, Function, Program}
+use Rattle.sl_syntax.specs.Tree.{Expr, Effect, Cond, First, Stmt}
 use Rattle.sl_syntax.specs.Written as s
-use Rattle.sl_syntax.specs.Written.{Written, at, plain, scalar_word, element_word, result_word, written, value_written, declaration_written, option_written, effect_written, cond_written, first_written, tested, stmt_written, item_written, items_written, params_written, function_written, program_written}
+use Rattle.sl_syntax.specs.Written.{Written, at, scalar_word, element_word, value_written, option_written, effect_written, cond_written, first_written, tested}
 use Rattle.sl_grammar.specs.Effects.{effect}
 use Rattle.sl_grammar.specs.Effects as effects
 use Rattle.sl_grammar.specs.Expressions.{expr}
 use Rattle.sl_grammar.specs.Statements.{ranges, is_auto, first_of, optional_cond, optional_effect, for_behind, range_behind, valued_first, variable_behind, declared_first, for_by, for_loop}
 use Rattle.sl_grammar.specs.Steps.{Reader, Tall, kind_at, here, is_mark, mark, identifier}
-use Rattle.sl_grammar.proofs.KindLaws.{fixed}
+use Rattle.sl_grammar.proofs.KindLaws.{fixed, both}
+use Rattle.sl_grammar.proofs.SoundBlocks.{FoundStmt, Finds}
 use Rattle.sl_grammar.proofs.SoundEffects.{effect-part, cond-part}
 use Rattle.sl_grammar.proofs.SoundExpressions.{sound}
-use Rattle.sl_grammar.proofs.SoundSteps.{Took, bound, both, chosen, guarded, answered, Spelled, ◌⨾◌, no_words, respelled, one_word, one_plain, mark_plain, identifier_took, Part, Parts}
-use Rattle.sl_grammar.proofs.SoundBlocks.{FoundStmt, Finds}
+use Rattle.sl_grammar.proofs.SoundSteps.{Took, bound, chosen, guarded, answered, one_word, one_plain, mark_plain, identifier_took, Part, Parts}
+use Rattle.sl_grammar.proofs.Spelling.{Spelled, ◌⨾◌, no_words, respelled}
 
 -- what stands before the first `;` of a `for`
-abbrev head_written : Place → Option First → List Written
+abbrev pub head_written : Place → Option First → List Written
 head_written place first = at place (w.Key (codes "for")) ∷ s.mark m.LeftParenthesis ∷ option_written first_written first
 
 -- the word of a type, where None is `auto`
-abbrev type_word : Option Scalar → Word
+abbrev pub type_word : Option Scalar → Word
 type_word None = w.Key (codes "auto")
 type_word (Some scalar) = scalar_word scalar
 
-abbrev type_kind : Option Scalar → Kind
+abbrev pub type_kind : Option Scalar → Kind
 type_kind None = k.Auto
 type_kind (Some scalar) = k.Scalar scalar
 
-type-fixed : (type : Option Scalar) → fixed (type_kind type) ≡ Some (type_word type)
+pub type-fixed : (type : Option Scalar) → fixed (type_kind type) ≡ Some (type_word type)
 type-fixed None = refl
 type-fixed (Some scalar) = refl
 
 -- a type that a range-for's variable may have
-element-word : (type : Option Scalar) → ranges type ≡ true → type_word type ≡ element_word (is_auto type)
+pub element-word : (type : Option Scalar) → ranges type ≡ true → type_word type ≡ element_word (is_auto type)
 element-word None h = refl
 element-word (Some c.Int) h = refl
 element-word (Some _) h = absurd (false≢true h)
 
 -- a first part that declares a variable
-first-written : (type : Option Scalar) (place : Place) (x : Identifier) (v : Expr)
+pub first-written : (type : Option Scalar) (place : Place) (x : Identifier) (v : Expr)
     → at place (type_word type) ∷ s.named x ∷ value_written v ≡ first_written (first_of type place x v)
 first-written None place x v = refl
 first-written (Some scalar) place x v = refl
 
-first-fits : (type : Option Scalar) (place : Place) (x : Identifier) (v : Expr) → IsExpr v → IsFirst (first_of type place x v)
+pub first-fits : (type : Option Scalar) (place : Place) (x : Identifier) (v : Expr) → IsExpr v → IsFirst (first_of type place x v)
 first-fits None place x v h = h
 first-fits (Some scalar) place x v h = h
 
-first-height : (type : Option Scalar) (place : Place) (x : Identifier) (v : Expr) → first_height (first_of type place x v) ≡ height v + 1
+pub first-height : (type : Option Scalar) (place : Place) (x : Identifier) (v : Expr) → first_height (first_of type place x v) ≡ height v + 1
 first-height None place x v = refl
 first-height (Some scalar) place x v = refl
 
+-- what stands before the first part
+abbrev pub opened_written : Place → List Written
+opened_written place = at place (w.Key (codes "for")) ∷ s.mark m.LeftParenthesis ∷ []
+
 module _ (inner : Reader (Tall Stmt)) (room : ℕ) (f : Finds inner room) where
-  cond-option : Parts (option_written cond_written) (IfThere IsCond) (option_height cond_height) room (optional_cond inner room)
+  pub cond-option : Parts (option_written cond_written) (IfThere IsCond) (option_height cond_height) room (optional_cond inner room)
   unfolding optional_cond
   cond-option ts y h =
       let P : Took (Option Cond) → Type 0 = λ z. Part (option_written cond_written) (IfThere IsCond) (option_height cond_height) room ts z.0 z.1 in
-      chosen (is_mark m.Semicolon (kind_at ts)) _ _ y P h
+      chosen (is_mark m.Semicolon (kind_at ts)) _ _ _ (P y) h
       (λ left_out h1. answered _ y P h1 (record { spelled = no_words ts; fits = tt; size = refl; low = omega arith }))
       (λ there h1.
       bound (effects.cond room ts) _ y P h1 (λ x read h2.
       let found = cond-part room ts x read in
       answered _ y P h2 (record { spelled = found.spelled; fits = found.fits; size = found.size; low = found.low })))
 
-  effect-option : Parts (option_written effect_written) (IfThere IsEffect) (option_height effect_height) room (optional_effect inner room)
+  pub effect-option : Parts (option_written effect_written) (IfThere IsEffect) (option_height effect_height) room (optional_effect inner room)
   unfolding optional_effect
   effect-option ts y h =
       let P : Took (Option Effect) → Type 0 =
       λ z. Part (option_written effect_written) (IfThere IsEffect) (option_height effect_height) room ts z.0 z.1 in
-      chosen (is_mark m.RightParenthesis (kind_at ts)) _ _ y P h
+      chosen (is_mark m.RightParenthesis (kind_at ts)) _ _ _ (P y) h
       (λ left_out h1. answered _ y P h1 (record { spelled = no_words ts; fits = tt; size = refl; low = omega arith }))
       (λ there h1.
       bound (effect room ts) _ y P h1 (λ x read h2.
@@ -116,10 +121,6 @@ module _ (inner : Reader (Tall Stmt)) (room : ℕ) (f : Finds inner room) where
         closed = body.closed;
       })))))))
 
-  -- what stands before the first part
-  abbrev opened_written : Place → List Written
-  opened_written place = at place (w.Key (codes "for")) ∷ s.mark m.LeftParenthesis ∷ []
-
   range-found : (type : Option Scalar) (ts us : List Token) (x : Identifier × List Token) (y : Took Stmt) → Spelled (opened_written (here ts)) ts us
       → kind_at us ≡ type_kind type → identifier (drop 1 us) ≡ Ok x → ranges type ≡ true
       → range_behind inner room (here ts) (is_auto type) x.0 x.1 ≡ Ok y → FoundStmt (room + 1) ts y.0 y.1
@@ -143,6 +144,23 @@ module _ (inner : Reader (Tall Stmt)) (room : ℕ) (f : Finds inner room) where
         closed = body.closed;
       })))))
 
+  -- a first part that declares a variable, as it was read
+  pub valued-head : (type : Option Scalar) (ts us : List Token) (x : Identifier × List Token) (u : Place × List Token) (v : Took Expr)
+      → Spelled (opened_written (here ts)) ts us → kind_at us ≡ type_kind type → identifier (drop 1 us) ≡ Ok x → mark m.Equal x.1 ≡ Ok u
+      → expr room 1 u.1 ≡ Ok v
+      → Part (head_written (here ts)) (IfThere IsFirst) (option_height first_height) room ts (Some (first_of type (here us) x.0 v.0.0), v.0.1 + 1) v.1
+  valued-head type ts us x u v opened e name equal read =
+      let found = sound room 1 u.1 v (omega arith) (omega arith) read in
+      let declares : Spelled (first_written (first_of type (here us) x.0 v.0.0)) us v.1 = respelled (first-written type (here us) x.0 v.0.0)
+      (one_word us (type_kind type) (type_word type) e (type-fixed type)
+      ⨾ (identifier_took (drop 1 us) x name ⨾ (mark_plain m.Equal x.1 u equal ⨾ found.1.part.spelled))) in
+      record {
+        spelled = opened ⨾ declares;
+        fits = first-fits type (here us) x.0 v.0.0 found.1.part.fits;
+        size = omega (arith, found.1.part.size, first-height type (here us) x.0 v.0.0);
+        low = omega (arith, found.0, found.1.part.low);
+      }
+
   valued-found : (type : Option Scalar) (ts us : List Token) (x : Identifier × List Token) (y : Took Stmt) → Spelled (opened_written (here ts)) ts us
       → kind_at us ≡ type_kind type → identifier (drop 1 us) ≡ Ok x → valued_first inner room (here ts) (here us) type x.0 x.1 ≡ Ok y
       → FoundStmt (room + 1) ts y.0 y.1
@@ -151,17 +169,7 @@ module _ (inner : Reader (Tall Stmt)) (room : ℕ) (f : Finds inner room) where
       let P : Took Stmt → Type 0 = λ z. FoundStmt (room + 1) ts z.0 z.1 in
       bound (mark m.Equal x.1) _ y P h (λ u equal h1.
       bound (expr room 1 u.1) _ y P h1 (λ v read h2.
-      let found = sound room 1 u.1 v (omega arith) (omega arith) read in
-      let first : First = first_of type (here us) x.0 v.0.0 in
-      let declares : Spelled (first_written first) us v.1 = respelled (first-written type (here us) x.0 v.0.0)
-      (one_word us (type_kind type) (type_word type) e (type-fixed type)
-      ⨾ (identifier_took (drop 1 us) x name ⨾ (mark_plain m.Equal x.1 u equal ⨾ found.1.part.spelled))) in
-      for_behind-found ts v.1 (Some first, v.0.1 + 1) y (record {
-        spelled = opened ⨾ declares;
-        fits = first-fits type (here us) x.0 v.0.0 found.1.part.fits;
-        size = omega (arith, found.1.part.size, first-height type (here us) x.0 v.0.0);
-        low = omega (arith, found.0, found.1.part.low);
-      }) h2))
+      for_behind-found ts v.1 _ y (valued-head type ts us x u v opened e name equal read) h2))
 
   declared-found : (type : Option Scalar) (ts us : List Token) (y : Took Stmt) → Spelled (opened_written (here ts)) ts us
       → kind_at us ≡ type_kind type → declared_first inner room (here ts) type us ≡ Ok y → FoundStmt (room + 1) ts y.0 y.1
@@ -169,7 +177,7 @@ module _ (inner : Reader (Tall Stmt)) (room : ℕ) (f : Finds inner room) where
   declared-found type ts us y opened e h =
       let P : Took Stmt → Type 0 = λ z. FoundStmt (room + 1) ts z.0 z.1 in
       bound (identifier (drop 1 us)) _ y P h (λ x name h1.
-      chosen (ranges type && is_mark m.Colon (kind_at x.1)) _ _ y P h1
+      chosen (ranges type && is_mark m.Colon (kind_at x.1)) _ _ _ (P y) h1
       (λ range h2. range-found type ts us x y opened e name (both (ranges type) (is_mark m.Colon (kind_at x.1)) range).0 h2)
       (λ other h2. valued-found type ts us x y opened e name h2))
 

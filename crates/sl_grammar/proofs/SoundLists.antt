@@ -1,35 +1,20 @@
 -- What is read as a list of expressions is the words of one, where the readers of its expressions read such.
-use Rattle.std.proofs.Common.{◌≡◌, ℕ, ◌+◌, ◌-◌, ◌<◌, max, List, [], ◌∷◌, ◌++◌, Ok, refl, ap, arith}
-use Rattle.std.specs.Prelude.{flat_map, nat_lt}
+use Rattle.std.proofs.Common.{◌≡◌, ℕ, ◌+◌, ◌-◌, ◌<◌, max, List, [], ◌∷◌, Ok, refl, ap, arith}
+use Rattle.std.specs.Prelude.{nat_lt}
 use Rattle.std.proofs.lemmas.Bool.{ltb-true}
 use Rattle.sl_base.specs.declared.mark.Mark.{Mark}
 use Rattle.sl_base.specs.declared.mark.Mark.TheVariants as m
 use Rattle.sl_base.specs.declared.token.Token.{Token}
-use Rattle.sl_syntax.specs.Depth.{height, list_height, rest_height, highest}
-use Rattle.sl_syntax.specs.Shaped.{IsExpr, AreExprs, IsSomeList, Each, AreSome}
+use Rattle.sl_syntax.specs.Depth.{height, list_height, highest}
+use Rattle.sl_syntax.specs.Shaped.{IsExpr, AreExprs, IsSomeList, AreSome}
 use Rattle.sl_syntax.specs.Tree as t
 use Rattle.sl_syntax.specs.Tree.{Expr, Exprs, exprs_from}
-use Rattle.sl_syntax.specs.Written as s
-use Rattle.sl_syntax.specs.Written.{Written, at, binary_mark, prefix_mark, postfix_mark, written, list_written, rest_written}
+use Rattle.sl_syntax.specs.Written.{written, list_written}
 use Rattle.sl_grammar.specs.Expressions.{comma_expr, list_behind, list, list_before}
 use Rattle.sl_grammar.specs.Steps.{Reader, Tall, kind_at, is_mark, mark, all_behind}
-use Rattle.sl_grammar.proofs.SoundSteps.{Took, bound, chosen, guarded, answered, ◌⨾◌, no_words, respelled, mark_plain, Part, Parts, behind, some_items}
-
--- a list behind its first expression
-abbrev comma_written : Expr → List Written
-comma_written x = s.mark m.Comma ∷ written x
-
-rest-written : (xs : List Expr) → flat_map comma_written xs ≡ rest_written (exprs_from xs)
-rest-written [] = refl
-rest-written (x ∷ xs) = ap (λ (l : List Written). s.mark m.Comma ∷ (written x ++ l)) (rest-written xs)
-
-rest-height : (xs : List Expr) → rest_height (exprs_from xs) ≡ highest height xs
-rest-height [] = refl
-rest-height (x ∷ xs) = ap (max (height x)) (rest-height xs)
-
-are_exprs : (xs : List Expr) → Each IsExpr xs → AreExprs (exprs_from xs)
-are_exprs [] h = tt
-are_exprs (x ∷ xs) h = (h.0, are_exprs xs h.1)
+use Rattle.sl_grammar.proofs.Rows.{comma_expr_written, rest-written, rest-height, are_exprs}
+use Rattle.sl_grammar.proofs.SoundSteps.{Took, bound, chosen, guarded, answered, mark_plain, Part, Parts, behind, some_items}
+use Rattle.sl_grammar.proofs.Spelling.{◌⨾◌, no_words, respelled}
 
 list-height : (x : Expr) (xs : List Expr) → AreSome xs → list_height (t.with x (exprs_from xs)) ≡ max (height x) (highest height xs) + 1
 list-height x [] h = absurd (omega arith)
@@ -49,9 +34,9 @@ ListAt room ts y = Part list_written AreExprs list_height room ts y.0 y.1
 -- expressions that are read by one, and by more behind a comma, one node deeper
 module _ (one more : Reader (Tall Expr)) (room : ℕ) (f : Parts written IsExpr height room one)
     (g : (ts : List Token) (y : Took Expr) → more ts ≡ Ok y → (0 < room) × Part written IsExpr height (room - 1) ts y.0 y.1) where
-  comma-part : Parts comma_written IsExpr height (room - 1) (comma_expr one more room)
+  pub comma-part : Parts comma_expr_written IsExpr height (room - 1) (comma_expr one more room)
   comma-part ts y h =
-      let P : Took Expr → Type 0 = λ z. Part comma_written IsExpr height (room - 1) ts z.0 z.1 in
+      let P : Took Expr → Type 0 = λ z. Part comma_expr_written IsExpr height (room - 1) ts z.0 z.1 in
       bound (mark m.Comma ts) _ y P h (λ u comma h1.
       let x = g u.1 y h1 in
       record { spelled = mark_plain m.Comma ts u comma ⨾ x.1.spelled; fits = x.1.fits; size = x.1.size; low = x.1.low })
@@ -62,12 +47,12 @@ module _ (one more : Reader (Tall Expr)) (room : ℕ) (f : Parts written IsExpr 
   unfolding list_behind
   behind-part ts us x y first h =
       let P : Took Exprs → Type 0 = SomeListAt room ts in
-      chosen (is_mark m.Comma (kind_at us)) _ _ y P h
+      chosen (is_mark m.Comma (kind_at us)) _ _ _ (P y) h
       (λ comma h1.
       guarded (nat_lt x.1 room) _ _ y P h1 (λ below h2.
       bound (all_behind (is_mark m.Comma) (comma_expr one more room) ([], 0) us) _ y P h2 (λ xs read h3.
-      let others = behind comma_written IsExpr height (room - 1) (is_mark m.Comma) (comma_expr one more room) comma-part ([], 0) us xs read in
-      let some : AreSome others.items = some_items comma_written (is_mark m.Comma) others.items us xs.1 others.spelled comma others.stops in
+      let others = behind comma_expr_written IsExpr height (room - 1) (is_mark m.Comma) (comma_expr one more room) comma-part ([], 0) us xs read in
+      let some : AreSome others.items = some_items comma_expr_written (is_mark m.Comma) others.items us xs.1 others.spelled comma others.stops in
       let tall : list_height (t.with x.0 (exprs_from others.items)) ≡ max (height x.0) (highest height others.items) + 1 =
       list-height x.0 others.items some in
       let lower : x.1 < room = ltb-true x.1 room below in
@@ -90,7 +75,7 @@ module _ (one more : Reader (Tall Expr)) (room : ℕ) (f : Parts written IsExpr 
   unfolding list_before
   list-before-part close ts y h =
       let P : Took Exprs → Type 0 = ListAt room ts in
-      chosen (is_mark close (kind_at ts)) _ _ y P h
+      chosen (is_mark close (kind_at ts)) _ _ _ (P y) h
       (λ closes h1. answered _ y P h1 (record { spelled = no_words ts; fits = tt; size = refl; low = omega arith }))
       (λ opens h1.
       let found = list-part ts y h1 in

@@ -17,11 +17,13 @@ use Rattle.sl_syntax.specs.Depth.{height, list_height}
 use Rattle.sl_syntax.specs.Shaped.{binary_level, level, IsExpr, AreExprs}
 use Rattle.sl_syntax.specs.Tree.{Expr, Exprs}
 use Rattle.sl_syntax.specs.Written as s
-use Rattle.sl_syntax.specs.Written.{Written, at, binary_mark, prefix_mark, postfix_mark, written, list_written, rest_written}
+use Rattle.sl_syntax.specs.Written.{Written, binary_mark, prefix_mark, written, list_written}
 use Rattle.sl_grammar.specs.Expressions.{infix_of, binds_or, piece_level, goes_on, list_before, arguments, named, library_call, parentheses, prefixed, operand_by, operand}
 use Rattle.sl_grammar.specs.Steps.{Reader, Tall, kind_at, is_mark, mark, identifier, library}
+use Rattle.sl_grammar.proofs.KindLaws.{some_one}
 use Rattle.sl_grammar.proofs.SoundLists.{list-before-part}
-use Rattle.sl_grammar.proofs.SoundSteps.{Took, bound, some_one, chosen, guarded, answered, ◌⨾◌, one_word, one_number, mark_plain, identifier_took, library_took, Part, Parts}
+use Rattle.sl_grammar.proofs.SoundSteps.{Took, bound, chosen, guarded, answered, one_word, one_number, mark_plain, identifier_took, library_took, Part, Parts}
+use Rattle.sl_grammar.proofs.Spelling.{◌⨾◌}
 
 -- what is read, where it stops, and how tightly it binds
 pub record Found (room least : ℕ) (ts : List Token) (p : Tall Expr) (rest : List Token) : Type 0 where
@@ -32,13 +34,9 @@ pub record Found (room least : ℕ) (ts : List Token) (p : Tall Expr) (rest : Li
 -- how tightly operators bind
 pub binary-low : (op : BinaryOperator) → binary_level op ≤ 6
 binary-low binary.Or = omega arith
-binary-low binary.And = omega arith
 binary-low (binary.Comparison comparison.Equal) = omega arith
-binary-low (binary.Comparison comparison.NotEqual) = omega arith
-binary-low (binary.Comparison _) = omega arith
 binary-low (binary.Arithmetic arithmetic.Add) = omega arith
-binary-low (binary.Arithmetic arithmetic.Subtract) = omega arith
-binary-low (binary.Arithmetic _) = omega arith
+binary-low _ = omega arith
 
 piece-low : (kind : Kind) → piece_level kind ≤ 8
 piece-low (k.Mark m.PlusPlus) = omega arith
@@ -88,6 +86,11 @@ abbrev pub arguments_written : Exprs → List Written
 arguments_written xs = s.mark m.LeftParenthesis ∷ (list_written xs ++ s.mark m.RightParenthesis ∷ [])
 
 module _ (inner smaller : ℕ → Reader (Tall Expr)) (room : ℕ) (f : Finds inner room) (g : Finds smaller (room - 1)) where
+  pub list-parts : Parts list_written AreExprs list_height (room - 1) (list_before (inner 1) (smaller 1) (room - 1) m.RightParenthesis)
+  list-parts =
+      list-before-part (inner 1) (smaller 1) (room - 1) (λ us z e. (f 1 us z (omega arith) (omega arith) e).1.part)
+      (λ us z e. ((g 1 us z (omega arith) (omega arith) e).0, (g 1 us z (omega arith) (omega arith) e).1.part)) m.RightParenthesis
+
   pub arguments-part : 0 < room → Parts arguments_written AreExprs list_height (room - 1) (arguments inner smaller room)
   unfolding arguments
   arguments-part high ts y h =
@@ -95,8 +98,7 @@ module _ (inner smaller : ℕ → Reader (Tall Expr)) (room : ℕ) (f : Finds in
       bound (mark m.LeftParenthesis ts) _ y P h (λ u opened h1.
       bound (list_before (inner 1) (smaller 1) (room - 1) m.RightParenthesis u.1) _ y P h1 (λ xs read h2.
       bound (mark m.RightParenthesis xs.1) _ y P h2 (λ v closed h3.
-      let found = list-before-part (inner 1) (smaller 1) (room - 1) (λ us z e. (f 1 us z (omega arith) (omega arith) e).1.part)
-      (λ us z e. ((g 1 us z (omega arith) (omega arith) e).0, (g 1 us z (omega arith) (omega arith) e).1.part)) m.RightParenthesis u.1 xs read in
+      let found = list-parts u.1 xs read in
       answered _ y P h3 (record {
         spelled = mark_plain m.LeftParenthesis ts u opened ⨾ (found.spelled ⨾ mark_plain m.RightParenthesis xs.1 v closed);
         fits = found.fits;
@@ -110,7 +112,7 @@ module _ (inner smaller : ℕ → Reader (Tall Expr)) (room : ℕ) (f : Finds in
       let P : Took Expr → Type 0 = λ z. Left room 7 ts z.0 z.1 in
       bound (identifier ts) _ y P h (λ x name h1.
       let first = identifier_took ts x name in
-      chosen (is_mark m.LeftParenthesis (kind_at x.1)) _ _ y P h1
+      chosen (is_mark m.LeftParenthesis (kind_at x.1)) _ _ _ (P y) h1
       (λ calls h2.
       guarded (nat_lt 0 room) _ _ y P h2 (λ high h3.
       bound (arguments inner smaller room x.1) _ y P h3 (λ xs read h4.

@@ -18,21 +18,21 @@ use Rattle.sl_grammar.specs.Declarations.{params}
 use Rattle.sl_grammar.specs.Statements.{is_more, braced, stmt, function_behind, function_by, function, program}
 use Rattle.sl_grammar.specs.Steps.{kind_at, mark, identifier}
 use Rattle.sl_grammar.proofs.KindLaws.{fixed, not_end}
-use Rattle.sl_grammar.proofs.SoundDeclarations.{params-part}
-use Rattle.sl_grammar.proofs.SoundSteps.{Took, bound, answered, Spelled, ◌⨾◌, one_word, mark_plain, identifier_took, Part, Parts, behind}
 use Rattle.sl_grammar.proofs.SoundBlocks.{braced-part}
+use Rattle.sl_grammar.proofs.SoundDeclarations.{params-part}
 use Rattle.sl_grammar.proofs.SoundStatements.{stmt-sound}
+use Rattle.sl_grammar.proofs.SoundSteps.{Took, bound, answered, one_word, mark_plain, identifier_took, Part, Parts, behind}
+use Rattle.sl_grammar.proofs.Spelling.{Spelled, ◌⨾◌}
 
 -- what is read from these tokens
 abbrev pub FunctionAt : ℕ → List Token → Took Function → Type 0
 FunctionAt room ts y = Part function_written IsFunction function_height room ts y.0 y.1
 
-result_kind : ResultType → Kind
+abbrev pub result_kind : ResultType → Kind
 result_kind z.Void = k.Void
 result_kind (z.Scalar scalar) = k.Scalar scalar
 
-result-fixed : (result : ResultType) → fixed (result_kind result) ≡ Some (result_word result)
-unfolding result_kind
+pub result-fixed : (result : ResultType) → fixed (result_kind result) ≡ Some (result_word result)
 result-fixed z.Void = refl
 result-fixed (z.Scalar scalar) = refl
 
@@ -58,7 +58,6 @@ function-found result ts y e h =
 
 function-by : (kind : Kind) (ts : List Token) (y : Took Function) → kind_at ts ≡ kind → function_by kind ts ≡ Ok y
     → FunctionAt TREE_DEPTH ts y
-unfolding result_kind
 function-by k.Void ts y e h = function-found z.Void ts y e h
 function-by (k.Scalar scalar) ts y e h = function-found (z.Scalar scalar) ts y e h
 function-by _ ts y e h = absurd cc

@@ -1,32 +1,36 @@
 -- What is read as a statement is the words of one that follows the grammar, and its `else` belong to the nearest `if`.
-use Rattle.std.proofs.Common.{◌≡◌, ℕ, zero, suc, ◌+◌, Bool, true, false, List, ◌∷◌, ◌++◌, Ok, refl, sym, ◌∙◌, arith, drop}
+use Rattle.std.proofs.Common.{◌≡◌, ℕ, zero, suc, ◌+◌, Bool, true, false, List, [], ◌∷◌, ◌++◌, Ok, refl, sym, ◌∙◌, arith, drop}
 use Rattle.std.specs.Prelude.{nat_lt, codes}
 use Rattle.std.proofs.lemmas.Bool.{false≢true}
 use Rattle.sl_base.specs.declared.mark.Mark.TheVariants as m
+use Rattle.sl_base.specs.declared.place.Place.{Place}
 use Rattle.sl_base.specs.declared.token.Token.{Token}
+use Rattle.sl_base.specs.declared.word.Word.{Word}
 use Rattle.sl_base.specs.declared.word.Word.TheVariants as w
 use Rattle.sl_syntax.specs.declared.kind.Kind.{Kind}
 use Rattle.sl_syntax.specs.declared.kind.Kind.TheVariants as k
 use Rattle.sl_syntax.specs.Shaped.{ends_open}
 use Rattle.sl_syntax.specs.Tree as t
-use Rattle.sl_syntax.specs.Tree.{Expr, Declaration, Effect, Cond, First, Stmt, Item, Items, items_from, Function, Program}
-use Rattle.sl_syntax.specs.Written.{plain, stmt_written}
+use Rattle.sl_syntax.specs.Tree.{Stmt}
+use Rattle.sl_syntax.specs.Written as s
+use Rattle.sl_syntax.specs.Written.{at, plain, stmt_written}
 use Rattle.sl_grammar.specs.Effects.{effect}
 use Rattle.sl_grammar.specs.Expressions.{expr}
 use Rattle.sl_grammar.specs.Statements.{is_else, braced, block, condition, otherwise, choice, loop, return_stmt, effect_stmt, word_stmt, stmt_by, stmt}
-use Rattle.sl_grammar.specs.Steps.{Reader, Tall, kind_at, is_mark, mark}
-use Rattle.sl_grammar.proofs.SoundEffects.{effect-part}
-use Rattle.sl_grammar.proofs.SoundExpressions.{expr-part}
-use Rattle.sl_grammar.proofs.SoundSteps.{Took, bound, chosen, guarded, answered, ◌⨾◌, respelled, one_word, one_plain, seen, mark_plain, begun}
+use Rattle.sl_grammar.specs.Steps.{Reader, Tall, kind_at, here, is_mark, mark}
 use Rattle.sl_grammar.proofs.SoundBlocks.{FoundStmt, Finds, braced-part, condition-part, tested-written}
+use Rattle.sl_grammar.proofs.SoundEffects.{effect-part}
+use Rattle.sl_grammar.proofs.SoundExpressions.{whole-part}
 use Rattle.sl_grammar.proofs.SoundFors.{for-found}
+use Rattle.sl_grammar.proofs.SoundSteps.{Took, bound, chosen, guarded, answered, one_word, one_plain, seen, mark_plain}
+use Rattle.sl_grammar.proofs.Spelling.{Spelled, ◌⨾◌, respelled, begun}
 
 -- where no `else` follows what may end in an open `if`, and one follows, it doesn't
-not_open : (open_end next : Bool) → (open_end ≡ true → next ≡ false) → next ≡ true → open_end ≡ false
+pub not_open : (open_end next : Bool) → (open_end ≡ true → next ≡ false) → next ≡ true → open_end ≡ false
 not_open true next h e = absurd (false≢true (sym (h refl) ∙ e))
 not_open false next h e = refl
 
-is_else_kind : (kind : Kind) → is_else kind ≡ true → kind ≡ k.Else
+pub is_else_kind : (kind : Kind) → is_else kind ≡ true → kind ≡ k.Else
 is_else_kind k.Else h = refl
 is_else_kind _ h = absurd (false≢true h)
 
@@ -51,7 +55,7 @@ module _ (inner : Reader (Tall Stmt)) (room : ℕ) (f : Finds inner room) where
       let word = one_word ts k.If (w.Key (codes "if")) e refl in
       let asked = condition-part inner room f (drop 1 ts) c test in
       let first = f c.1 a first_read in
-      chosen (is_else (kind_at a.1)) _ _ y P h3
+      chosen (is_else (kind_at a.1)) _ _ _ (P y) h3
       (λ sees h4.
       bound (inner (drop 1 a.1)) _ y P h4 (λ b second_read h5.
       let second = f (drop 1 a.1) b second_read in
@@ -102,7 +106,7 @@ module _ (inner : Reader (Tall Stmt)) (room : ℕ) (f : Finds inner room) where
   return-found ts y e h =
       let P : Took Stmt → Type 0 = λ z. FoundStmt (room + 1) ts z.0 z.1 in
       let word = one_word ts k.Return (w.Key (codes "return")) e refl in
-      chosen (is_mark m.Semicolon (kind_at (drop 1 ts))) _ _ y P h
+      chosen (is_mark m.Semicolon (kind_at (drop 1 ts))) _ _ _ (P y) h
       (λ ends h1.
       answered _ y P h1 (record {
         part = record { spelled = word ⨾ seen m.Semicolon (drop 1 ts) ends; fits = tt; size = refl; low = omega arith };
@@ -111,7 +115,7 @@ module _ (inner : Reader (Tall Stmt)) (room : ℕ) (f : Finds inner room) where
       (λ goes h1.
       bound (expr (room + 1) 1 (drop 1 ts)) _ y P h1 (λ v read h2.
       bound (mark m.Semicolon v.1) _ y P h2 (λ u close h3.
-      let found = expr-part room 1 (omega arith) (omega arith) (drop 1 ts) v read in
+      let found = whole-part room (drop 1 ts) v read in
       answered _ y P h3 (record {
         part = record {
           spelled = word ⨾ (found.spelled ⨾ mark_plain m.Semicolon v.1 u close);
@@ -139,36 +143,13 @@ module _ (inner : Reader (Tall Stmt)) (room : ℕ) (f : Finds inner room) where
         closed = λ e. absurd (false≢true e);
       })))
 
-  break-found : (ts : List Token) (y : Took Stmt) → kind_at ts ≡ k.Break → word_stmt inner room t.break ts ≡ Ok y → FoundStmt (room + 1) ts y.0 y.1
+  -- a statement that is a word alone
+  word-found : (word : Word) (make : Place → Stmt) (ts : List Token) (y : Took Stmt) (P : Took Stmt → Type 0) → word_stmt inner room make ts ≡ Ok y
+      → Spelled (at (here ts) word ∷ []) ts (drop 1 ts)
+      → ((us : List Token) → Spelled (at (here ts) word ∷ s.mark m.Semicolon ∷ []) ts us → P ((make (here ts), 1), us)) → P y
   unfolding word_stmt
-  break-found ts y e h =
-      let P : Took Stmt → Type 0 = λ z. FoundStmt (room + 1) ts z.0 z.1 in
-      bound (mark m.Semicolon (drop 1 ts)) _ y P h (λ u close h1.
-      answered _ y P h1 (record {
-        part = record {
-          spelled = one_word ts k.Break (w.Key (codes "break")) e refl ⨾ mark_plain m.Semicolon (drop 1 ts) u close;
-          fits = tt;
-          size = refl;
-          low = omega arith;
-        };
-        closed = λ e. absurd (false≢true e);
-      }))
-
-  continue-found : (ts : List Token) (y : Took Stmt) → kind_at ts ≡ k.Continue → word_stmt inner room t.continue ts ≡ Ok y
-      → FoundStmt (room + 1) ts y.0 y.1
-  unfolding word_stmt
-  continue-found ts y e h =
-      let P : Took Stmt → Type 0 = λ z. FoundStmt (room + 1) ts z.0 z.1 in
-      bound (mark m.Semicolon (drop 1 ts)) _ y P h (λ u close h1.
-      answered _ y P h1 (record {
-        part = record {
-          spelled = one_word ts k.Continue (w.Key (codes "continue")) e refl ⨾ mark_plain m.Semicolon (drop 1 ts) u close;
-          fits = tt;
-          size = refl;
-          low = omega arith;
-        };
-        closed = λ e. absurd (false≢true e);
-      }))
+  word-found word make ts y P h first go =
+      bound (mark m.Semicolon (drop 1 ts)) _ y P h (λ u close h1. answered _ y P h1 (go u.1 (first ⨾ mark_plain m.Semicolon (drop 1 ts) u close)))
 
   pub stmt-by : (kind : Kind) (ts : List Token) (y : Took Stmt) → kind_at ts ≡ kind → stmt_by inner room kind ts ≡ Ok y
       → FoundStmt (room + 1) ts y.0 y.1
@@ -176,8 +157,14 @@ module _ (inner : Reader (Tall Stmt)) (room : ℕ) (f : Finds inner room) where
   stmt-by k.If ts y e h = choice-found ts y e h
   stmt-by k.While ts y e h = loop-found ts y e h
   stmt-by k.For ts y e h = for-found inner room f ts y e h
-  stmt-by k.Break ts y e h = break-found ts y e h
-  stmt-by k.Continue ts y e h = continue-found ts y e h
+  stmt-by k.Break ts y e h =
+      word-found (w.Key (codes "break")) t.break ts y (λ z. FoundStmt (room + 1) ts z.0 z.1) h
+      (one_word ts k.Break (w.Key (codes "break")) e refl) (λ us spelled.
+      record { part = record { spelled = spelled; fits = tt; size = refl; low = omega arith }; closed = λ e. absurd (false≢true e) })
+  stmt-by k.Continue ts y e h =
+      word-found (w.Key (codes "continue")) t.continue ts y (λ z. FoundStmt (room + 1) ts z.0 z.1) h
+      (one_word ts k.Continue (w.Key (codes "continue")) e refl) (λ us spelled.
+      record { part = record { spelled = spelled; fits = tt; size = refl; low = omega arith }; closed = λ e. absurd (false≢true e) })
   stmt-by k.Return ts y e h = return-found ts y e h
   stmt-by _ ts y e h = effect-found ts y h
 

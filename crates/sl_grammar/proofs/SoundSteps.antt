@@ -1,6 +1,6 @@
 -- What follows from the answer of a step: which words it took.
 use Rattle.std.proofs.Common.{drop, length, ◌≡◌, ℕ, zero, suc, ◌≤◌, max, Bool, true, false, cond, List, [], ◌∷◌, ◌++◌, Some, Result, Ok, Err, refl, sym, ap, subst, ◌∙◌, arith, append_assoc}
-use Rattle.std.specs.Prelude.{flat_map, ◌&&◌}
+use Rattle.std.specs.Prelude.{flat_map}
 use Rattle.std.proofs.lemmas.Bool.{false≢true}
 use Rattle.std.proofs.lemmas.List.{append-nil}
 use Rattle.sl_base.specs.declared.mark.Mark.{Mark}
@@ -15,11 +15,12 @@ use Rattle.sl_syntax.specs.Depth.{highest}
 use Rattle.sl_syntax.specs.Kinds.{kind_of}
 use Rattle.sl_syntax.specs.Placed.{Spells}
 use Rattle.sl_syntax.specs.Shaped.{Each, AreSome}
-use Rattle.sl_syntax.specs.Written.{Written, at, plain, named, from_place}
+use Rattle.sl_syntax.specs.Written.{Written, at, plain, named}
 use Rattle.sl_syntax.specs.Written as s
 use Rattle.sl_grammar.specs.declared.fault.Fault.{Fault}
 use Rattle.sl_grammar.specs.Steps.{Outcome, Reader, Tall, and_then, kind_at, here, is_mark, mark, number_at, text_at, identifier_at, identifier_by, identifier, library_by, library, repeat, all_behind}
 use Rattle.sl_grammar.proofs.KindLaws.{fixed, word_of_kind, name_word, number_word, text_word, library_word, is_mark_kind}
+use Rattle.sl_grammar.proofs.Spelling.{Spelled, ◌⨾◌, no_words}
 
 -- what is read, with its height, and the tokens behind it
 abbrev pub Took : Type 0 → Type 0
@@ -31,10 +32,10 @@ pub bound : {A B : Type 0} (o : Outcome A) (f : A → Reader B) (y : B × List T
 bound (Ok p) f y P h go = go p refl h
 bound (Err e) f y P h go = absurd cc
 
-pub chosen : {A : Type 0} (b : Bool) (o q : Outcome A) (y : A × List Token) (P : A × List Token → Type 0) → cond b o q ≡ Ok y
-    → (b ≡ true → o ≡ Ok y → P y) → (b ≡ false → q ≡ Ok y → P y) → P y
-chosen true o q y P h then other = then refl h
-chosen false o q y P h then other = other refl h
+-- a choice by a test
+pub chosen : {A : Type 0} (b : Bool) (o q z : A) (P : Type 0) → cond b o q ≡ z → (b ≡ true → o ≡ z → P) → (b ≡ false → q ≡ z → P) → P
+chosen true o q z P h then other = then refl h
+chosen false o q z P h then other = other refl h
 
 -- a step that may only go on under a test
 pub guarded : {A : Type 0} (b : Bool) (o : Outcome A) (e : Fault) (y : A × List Token) (P : A × List Token → Type 0) → cond b o (Err e) ≡ Ok y
@@ -42,44 +43,11 @@ pub guarded : {A : Type 0} (b : Bool) (o : Outcome A) (e : Fault) (y : A × List
 guarded true o e y P h then = then refl h
 guarded false o e y P h then = absurd cc
 
-ok_one : {A E : Type 0} {a b : A} → ◌≡◌ {A = Result A E} (Ok a) (Ok b) → a ≡ b
+pub ok_one : {A E : Type 0} {a b : A} → ◌≡◌ {A = Result A E} (Ok a) (Ok b) → a ≡ b
 ok_one h = cc
 
 pub answered : {A : Type 0} (a y : A × List Token) (P : A × List Token → Type 0) → ◌≡◌ {A = Outcome A} (Ok a) (Ok y) → P a → P y
 answered a y P h p = subst P (ok_one h) p
-
-pub some_one : {A : Type 0} {a b : A} → Some a ≡ Some b → a ≡ b
-some_one h = cc
-
--- both of two tests
-pub both : (a b : Bool) → a && b ≡ true → (a ≡ true) × (b ≡ true)
-both true b h = (refl, h)
-both false b h = absurd (false≢true h)
-
--- the tokens begin with these words
-pub record Spelled (xs : List Written) (ts rest : List Token) : Type 0 where
-  pub spells : Spells xs ts rest
-
-spells-append : (xs ys : List Written) (ts mid rest : List Token) → Spells xs ts mid → Spells ys mid rest → Spells (xs ++ ys) ts rest
-spells-append [] ys ts mid rest a b = subst (λ (us : List Token). Spells ys us rest) (sym a) b
-spells-append (x ∷ xs) ys [] mid rest a b = a
-spells-append (x ∷ xs) ys (t ∷ ts) mid rest a b = (a.0, spells-append xs ys ts mid rest a.1 b)
-
--- words, and words behind them
-infixr 5 ◌⨾◌
-pub ◌⨾◌ : {xs ys : List Written} {ts mid rest : List Token} → Spelled xs ts mid → Spelled ys mid rest → Spelled (xs ++ ys) ts rest
-a ⨾ b = record { spells = spells-append _ _ _ _ _ a.spells b.spells }
-
-pub no_words : (ts : List Token) → Spelled [] ts ts
-no_words ts = record { spells = refl }
-
--- tokens of no words are the rest
-pub none_taken : {ts rest : List Token} → Spelled [] ts rest → ts ≡ rest
-none_taken a = a.spells
-
--- the same words, written in another way
-pub respelled : {xs ys : List Written} {ts rest : List Token} → xs ≡ ys → Spelled xs ts rest → Spelled ys ts rest
-respelled {ts = ts} {rest = rest} e a = subst (λ (l : List Written). Spelled l ts rest) e a
 
 -- one word, at its place
 pub one_word : (ts : List Token) (kind : Kind) (x : Word) → kind_at ts ≡ kind → fixed kind ≡ Some x → Spelled (at (here ts) x ∷ []) ts (drop 1 ts)
@@ -163,15 +131,6 @@ pub library_took : (ts : List Token) (y : Identifier × List Token) → library 
 unfolding library
 library_took ts y h = lib_took (kind_at ts) ts y refl h
 
--- the first word has the place of the first token
-pub begun : {xs : List Written} {ts rest : List Token} → Spelled xs ts rest → Spelled (from_place (here ts) xs) ts rest
-begun a = record { spells = spells-begun _ _ _ a.spells }
-  where
-    spells-begun : (xs : List Written) (ts rest : List Token) → Spells xs ts rest → Spells (from_place (here ts) xs) ts rest
-    spells-begun [] ts rest a = a
-    spells-begun (x ∷ xs) [] rest a = a
-    spells-begun (x ∷ xs) (t ∷ ts) rest a = ((a.0.0, (refl, a.0.1)), a.1)
-
 -- What is read: its words, that it fits, and its height, which is at most the room.
 pub record Part {A : Type 0} (written : A → List Written) (Fits : A → Type 0) (height : A → ℕ) (room : ℕ) (ts : List Token) (p : Tall A)
     (rest : List Token) : Type 0 where
@@ -213,10 +172,10 @@ module _ {A : Type 0} (written : A → List Written) (Fits : A → Type 0) (heig
   unfolding repeat
   repeat-more zero done ts y h =
       let P : Took (List A) → Type 0 = λ z. More written Fits height room goes done ts z.0 z.1 in
-      chosen (goes (kind_at ts)) _ _ y P h (λ on h1. absurd cc) (λ stop h1. answered _ y P h1 (stopped done ts stop))
+      chosen (goes (kind_at ts)) _ _ _ (P y) h (λ on h1. absurd cc) (λ stop h1. answered _ y P h1 (stopped done ts stop))
   repeat-more (suc n) done ts y h =
       let P : Took (List A) → Type 0 = λ z. More written Fits height room goes done ts z.0 z.1 in
-      chosen (goes (kind_at ts)) _ _ y P h
+      chosen (goes (kind_at ts)) _ _ _ (P y) h
       (λ on h1.
       bound (item ts) _ y P h1 (λ x read h2.
       let first = f ts x read in
@@ -241,5 +200,5 @@ module _ {A : Type 0} (written : A → List Written) (Fits : A → Type 0) (heig
 pub some_items : {A : Type 0} (written : A → List Written) (goes : Kind → Bool) (items : List A) (ts rest : List Token)
     → Spelled (flat_map written items) ts rest → goes (kind_at ts) ≡ true → goes (kind_at rest) ≡ false → AreSome items
 some_items written goes [] ts rest spelled on stop =
-    absurd (false≢true (sym stop ∙ ap (λ (us : List Token). goes (kind_at us)) (sym (none_taken spelled)) ∙ on))
+    absurd (false≢true (sym stop ∙ ap (λ (us : List Token). goes (kind_at us)) (sym spelled.spells) ∙ on))
 some_items written goes (x ∷ items) ts rest spelled on stop = omega arith

@@ -1,5 +1,5 @@
 -- The words before a fault in a block begin one.
-use Rattle.std.proofs.Common.{Err, List, Ok, [], arith, length, max, refl, suc, zero, ℕ, ◌++◌, ◌+◌, ◌-◌, ◌<◌, ◌∷◌, ◌≡◌, ◌≤◌}
+use Rattle.std.proofs.Common.{Err, List, Ok, [], arith, length, refl, ℕ, ◌+◌, ◌-◌, ◌<◌, ◌∷◌, ◌≡◌, ◌≤◌}
 use Rattle.std.proofs.lemmas.Bool.{ltb-true}
 use Rattle.std.specs.Prelude.{flat_map, nat_lt}
 use Rattle.sl_base.specs.declared.mark.Mark.TheVariants as m
@@ -19,15 +19,16 @@ use Rattle.sl_grammar.specs.declared.fault.Fault.TheVariants.{Grammar}
 use Rattle.sl_grammar.specs.Declarations.{auto_declaration, container_declaration, scalar_declaration}
 use Rattle.sl_grammar.specs.Effects as effects
 use Rattle.sl_grammar.specs.Statements.{braced, condition, declared, is_item, item, item_by}
-use Rattle.sl_grammar.specs.Steps.{Reader, Tall, all_behind, here, kind_at, mark, repeat}
-use Rattle.sl_grammar.proofs.SoundBlocks.{Finds, IsBlock, block_height, block_written, condition_written}
+use Rattle.sl_grammar.specs.Steps.{Reader, Tall, all_behind, here, kind_at, mark}
+use Rattle.sl_grammar.proofs.Rows.{items-written, items-height, are_items}
+use Rattle.sl_grammar.proofs.SoundBlocks.{Finds, IsBlock, block_height, block_written, condition_written, item-part}
 use Rattle.sl_grammar.proofs.SoundDeclarations.{auto-part, container-part, scalar-part}
 use Rattle.sl_grammar.proofs.SoundEffects.{cond-part}
-use Rattle.sl_grammar.proofs.SoundSteps.{Part, Took, behind, mark_here, mark_plain, respelled}
+use Rattle.sl_grammar.proofs.SoundSteps.{Part, Took, behind, mark_here, mark_plain}
+use Rattle.sl_grammar.proofs.Spelling.{respelled}
 use Rattle.sl_grammar.proofs.ViableDeclarations.{LowDeclaration, auto-begun, container-begun, scalar-begun}
 use Rattle.sl_grammar.proofs.ViableEffects.{cond-viable}
-use Rattle.sl_grammar.proofs.ViableSteps.{Begun, Low, Stops, Viable, at_once, begun, either, faulted, mark_fault, no_fault, one_fault, rewritten, some_expr, tested, unfinished, viable, ◌⨠◌}
-use Rattle.sl_grammar.proofs.ViableTaken.{are_items, item-part, items-height, items-written}
+use Rattle.sl_grammar.proofs.ViableSteps.{Begun, Low, Stops, Viable, at_once, begun, faulted, mark_fault, no_fault, rewritten, some_expr, tested, unfinished, viable, ◌⨠◌, row-viable}
 
 -- a statement that follows the grammar and is at most so high
 abbrev pub LowStmt : ℕ → Stmt → Type 0
@@ -111,26 +112,6 @@ module _ (inner : Reader (Tall Stmt)) (room : ℕ) (f : Finds inner room) (g : F
   unfolding item
   item-begun ts n h = item-by (kind_at ts) ts n refl h
 
-  -- the items of a block: where none begins, the block may end
-  items-begun : (turns : ℕ) (done : Tall (List Item)) (ts : List Token) (n : ℕ)
-      → repeat is_item (item room inner) turns done ts ≡ Err (Grammar n) → BegunItems ts n
-  unfolding repeat
-  items-begun zero done ts n h =
-      let P : Type 0 = BegunItems ts n in
-      either (is_item (kind_at ts)) _ _ n P h
-      (λ on h1. no_item ts n (one_fault {A = Tall (List Item)} _ n h1))
-      (λ stop h1. no_fault _ n P h1)
-  items-begun (suc turns) done ts n h =
-      let P : Type 0 = BegunItems ts n in
-      either (is_item (kind_at ts)) _ _ n P h
-      (λ on h1.
-      faulted (item room inner ts) _ n P h1 (λ h2. item-begun ts n h2) (λ x read h2.
-      let first = item-part inner room f ts x read in
-      let others = items-begun turns (done.0 ++ x.0.0 ∷ [], max done.1 x.0.1) x.1 n h2 in
-      viable (x.0.0 ∷ others.tree) ((first.fits, others.fits.0), omega (arith, first.size, first.low, others.fits.1))
-      (first.spelled ⨠ begun others)))
-      (λ stop h1. no_fault _ n P h1)
-
   -- a block that is no higher
   abbrev pub LowBlock : Place × Items × Place → Type 0
   LowBlock b = IsBlock b × (block_height b ≤ room + 1)
@@ -145,8 +126,9 @@ module _ (inner : Reader (Tall Stmt)) (room : ℕ) (f : Finds inner room) (g : F
       (λ u opened h1.
       let open_brace = mark_here m.LeftBrace ts u opened in
       faulted (all_behind is_item (item room inner) ([], 0) u.1) _ n P h1
+      -- where no item begins, the block may end
       (λ h2.
-      let v = items-begun (length u.1) ([], 0) u.1 n h2 in
+      let v = row-viable item_written IsItem item_height room is_item (item room inner) (item-part inner room f) item-begun ([], 0) u.1 n h2 in
       viable (here ts, items_from v.tree, nowhere) (are_items v.tree v.fits.0, omega (arith, v.fits.1, items-height v.tree))
       (open_brace ⨠ unfinished (rewritten (items-written v.tree) (begun v)) close))
       (λ xs read h2.

@@ -1,10 +1,9 @@
 -- The words before a fault in a type, a declaration or parameters begin such that follow the grammar.
-use Rattle.std.proofs.Common.{Bool, Err, List, None, Ok, Option, Some, [], arith, drop, false, length, refl, true, ℕ, ◌++◌, ◌+◌, ◌-◌, ◌<◌, ◌∷◌, ◌≡◌, ◌≤◌}
+use Rattle.std.proofs.Common.{Bool, Err, List, None, Option, Some, [], arith, drop, false, length, refl, true, ℕ, ◌+◌, ◌-◌, ◌<◌, ◌∷◌, ◌≡◌, ◌≤◌}
 use Rattle.std.proofs.lemmas.Bool.{ltb-true}
 use Rattle.std.specs.Prelude.{codes, nat_lt}
 use Rattle.sl_base.specs.declared.form.Form.{Form}
 use Rattle.sl_base.specs.declared.mark.Mark.TheVariants as m
-use Rattle.sl_base.specs.declared.place.Place.{Place}
 use Rattle.sl_base.specs.declared.scalar.Scalar.{Scalar}
 use Rattle.sl_base.specs.declared.scalar.Scalar.TheVariants as c
 use Rattle.sl_base.specs.declared.token.Token.{Token}
@@ -12,24 +11,24 @@ use Rattle.sl_base.specs.declared.word.Word.TheVariants as w
 use Rattle.sl_syntax.specs.declared.kind.Kind.{Kind}
 use Rattle.sl_syntax.specs.declared.kind.Kind.TheVariants as k
 use Rattle.sl_syntax.specs.declared.tree.declaration.ContainerType.{ContainerType}
-use Rattle.sl_syntax.specs.declared.tree.identifier.Identifier.{Identifier}
 use Rattle.sl_syntax.specs.Depth.{declaration_height, height, initializer_height, option_height}
 use Rattle.sl_syntax.specs.Shaped.{IfThere, IsDeclaration, IsExpr, IsInitializer}
 use Rattle.sl_syntax.specs.Tree as t
-use Rattle.sl_syntax.specs.Tree.{Declaration, Expr, Exprs, Initializer}
+use Rattle.sl_syntax.specs.Tree.{Declaration, Expr, Initializer}
 use Rattle.sl_syntax.specs.Written as s
-use Rattle.sl_syntax.specs.Written.{Written, at, container_written, declaration_written, elements_written, form_word, initializer_written, is_map, list_written, option_written, scalar_word, value_written, written}
+use Rattle.sl_syntax.specs.Written.{container_written, declaration_written, elements_written, form_word, initializer_written, is_map, option_written, scalar_word, value_written, written}
 use Rattle.sl_grammar.specs.declared.fault.Fault.TheVariants.{Grammar}
 use Rattle.sl_grammar.specs.Declarations.{auto_declaration, behind_equal_by, braces, constructed, container_declaration, container_type, elements_by, initializer, initializer_by, int, int_by, optional_value, scalar_declaration}
 use Rattle.sl_grammar.specs.Expressions.{expr, list, list_before}
 use Rattle.sl_grammar.specs.Steps.{here, identifier, is_mark, kind_at, mark}
-use Rattle.sl_grammar.proofs.SoundExpressions.{expr-part, sound}
+use Rattle.sl_grammar.proofs.SoundDeclarations.{int-took, type-took, inner-part, scalar-written, opening, braces-written}
+use Rattle.sl_grammar.proofs.SoundExpressions.{whole-part}
 use Rattle.sl_grammar.proofs.SoundLists.{list-before-part, list-part}
-use Rattle.sl_grammar.proofs.SoundSteps.{Part, Parts, Spelled, Took, identifier_took, mark_plain, one_plain, one_word, seen, ◌⨾◌}
-use Rattle.sl_grammar.proofs.ViableExpressions.{expr-viable}
+use Rattle.sl_grammar.proofs.SoundSteps.{identifier_took, mark_plain, one_plain, one_word, seen, chosen}
+use Rattle.sl_grammar.proofs.Spelling.{Spelled, ◌⨾◌}
+use Rattle.sl_grammar.proofs.ViableExpressions.{expr-viable, value-stops}
 use Rattle.sl_grammar.proofs.ViableLists.{list-before-viable, list-viable}
-use Rattle.sl_grammar.proofs.ViableSteps.{Begun, Stops, Viable, at_once, begun, either, faulted, identifier_fault, mark_fault, no_fault, one_fault, refitted, rewritten, some_expr, some_name, tested, unfinished, viable, ◌⨠◌}
-use Rattle.sl_grammar.proofs.ViableTaken.{int-took, type-took}
+use Rattle.sl_grammar.proofs.ViableSteps.{Begun, Stops, Viable, at_once, begun, faulted, identifier_fault, mark_fault, no_fault, one_fault, refitted, rewritten, some_expr, some_name, tested, unfinished, viable, ◌⨠◌}
 
 -- a declaration and an initializer that follow the grammar and are at most so high
 abbrev pub LowDeclaration : ℕ → Declaration → Type 0
@@ -78,26 +77,16 @@ type-begun form ts n e h =
     (λ h1. one_word ts (k.Container form) (form_word form) e refl ⨠ elements-begun (is_map form) (drop 1 ts) n h1)
     (λ u elements h1. no_fault _ n P h1)
 
-inner-part : (room : ℕ) (ts : List Token) (y : Took Expr) → expr room 1 ts ≡ Ok y → (0 < room) × Part written IsExpr height (room - 1) ts y.0 y.1
-inner-part room ts y h =
-    let found = sound room 1 ts y (omega arith) (omega arith) h in
-    (found.0, found.1.part)
-
 inner-stops : (room : ℕ) → 0 < room → Stops written IsExpr height (room - 1) (expr room 1)
 inner-stops room high ts n h = refitted (λ x fits. (fits.0, omega (arith, fits.1)))
     (expr-viable room 1 ts n high (omega arith) (omega arith) h)
-
--- an expression that has so much room
-pub value-stops : (room : ℕ) → Stops written IsExpr height room (expr (room + 1) 1)
-value-stops room ts n h = refitted (λ x fits. (fits.0, omega (arith, fits.1)))
-    (expr-viable (room + 1) 1 ts n (omega arith) (omega arith) (omega arith) h)
 
 module _ (room : ℕ) where
   value-begun : Stops (option_written value_written) (IfThere IsExpr) (option_height height) room (optional_value room)
   unfolding optional_value
   value-begun ts n h =
       let P : Type 0 = Viable (λ (x : Option Expr). IfThere IsExpr x × (option_height height x ≤ room)) (option_written value_written) ts n in
-      either (is_mark m.Equal (kind_at ts)) _ _ n P h
+      chosen (is_mark m.Equal (kind_at ts)) _ _ _ P h
       (λ equal h1.
       faulted (expr (room + 1) 1 (drop 1 ts)) _ n P h1
       (λ h2.
@@ -105,11 +94,6 @@ module _ (room : ℕ) where
       viable (Some v.tree) v.fits (seen m.Equal ts equal ⨠ begun v))
       (λ x read h2. no_fault _ n P h2))
       (λ bare h1. no_fault _ n P h1)
-
-  scalar-written : (place : Place) (scalar : Scalar) (x : Identifier) (v : Option Expr)
-      → at place (scalar_word scalar) ∷ s.named x ∷ option_written value_written v ≡ declaration_written (t.declares_scalar place scalar x v)
-  scalar-written place scalar x None = refl
-  scalar-written place scalar x (Some v) = refl
 
   pub scalar-begun : (scalar : Scalar) (ts : List Token) (n : ℕ) → kind_at ts ≡ k.Scalar scalar
       → scalar_declaration room scalar ts ≡ Err (Grammar n) → Viable (LowDeclaration (room + 1)) declaration_written ts n
@@ -148,16 +132,6 @@ module _ (room : ℕ) where
       viable (t.declares_auto (here ts) x.0 v.tree) (v.fits.0, omega (arith, v.fits.1)) (named ⨠ (mark_plain m.Equal x.1 u equal ⨠ begun v)))
       (λ v read h3. no_fault _ n P h3)))
 
-  -- what stands before the elements
-  abbrev opening : Bool → List Written
-  opening true = s.mark m.Equal ∷ s.mark m.LeftBrace ∷ []
-  opening false = s.mark m.LeftBrace ∷ []
-
-  braces-written : (equal : Bool) (xs : Exprs)
-      → opening equal ++ (list_written xs ++ s.mark m.RightBrace ∷ []) ≡ initializer_written (t.braces equal xs)
-  braces-written true xs = refl
-  braces-written false xs = refl
-
   braces-begun : (equal : Bool) (ts us : List Token) (n : ℕ) → Spelled (opening equal) ts us → braces room equal us ≡ Err (Grammar n)
       → Viable (LowInitializer room) initializer_written ts n
   unfolding braces
@@ -165,13 +139,12 @@ module _ (room : ℕ) where
       let P : Type 0 = Viable (LowInitializer room) initializer_written ts n in
       let one = expr (room + 1) 1 in
       let more = expr room 1 in
-      let part : Parts written IsExpr height room one = expr-part room 1 (omega arith) (omega arith) in
       faulted (list_before one more room m.RightBrace us) _ n P h
       (λ h1.
-      let v = list-before-viable one more room part (inner-part room) (value-stops room) (inner-stops room) m.RightBrace us n h1 in
+      let v = list-before-viable one more room (whole-part room) (inner-part room) (value-stops room) (inner-stops room) m.RightBrace us n h1 in
       viable (t.braces equal v.tree) v.fits (rewritten (braces-written equal v.tree) (opened ⨠ unfinished (begun v) (s.mark m.RightBrace ∷ []))))
       (λ xs read h1.
-      let found = list-before-part one more room part (inner-part room) m.RightBrace us xs read in
+      let found = list-before-part one more room (whole-part room) (inner-part room) m.RightBrace us xs read in
       faulted (mark m.RightBrace xs.1) _ n P h1
       (λ h2. viable (t.braces equal xs.0.0) (found.fits, omega (arith, found.size, found.low))
       (rewritten (braces-written equal xs.0.0) (opened ⨠ (found.spelled ⨠ at_once _ xs.1 n (mark_fault m.RightBrace xs.1 n h2)))))
@@ -195,14 +168,13 @@ module _ (room : ℕ) where
       let P : Type 0 = Viable (LowInitializer room) initializer_written ts n in
       let one = expr (room + 1) 1 in
       let more = expr room 1 in
-      let part : Parts written IsExpr height room one = expr-part room 1 (omega arith) (omega arith) in
       let opened = one_plain ts (k.Mark m.LeftParenthesis) (w.Mark m.LeftParenthesis) e refl in
       faulted (list one more room (drop 1 ts)) _ n P h
       (λ h1.
-      let v = list-viable one more room part (inner-part room) (value-stops room) (inner-stops room) (drop 1 ts) n h1 in
+      let v = list-viable one more room (whole-part room) (inner-part room) (value-stops room) (inner-stops room) (drop 1 ts) n h1 in
       viable (t.arguments v.tree) ((v.fits.0, v.fits.1), v.fits.2) (opened ⨠ unfinished (begun v) (s.mark m.RightParenthesis ∷ [])))
       (λ xs read h1.
-      let found = list-part one more room part (inner-part room) (drop 1 ts) xs read in
+      let found = list-part one more room (whole-part room) (inner-part room) (drop 1 ts) xs read in
       faulted (mark m.RightParenthesis xs.1) _ n P h1
       (λ h2. viable (t.arguments xs.0.0) (found.fits, omega (arith, found.size, found.low))
       (opened ⨠ (found.spelled ⨠ at_once _ xs.1 n (mark_fault m.RightParenthesis xs.1 n h2))))

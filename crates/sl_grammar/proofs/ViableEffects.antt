@@ -1,7 +1,7 @@
 -- Where an effect or a condition stops at a fault, the tokens before it begin one.
-use Rattle.std.proofs.Common.{◌≡◌, ℕ, ◌+◌, ◌-◌, ◌<◌, ◌≤◌, length, true, List, [], ◌∷◌, ◌++◌, Option, Some, None, Ok, Err, refl, sym, ap, ◌∙◌, arith, drop}
+use Rattle.std.proofs.Common.{◌≡◌, ℕ, ◌+◌, ◌-◌, ◌<◌, ◌≤◌, length, true, List, [], ◌∷◌, ◌++◌, Option, Some, None, Err, refl, arith, drop}
 use Rattle.std.specs.Prelude.{nat_lt, ◌&&◌, codes}
-use Rattle.std.proofs.lemmas.Bool.{ltb-true, false≢true}
+use Rattle.std.proofs.lemmas.Bool.{ltb-true}
 use Rattle.sl_base.specs.declared.mark.Mark.TheVariants as m
 use Rattle.sl_base.specs.declared.token.Token.{Token}
 use Rattle.sl_base.specs.declared.word.Word.TheVariants as w
@@ -16,41 +16,20 @@ use Rattle.sl_syntax.specs.Shaped.{IsExpr, IsRead, IsOut, IsEffect, IsCond}
 use Rattle.sl_syntax.specs.Tree as t
 use Rattle.sl_syntax.specs.Tree.{Expr, Out, Effect, Cond}
 use Rattle.sl_syntax.specs.Written as s
-use Rattle.sl_syntax.specs.Written.{Written, assignment_mark, written, out_written, read_written, effect_written, cond_written}
+use Rattle.sl_syntax.specs.Written.{assignment_mark, written, out_written, read_written, effect_written, cond_written}
 use Rattle.sl_grammar.specs.declared.fault.Fault.TheVariants.{Grammar}
 use Rattle.sl_grammar.specs.Effects.{shifted_name, read, is_input, out_by, shifted_out, print, assignment_of, assigned_by, assigned, effect_by, effect, begins_no_read, no_read, cond_by}
 use Rattle.sl_grammar.specs.Effects as effects
 use Rattle.sl_grammar.specs.Expressions.{expr}
 use Rattle.sl_grammar.specs.Steps.{Tall, kind_at, here, is_mark, mark, identifier, all_behind}
 use Rattle.sl_grammar.proofs.KindLaws.{is_mark_kind}
-use Rattle.sl_grammar.proofs.SoundEffects.{read-part}
-use Rattle.sl_grammar.proofs.SoundExpressions.{sound, expr-part}
-use Rattle.sl_grammar.proofs.SoundSteps.{Took, Spelled, bound, some_one, both, answered, ◌⨾◌, one_word, one_text, mark_plain, mark_rest, identifier_took, Part, Parts}
-use Rattle.sl_grammar.proofs.ViableExpressions.{expr-viable, expr-stops}
-use Rattle.sl_grammar.proofs.ViableSteps.{Viable, viable, begun, at_once, ◌⨠◌, unfinished, ended, some_name, some_expr, faulted, either, tested, no_fault, mark_fault, identifier_fault, Stops, behind-viable}
-
--- `>> x`
-abbrev name_written : Identifier → List Written
-name_written x = s.mark m.ShiftRight ∷ s.named x ∷ []
-
-abbrev Anything : Identifier → Type 0
-Anything x = Unit {0}
-
-abbrev flat : Identifier → ℕ
-flat x = 0
-
-shifted_name-part : Parts name_written Anything flat 0 shifted_name
-unfolding shifted_name
-shifted_name-part ts y h =
-    let P : Took Identifier → Type 0 = λ z. Part name_written Anything flat 0 ts z.0 z.1 in
-    bound (mark m.ShiftRight ts) _ y P h (λ u shift h1.
-    bound (identifier u.1) _ y P h1 (λ x name h2.
-    answered _ y P h2 (record {
-      spelled = mark_plain m.ShiftRight ts u shift ⨾ identifier_took u.1 x name;
-      fits = tt;
-      size = refl;
-      low = omega arith;
-    })))
+use Rattle.sl_grammar.proofs.Rows.{Anything, name_written, flat, shifted_written}
+use Rattle.sl_grammar.proofs.SoundEffects.{read-part, shifted_name-part, shifted-part, assignment-mark, no_read-begins, input-behind}
+use Rattle.sl_grammar.proofs.SoundExpressions.{whole-part}
+use Rattle.sl_grammar.proofs.SoundSteps.{one_word, mark_plain, Part, chosen}
+use Rattle.sl_grammar.proofs.Spelling.{Spelled}
+use Rattle.sl_grammar.proofs.ViableExpressions.{expr-viable, value-stops}
+use Rattle.sl_grammar.proofs.ViableSteps.{Viable, viable, begun, at_once, ◌⨠◌, unfinished, ended, some_name, some_expr, faulted, tested, no_fault, mark_fault, identifier_fault, Stops, behind-viable}
 
 shifted_name-stops : Stops name_written Anything flat 0 shifted_name
 unfolding shifted_name
@@ -107,26 +86,6 @@ module _ (room : ℕ) where
   no_cond : (ts : List Token) (n : ℕ) → length ts ≡ n → Viable CondLow cond_written ts n
   no_cond ts n e = viable (t.tests some_expr) (tt, omega arith) (at_once (cond_written (t.tests some_expr)) ts n e)
 
-  value-part : (ts : List Token) (y : Took Out) → out_by room k.End ts ≡ Ok y → Part out_written IsOut out_height (room - 1) ts y.0 y.1
-  value-part ts y h =
-      let P : Took Out → Type 0 = λ z. Part out_written IsOut out_height (room - 1) ts z.0 z.1 in
-      bound (expr room 5 ts) _ y P h (λ x read h1.
-      let found = sound room 5 ts x (omega arith) (omega arith) read in
-      answered _ y P h1 (record {
-        spelled = found.1.part.spelled;
-        fits = (found.1.tight, found.1.part.fits);
-        size = found.1.part.size;
-        low = found.1.part.low;
-      }))
-
-  out-by : (kind : Kind) (ts : List Token) (y : Took Out) → kind_at ts ≡ kind → out_by room kind ts ≡ Ok y
-      → Part out_written IsOut out_height (room - 1) ts y.0 y.1
-  out-by k.Text ts y e h = answered _ y (λ z. Part out_written IsOut out_height (room - 1) ts z.0 z.1) h
-      (record { spelled = one_text ts e; fits = tt; size = refl; low = omega arith })
-  out-by k.EndLine ts y e h = answered _ y (λ z. Part out_written IsOut out_height (room - 1) ts z.0 z.1) h
-      (record { spelled = one_word ts k.EndLine (w.Lib (codes "endl")) e refl; fits = tt; size = refl; low = omega arith })
-  out-by _ ts y e h = value-part ts y h
-
   -- an item that is less high than the room
   abbrev OutLow : Out → Type 0
   OutLow x = IsOut x × (out_height x ≤ room - 1)
@@ -144,18 +103,6 @@ module _ (room : ℕ) where
   out-viable high k.Text ts n h = no_fault _ n (Viable OutLow out_written ts n) h
   out-viable high k.EndLine ts n h = no_fault _ n (Viable OutLow out_written ts n) h
   out-viable high _ ts n h = value-out high ts n h
-
-  -- `<< x`
-  abbrev shifted_written : Out → List Written
-  shifted_written x = s.mark m.ShiftLeft ∷ out_written x
-
-  shifted-part : Parts shifted_written IsOut out_height (room - 1) (shifted_out room)
-  unfolding shifted_out
-  shifted-part ts y h =
-      let P : Took Out → Type 0 = λ z. Part shifted_written IsOut out_height (room - 1) ts z.0 z.1 in
-      bound (mark m.ShiftLeft ts) _ y P h (λ u shift h1.
-      let found = out-by (kind_at u.1) u.1 y refl h1 in
-      record { spelled = mark_plain m.ShiftLeft ts u shift ⨾ found.spelled; fits = found.fits; size = found.size; low = found.low })
 
   shifted-stops : 0 < room → Stops shifted_written IsOut out_height (room - 1) (shifted_out room)
   unfolding shifted_out
@@ -181,25 +128,16 @@ module _ (room : ℕ) where
       viable (t.prints (here ts) (v.tree ∷ [])) ((omega arith, (v.fits.0, tt)), omega (arith, above, v.fits.1))
       (output ⨠ unfinished (begun v) []))
       (λ x one h2.
-      let first = shifted-part (drop 1 ts) x one in
+      let first = shifted-part room (drop 1 ts) x one in
       faulted (all_behind (is_mark m.ShiftLeft) (shifted_out room) (x.0.0 ∷ [], x.0.1) x.1) _ n P h2
       (λ h3.
-      let v = behind-viable shifted_written IsOut out_height (room - 1) (is_mark m.ShiftLeft) (shifted_out room) shifted-part
+      let v = behind-viable shifted_written IsOut out_height (room - 1) (is_mark m.ShiftLeft) (shifted_out room) (shifted-part room)
       (shifted-stops above) (x.0.0 ∷ [], x.0.1) x.1 n h3 in
       viable (t.prints (here ts) (x.0.0 ∷ v.tree))
       ((omega arith, (first.fits, v.fits.0)), omega (arith, above, first.size, first.low, v.fits.1))
       (output ⨠ first.spelled ⨠ begun v))
       (λ xs more h3. no_fault _ n P h3)))
       (λ _ e1. no_effect ts n e1)
-
-  assignment-mark : (kind : Kind) (op : Assignment) → assignment_of room kind ≡ Some op → kind ≡ k.Mark (assignment_mark op)
-  assignment-mark (k.Mark m.Equal) op h = ap (λ (o : Assignment). k.Mark (assignment_mark o)) (some_one h)
-  assignment-mark (k.Mark m.PlusEqual) op h = ap (λ (o : Assignment). k.Mark (assignment_mark o)) (some_one h)
-  assignment-mark (k.Mark m.MinusEqual) op h = ap (λ (o : Assignment). k.Mark (assignment_mark o)) (some_one h)
-  assignment-mark (k.Mark m.StarEqual) op h = ap (λ (o : Assignment). k.Mark (assignment_mark o)) (some_one h)
-  assignment-mark (k.Mark m.SlashEqual) op h = ap (λ (o : Assignment). k.Mark (assignment_mark o)) (some_one h)
-  assignment-mark (k.Mark m.PercentEqual) op h = ap (λ (o : Assignment). k.Mark (assignment_mark o)) (some_one h)
-  assignment-mark _ op h = absurd cc
 
   assigned-by : (op : Option Assignment) (ts us : List Token) (left : Tall Expr) (n : ℕ) → Part written IsExpr height room ts left us
       → assignment_of room (kind_at us) ≡ op → assigned_by room left op us ≡ Err (Grammar n) → Viable EffectLow effect_written ts n
@@ -212,7 +150,7 @@ module _ (room : ℕ) where
       (λ h2.
       let v = expr-viable room 1 (drop 1 us) n (omega arith) (omega arith) (omega arith) h2 in
       viable (t.assigns left.0 op (here us) v.tree) ((first.fits, v.fits.0), omega (arith, lower, first.size, v.fits.1))
-      (first.spelled ⨠ one_word us (k.Mark (assignment_mark op)) (w.Mark (assignment_mark op)) (assignment-mark (kind_at us) op e) refl ⨠ begun v))
+      (first.spelled ⨠ one_word us (k.Mark (assignment_mark op)) (w.Mark (assignment_mark op)) (assignment-mark room (kind_at us) op e) refl ⨠ begun v))
       (λ x read h2. no_fault _ n P h2))
       (λ _ e1. viable (t.evaluates left.0) (first.fits, omega (arith, first.size, first.low)) (ended first.spelled e1))
   assigned-by None ts us left n first e h = no_fault _ n (Viable EffectLow effect_written ts n) h
@@ -223,10 +161,10 @@ module _ (room : ℕ) where
       let P : Type 0 = Viable EffectLow effect_written ts n in
       faulted (expr (room + 1) 1 ts) _ n P h
       (λ h1.
-      let v = expr-stops room 1 (omega arith) (omega arith) ts n h1 in
+      let v = value-stops room ts n h1 in
       viable (t.evaluates v.tree) v.fits (begun v))
       (λ x read h1.
-      assigned-by (assignment_of room (kind_at x.1)) ts x.1 x.0 n (expr-part room 1 (omega arith) (omega arith) ts x read) refl h1)
+      assigned-by (assignment_of room (kind_at x.1)) ts x.1 x.0 n (whole-part room ts x read) refl h1)
 
   -- a read that faults: at its first word where there is no room for it, and else in it
   read-fault : (ts : List Token) (n : ℕ) (P : Type 0) → kind_at ts ≡ k.Input → read room ts ≡ Err (Grammar n)
@@ -251,14 +189,6 @@ module _ (room : ℕ) where
   effect-by k.Output ts n e h = print-viable ts n e h
   effect-by _ ts n e h = value-effect ts n h
 
-  is_input_kind : (kind : Kind) → is_input kind ≡ true → kind ≡ k.Input
-  is_input_kind k.Input h = refl
-  is_input_kind _ h = absurd (false≢true h)
-
-  drop_twice : (ts : List Token) → drop 2 ts ≡ drop 1 (drop 1 ts)
-  drop_twice [] = refl
-  drop_twice (x ∷ ts) = refl
-
   no_read-viable : (ts : List Token) (n : ℕ) → 1 < room → is_mark m.Not (kind_at ts) ≡ true → is_input (kind_at (drop 2 ts)) ≡ true
       → no_read room ts ≡ Err (Grammar n) → Viable CondLow cond_written ts n
   unfolding no_read
@@ -273,8 +203,7 @@ module _ (room : ℕ) where
       (first ⨠ at_once (s.mark m.LeftParenthesis ∷ (read_written some_read ++ s.mark m.RightParenthesis ∷ [])) (drop 1 ts) n
       (mark_fault m.LeftParenthesis (drop 1 ts) n h1)))
       (λ u opened h1.
-      let at_input : drop 2 ts ≡ u.1 = drop_twice ts ∙ sym (mark_rest m.LeftParenthesis (drop 1 ts) u opened) in
-      let kind : kind_at u.1 ≡ k.Input = ap kind_at (sym at_input) ∙ is_input_kind (kind_at (drop 2 ts)) input in
+      let kind = input-behind ts u opened input in
       let open_paren : Spelled (s.mark m.LeftParenthesis ∷ []) (drop 1 ts) u.1 = mark_plain m.LeftParenthesis (drop 1 ts) u opened in
       faulted (read room u.1) _ n P h1
       (λ h2.
@@ -292,16 +221,14 @@ module _ (room : ℕ) where
   value-cond : (ts : List Token) (n : ℕ) → cond_by room k.End ts ≡ Err (Grammar n) → Viable CondLow cond_written ts n
   value-cond ts n h =
       let P : Type 0 = Viable CondLow cond_written ts n in
-      either (nat_lt 1 room && begins_no_read room ts) _ _ n P h
+      chosen (nat_lt 1 room && begins_no_read room ts) _ _ _ P h
       (λ begins h1.
-      let high = both (nat_lt 1 room) (begins_no_read room ts) begins in
-      let input = both (is_mark m.Not (kind_at ts) && is_mark m.LeftParenthesis (kind_at (drop 1 ts))) (is_input (kind_at (drop 2 ts))) high.1 in
-      let sees = both (is_mark m.Not (kind_at ts)) (is_mark m.LeftParenthesis (kind_at (drop 1 ts))) input.0 in
-      no_read-viable ts n (ltb-true 1 room high.0) sees.0 input.1 h1)
+      let of = no_read-begins room ts begins in
+      no_read-viable ts n of.0 of.1 of.2 h1)
       (λ other h1.
       faulted (expr (room + 1) 1 ts) _ n P h1
       (λ h2.
-      let v = expr-stops room 1 (omega arith) (omega arith) ts n h2 in
+      let v = value-stops room ts n h2 in
       viable (t.tests v.tree) v.fits (begun v))
       (λ x read h2. no_fault _ n P h2))
 

@@ -18,12 +18,11 @@ use Rattle.sl_syntax.specs.Written.{binary_mark, written}
 use Rattle.sl_grammar.specs.declared.fault.Fault.TheVariants.{Grammar}
 use Rattle.sl_grammar.specs.Expressions.{infix_of, binds_or, piece_level, goes_on, arguments, operand, indexed, dotted, pointed, piece_by, piece, combined, operation_by, operation, climb, from_operand, expr}
 use Rattle.sl_grammar.specs.Steps.{Reader, Tall, kind_at, here, is_mark, mark, identifier}
-use Rattle.sl_grammar.proofs.SoundExpressions.{sound}
+use Rattle.sl_grammar.proofs.SoundExpressions.{sound, operation-longer}
 use Rattle.sl_grammar.proofs.SoundOperands.{Left, Finds, binary-low, infix-mark, operand-left}
-use Rattle.sl_grammar.proofs.SoundSteps.{one_word, one_plain, identifier_took, Part}
-use Rattle.sl_grammar.proofs.ViableLonger.{operation-longer}
+use Rattle.sl_grammar.proofs.SoundSteps.{one_word, one_plain, identifier_took, Part, chosen}
 use Rattle.sl_grammar.proofs.ViableOperands.{Tight, Lower, StopsIn, arguments-viable, operand-viable}
-use Rattle.sl_grammar.proofs.ViableSteps.{Viable, viable, begun, refitted, at_once, ◌⨠◌, unfinished, ended, some_name, faulted, either, tested, one_fault, no_fault, mark_fault, identifier_fault, Stops}
+use Rattle.sl_grammar.proofs.ViableSteps.{Viable, viable, begun, refitted, at_once, ◌⨠◌, unfinished, ended, some_name, faulted, tested, one_fault, no_fault, mark_fault, identifier_fault, Stops}
 
 module _ (inner smaller : ℕ → Reader (Tall Expr)) (room : ℕ) (f : Finds inner room) (g : Finds smaller (room - 1)) (inner-stops : StopsIn inner room)
     (smaller-stops : StopsIn smaller (room - 1)) (ts : List Token) (left : Tall Expr) (us : List Token) where
@@ -82,7 +81,7 @@ module _ (inner smaller : ℕ → Reader (Tall Expr)) (room : ℕ) (f : Finds in
       (first.spelled ⨠ one_word us (k.Mark m.Dot) (w.Mark m.Dot) e refl
       ⨠ at_once (s.named some_name ∷ []) (drop 1 us) n (identifier_fault (drop 1 us) n h1)))
       (λ x name h1.
-      either (is_mark m.LeftParenthesis (kind_at x.1)) _ _ n P h1
+      chosen (is_mark m.LeftParenthesis (kind_at x.1)) _ _ _ P h1
       (λ calls h2.
       faulted (arguments inner smaller room x.1) _ n P h2
       (λ h3.
@@ -132,13 +131,13 @@ module _ (inner smaller : ℕ → Reader (Tall Expr)) (room : ℕ) (f : Finds in
   unfolding climb
   climb-viable zero least ts left us n one first h =
       let P : Type 0 = Viable (Tight room least) written ts n in
-      either (nat_lt (goes_on (kind_at us)) least) _ _ n P h
+      chosen (nat_lt (goes_on (kind_at us)) least) _ _ _ P h
       (λ stop h1. no_fault _ n P h1)
       (λ on h1.
       left-viable inner smaller room f g inner-stops smaller-stops ts left us least n first.part first.tight (one_fault {A = Tall Expr} _ n h1))
   climb-viable (suc turns) least ts left us n one first h =
       let P : Type 0 = Viable (Tight room least) written ts n in
-      either (nat_lt (goes_on (kind_at us)) least) _ _ n P h
+      chosen (nat_lt (goes_on (kind_at us)) least) _ _ _ P h
       (λ stop h1. no_fault _ n P h1)
       (λ on h1.
       let some : least ≤ goes_on (kind_at us) = ltb-false (goes_on (kind_at us)) least on in
@@ -180,7 +179,7 @@ expr-viable (suc (suc d)) least ts n high one low h =
     from_operand-viable (expr (suc d)) (expr d) (suc d) (sound (suc d)) (rw sub-one (sound d)) (λ l us m a b c e. expr-viable (suc d) l us m a b c e)
     (rw sub-one (λ l us m a b c e. expr-viable d l us m a b c e)) least ts n one low h
 
--- the same, of a depth that isn't 0
-pub expr-stops : (room least : ℕ) → 1 ≤ least → least ≤ 7 → Stops written IsExpr height room (expr (room + 1) least)
-expr-stops room least one low ts n h =
-    refitted (λ (x : Expr) fits. (fits.0, omega (arith, fits.1))) (expr-viable (room + 1) least ts n (omega arith) one low h)
+-- the same, of a whole expression that has so much room
+pub value-stops : (room : ℕ) → Stops written IsExpr height room (expr (room + 1) 1)
+value-stops room ts n h =
+    refitted (λ (x : Expr) fits. (fits.0, omega (arith, fits.1))) (expr-viable (room + 1) 1 ts n (omega arith) (omega arith) (omega arith) h)

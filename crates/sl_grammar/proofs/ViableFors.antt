@@ -1,5 +1,5 @@
 -- The words before a fault in a `for` begin one.
-use Rattle.std.proofs.Common.{Err, List, None, Ok, Option, Some, [], ap, arith, drop, length, refl, true, ℕ, ◌++◌, ◌+◌, ◌<◌, ◌∙◌, ◌∷◌, ◌≡◌, ◌≤◌}
+use Rattle.std.proofs.Common.{Err, List, None, Ok, Option, Some, ap, arith, drop, length, refl, true, ℕ, ◌++◌, ◌+◌, ◌<◌, ◌∙◌, ◌∷◌, ◌≡◌, ◌≤◌}
 use Rattle.std.proofs.lemmas.Bool.{ltb-true}
 use Rattle.std.specs.Prelude.{codes, nat_lt, ◌&&◌}
 use Rattle.sl_base.specs.declared.mark.Mark.TheVariants as m
@@ -15,29 +15,23 @@ use Rattle.sl_syntax.specs.Shaped.{IfThere, IsCond, IsEffect, IsExpr, IsFirst, I
 use Rattle.sl_syntax.specs.Tree as t
 use Rattle.sl_syntax.specs.Tree.{Cond, Effect, Expr, First, Stmt}
 use Rattle.sl_syntax.specs.Written as s
-use Rattle.sl_syntax.specs.Written.{Written, at, cond_written, effect_written, element_word, first_written, option_written, stmt_written, written}
+use Rattle.sl_syntax.specs.Written.{Written, at, cond_written, effect_written, element_word, option_written, stmt_written, written}
 use Rattle.sl_grammar.specs.declared.fault.Fault.TheVariants.{Grammar}
 use Rattle.sl_grammar.specs.Effects as effects
 use Rattle.sl_grammar.specs.Effects.{effect}
 use Rattle.sl_grammar.specs.Expressions.{expr}
 use Rattle.sl_grammar.specs.Statements.{declared_first, first_of, for_behind, for_by, for_loop, is_auto, optional_cond, optional_effect, range_behind, ranges, valued_first, variable_behind}
 use Rattle.sl_grammar.specs.Steps.{Reader, Tall, here, identifier, is_mark, kind_at, mark}
+use Rattle.sl_grammar.proofs.KindLaws.{both}
 use Rattle.sl_grammar.proofs.SoundBlocks.{Finds}
 use Rattle.sl_grammar.proofs.SoundEffects.{effect-part}
-use Rattle.sl_grammar.proofs.SoundExpressions.{sound}
-use Rattle.sl_grammar.proofs.SoundSteps.{Part, Spelled, both, identifier_took, mark_plain, one_plain, one_word, respelled, ◌⨾◌}
+use Rattle.sl_grammar.proofs.SoundFors.{cond-option, effect-option, element-word, first-fits, first-height, first-written, type-fixed, type_kind, type_word, head_written, opened_written, valued-head}
+use Rattle.sl_grammar.proofs.SoundSteps.{Part, identifier_took, mark_plain, one_plain, one_word, chosen}
+use Rattle.sl_grammar.proofs.Spelling.{Spelled, ◌⨾◌}
 use Rattle.sl_grammar.proofs.ViableBlocks.{Faults, LowStmt, inner-stops, some_stmt}
 use Rattle.sl_grammar.proofs.ViableEffects.{cond-viable, effect-viable}
 use Rattle.sl_grammar.proofs.ViableExpressions.{expr-viable}
-use Rattle.sl_grammar.proofs.ViableSteps.{Begun, Stops, Viable, at_once, begun, either, faulted, identifier_fault, mark_fault, no_fault, rewritten, some_expr, some_name, tested, unfinished, viable, ◌⨠◌}
-use Rattle.sl_grammar.proofs.ViableTaken.{cond-option, effect-option, element-word, first-fits, first-height, first-written, type-fixed, type_kind, type_word}
-
--- what stands before the first part, and before the first `;`
-abbrev opened_written : Place → List Written
-opened_written place = at place (w.Key (codes "for")) ∷ s.mark m.LeftParenthesis ∷ []
-
-abbrev head_written : Place → Option First → List Written
-head_written place first = at place (w.Key (codes "for")) ∷ s.mark m.LeftParenthesis ∷ option_written first_written first
+use Rattle.sl_grammar.proofs.ViableSteps.{Begun, Stops, Viable, at_once, begun, faulted, identifier_fault, mark_fault, no_fault, rewritten, some_expr, some_name, tested, unfinished, viable, ◌⨠◌}
 
 -- what may stand behind the first part
 abbrev others_written : List Written
@@ -55,7 +49,7 @@ module _ (inner : Reader (Tall Stmt)) (room : ℕ) (f : Finds inner room) (high 
   unfolding optional_cond
   cond-begun ts n h =
       let P : Type 0 = Viable (λ (x : Option Cond). IfThere IsCond x × (option_height cond_height x ≤ room)) (option_written cond_written) ts n in
-      either (is_mark m.Semicolon (kind_at ts)) _ _ n P h
+      chosen (is_mark m.Semicolon (kind_at ts)) _ _ _ P h
       (λ left_out h1. no_fault _ n P h1)
       (λ there h1.
       faulted (effects.cond room ts) _ n P h1
@@ -69,7 +63,7 @@ module _ (inner : Reader (Tall Stmt)) (room : ℕ) (f : Finds inner room) (high 
   step-begun ts n h =
       let P : Type 0 =
       Viable (λ (x : Option Effect). IfThere IsEffect x × (option_height effect_height x ≤ room)) (option_written effect_written) ts n in
-      either (is_mark m.RightParenthesis (kind_at ts)) _ _ n P h
+      chosen (is_mark m.RightParenthesis (kind_at ts)) _ _ _ P h
       (λ left_out h1. no_fault _ n P h1)
       (λ there h1.
       faulted (effect room ts) _ n P h1
@@ -180,17 +174,7 @@ module _ (inner : Reader (Tall Stmt)) (room : ℕ) (f : Finds inner room) (high 
       (λ h2.
       let v = expr-viable room 1 u.1 n high (omega arith) (omega arith) h2 in
       value-begun type ts us x.0 v.tree n v.fits.0 v.fits.1 (opened ⨠ (variable ⨠ (sign ⨠ unfinished (begun v) others_written))))
-      (λ v read h2.
-      let found = sound room 1 u.1 v (omega arith) (omega arith) read in
-      let first : First = first_of type (here us) x.0 v.0.0 in
-      let declares : Spelled (first_written first) us v.1 =
-      respelled (first-written type (here us) x.0 v.0.0) (variable ⨾ (sign ⨾ found.1.part.spelled)) in
-      for_behind-begun ts v.1 (Some first, v.0.1 + 1) n (record {
-        spelled = opened ⨾ declares;
-        fits = first-fits type (here us) x.0 v.0.0 found.1.part.fits;
-        size = omega (arith, found.1.part.size, first-height type (here us) x.0 v.0.0);
-        low = omega (arith, found.0, found.1.part.low);
-      }) h2))
+      (λ v read h2. for_behind-begun ts v.1 _ n (valued-head inner room f type ts us x u v opened e name equal read) h2))
 
   declared-begun : (type : Option Scalar) (ts us : List Token) (n : ℕ) → Spelled (opened_written (here ts)) ts us
       → kind_at us ≡ type_kind type → declared_first inner room (here ts) type us ≡ Err (Grammar n) → Viable (LowStmt (room + 1)) stmt_written ts n
@@ -202,7 +186,7 @@ module _ (inner : Reader (Tall Stmt)) (room : ℕ) (f : Finds inner room) (high 
       (opened ⨠ (one_word us (type_kind type) (type_word type) e (type-fixed type)
       ⨠ at_once _ (drop 1 us) n (identifier_fault (drop 1 us) n h1))))
       (λ x name h1.
-      either (ranges type && is_mark m.Colon (kind_at x.1)) _ _ n P h1
+      chosen (ranges type && is_mark m.Colon (kind_at x.1)) _ _ _ P h1
       (λ range h2.
       range-begun type ts us x n opened e name (both (ranges type) (is_mark m.Colon (kind_at x.1)) range).0 h2)
       (λ other h2. valued-begun type ts us x n opened e name h2))

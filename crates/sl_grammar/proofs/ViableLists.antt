@@ -1,37 +1,22 @@
 -- Where a list of expressions stops at a fault, the tokens before it begin such a list.
-use Rattle.std.proofs.Common.{◌≡◌, ℕ, ◌-◌, ◌<◌, ◌≤◌, max, length, List, [], ◌∷◌, ◌++◌, Ok, Err, refl, ap, arith}
-use Rattle.std.specs.Prelude.{flat_map, nat_lt}
+use Rattle.std.proofs.Common.{◌≡◌, ℕ, ◌-◌, ◌<◌, ◌≤◌, length, List, [], ◌∷◌, Ok, Err, arith}
+use Rattle.std.specs.Prelude.{nat_lt}
 use Rattle.std.proofs.lemmas.Bool.{ltb-true}
 use Rattle.sl_base.specs.declared.mark.Mark.{Mark}
 use Rattle.sl_base.specs.declared.mark.Mark.TheVariants as m
 use Rattle.sl_base.specs.declared.token.Token.{Token}
-use Rattle.sl_syntax.specs.Depth.{height, list_height, rest_height, highest}
-use Rattle.sl_syntax.specs.Shaped.{IsExpr, AreExprs, IsSomeList, Each}
+use Rattle.sl_syntax.specs.Depth.{height, list_height, highest}
+use Rattle.sl_syntax.specs.Shaped.{IsExpr, AreExprs, IsSomeList}
 use Rattle.sl_syntax.specs.Tree as t
 use Rattle.sl_syntax.specs.Tree.{Expr, Exprs, exprs_from}
-use Rattle.sl_syntax.specs.Written as s
-use Rattle.sl_syntax.specs.Written.{Written, written, list_written, rest_written}
+use Rattle.sl_syntax.specs.Written.{written, list_written}
 use Rattle.sl_grammar.specs.declared.fault.Fault.TheVariants.{Grammar}
 use Rattle.sl_grammar.specs.Expressions.{comma_expr, list_behind, list, list_before}
 use Rattle.sl_grammar.specs.Steps.{Reader, Tall, kind_at, is_mark, mark, all_behind}
-use Rattle.sl_grammar.proofs.SoundSteps.{Took, bound, ◌⨾◌, mark_plain, Part, Parts}
-use Rattle.sl_grammar.proofs.ViableSteps.{Viable, viable, begun, at_once, ◌⨠◌, unfinished, rewritten, some_expr, faulted, either, tested, no_fault, mark_fault, Stops, behind-viable}
-
--- a list behind its first expression
-abbrev comma_written : Expr → List Written
-comma_written x = s.mark m.Comma ∷ written x
-
-rest-written : (xs : List Expr) → flat_map comma_written xs ≡ rest_written (exprs_from xs)
-rest-written [] = refl
-rest-written (x ∷ xs) = ap (λ (l : List Written). s.mark m.Comma ∷ (written x ++ l)) (rest-written xs)
-
-rest-height : (xs : List Expr) → rest_height (exprs_from xs) ≡ highest height xs
-rest-height [] = refl
-rest-height (x ∷ xs) = ap (max (height x)) (rest-height xs)
-
-are_exprs : (xs : List Expr) → Each IsExpr xs → AreExprs (exprs_from xs)
-are_exprs [] h = tt
-are_exprs (x ∷ xs) h = (h.0, are_exprs xs h.1)
+use Rattle.sl_grammar.proofs.Rows.{comma_expr_written, rest-written, rest-height, are_exprs}
+use Rattle.sl_grammar.proofs.SoundLists.{comma-part}
+use Rattle.sl_grammar.proofs.SoundSteps.{Took, mark_plain, Part, Parts, chosen}
+use Rattle.sl_grammar.proofs.ViableSteps.{Viable, viable, begun, at_once, ◌⨠◌, unfinished, rewritten, some_expr, faulted, tested, no_fault, mark_fault, Stops, behind-viable}
 
 -- a list is at most one node higher than its highest
 list-low : (x : Expr) (xs : List Expr) (room : ℕ) → height x < room → highest height xs < room → list_height (t.with x (exprs_from xs)) ≤ room
@@ -49,18 +34,11 @@ ListLow room xs = AreExprs xs × (list_height xs ≤ room)
 module _ (one more : Reader (Tall Expr)) (room : ℕ) (f : Parts written IsExpr height room one)
     (g : (ts : List Token) (y : Took Expr) → more ts ≡ Ok y → (0 < room) × Part written IsExpr height (room - 1) ts y.0 y.1)
     (first-stops : Stops written IsExpr height room one) (more-stops : 0 < room → Stops written IsExpr height (room - 1) more) where
-  comma-part : Parts comma_written IsExpr height (room - 1) (comma_expr one more room)
-  comma-part ts y h =
-      let P : Took Expr → Type 0 = λ z. Part comma_written IsExpr height (room - 1) ts z.0 z.1 in
-      bound (mark m.Comma ts) _ y P h (λ u comma h1.
-      let x = g u.1 y h1 in
-      record { spelled = mark_plain m.Comma ts u comma ⨾ x.1.spelled; fits = x.1.fits; size = x.1.size; low = x.1.low })
-
-  comma-stops : 0 < room → Stops comma_written IsExpr height (room - 1) (comma_expr one more room)
+  comma-stops : 0 < room → Stops comma_expr_written IsExpr height (room - 1) (comma_expr one more room)
   comma-stops high ts n h =
-      let P : Type 0 = Viable (λ (x : Expr). IsExpr x × (height x ≤ room - 1)) comma_written ts n in
+      let P : Type 0 = Viable (λ (x : Expr). IsExpr x × (height x ≤ room - 1)) comma_expr_written ts n in
       faulted (mark m.Comma ts) _ n P h
-      (λ h1. viable some_expr (tt, omega arith) (at_once (comma_written some_expr) ts n (mark_fault m.Comma ts n h1)))
+      (λ h1. viable some_expr (tt, omega arith) (at_once (comma_expr_written some_expr) ts n (mark_fault m.Comma ts n h1)))
       (λ u comma h1.
       let v = more-stops high u.1 n h1 in
       viable v.tree v.fits (mark_plain m.Comma ts u comma ⨠ begun v))
@@ -70,14 +48,14 @@ module _ (one more : Reader (Tall Expr)) (room : ℕ) (f : Parts written IsExpr 
   unfolding list_behind
   behind-stops ts us x n first h =
       let P : Type 0 = Viable (SomeLow room) list_written ts n in
-      either (is_mark m.Comma (kind_at us)) _ _ n P h
+      chosen (is_mark m.Comma (kind_at us)) _ _ _ P h
       (λ comma h1.
       tested (nat_lt x.1 room) _ (length us) n P h1
       (λ below h2.
       let lower : x.1 < room = ltb-true x.1 room below in
       faulted (all_behind (is_mark m.Comma) (comma_expr one more room) ([], 0) us) _ n P h2
       (λ h3.
-      let v = behind-viable comma_written IsExpr height (room - 1) (is_mark m.Comma) (comma_expr one more room) comma-part
+      let v = behind-viable comma_expr_written IsExpr height (room - 1) (is_mark m.Comma) (comma_expr one more room) (comma-part one more room f g)
       (comma-stops (omega arith)) ([], 0) us n h3 in
       viable (t.with x.0 (exprs_from v.tree))
       (tt, (first.fits, are_exprs v.tree v.fits.0), list-low x.0 v.tree room (omega (arith, first.size)) (omega (arith, v.fits.1)))
@@ -101,7 +79,7 @@ module _ (one more : Reader (Tall Expr)) (room : ℕ) (f : Parts written IsExpr 
   unfolding list_before
   list-before-viable close ts n h =
       let P : Type 0 = Viable (ListLow room) list_written ts n in
-      either (is_mark close (kind_at ts)) _ _ n P h
+      chosen (is_mark close (kind_at ts)) _ _ _ P h
       (λ closes h1. no_fault _ n P h1)
       (λ opens h1.
       let v = list-viable ts n h1 in

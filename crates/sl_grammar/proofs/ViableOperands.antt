@@ -9,20 +9,19 @@ use Rattle.sl_syntax.specs.declared.kind.Kind.{Kind}
 use Rattle.sl_syntax.specs.declared.kind.Kind.TheVariants as k
 use Rattle.sl_syntax.specs.declared.operator.PrefixOperator.{PrefixOperator}
 use Rattle.sl_syntax.specs.declared.operator.PrefixOperator.TheVariants as prefix
-use Rattle.sl_syntax.specs.Depth.{height, list_height}
-use Rattle.sl_syntax.specs.Shaped.{level, IsExpr, AreExprs}
+use Rattle.sl_syntax.specs.Depth.{height}
+use Rattle.sl_syntax.specs.Shaped.{level, IsExpr}
 use Rattle.sl_syntax.specs.Tree as t
-use Rattle.sl_syntax.specs.Tree.{Expr, Exprs}
+use Rattle.sl_syntax.specs.Tree.{Expr}
 use Rattle.sl_syntax.specs.Written as s
 use Rattle.sl_syntax.specs.Written.{prefix_mark, written, list_written}
 use Rattle.sl_grammar.specs.declared.fault.Fault.TheVariants.{Grammar}
 use Rattle.sl_grammar.specs.Expressions.{list_before, arguments, named, library_call, parentheses, prefixed, operand_by, operand}
 use Rattle.sl_grammar.specs.Steps.{Reader, Tall, kind_at, here, is_mark, mark, identifier, library}
-use Rattle.sl_grammar.proofs.SoundLists.{list-before-part}
-use Rattle.sl_grammar.proofs.SoundOperands.{Finds, arguments_written}
-use Rattle.sl_grammar.proofs.SoundSteps.{one_word, mark_plain, identifier_took, library_took, Parts}
+use Rattle.sl_grammar.proofs.SoundOperands.{Finds, arguments_written, list-parts}
+use Rattle.sl_grammar.proofs.SoundSteps.{one_word, mark_plain, identifier_took, library_took, chosen}
 use Rattle.sl_grammar.proofs.ViableLists.{ListLow, list-before-viable}
-use Rattle.sl_grammar.proofs.ViableSteps.{Viable, viable, begun, refitted, at_once, ◌⨠◌, unfinished, ended, some_expr, faulted, either, tested, one_fault, no_fault, mark_fault, identifier_fault, library_fault, Stops}
+use Rattle.sl_grammar.proofs.ViableSteps.{Viable, viable, begun, refitted, at_once, ◌⨠◌, unfinished, ended, some_expr, faulted, tested, one_fault, no_fault, mark_fault, identifier_fault, library_fault, Stops}
 
 -- an expression that is no higher than the room, and binds at least so tightly
 abbrev pub Tight : ℕ → ℕ → Expr → Type 0
@@ -44,11 +43,6 @@ whole-stops inner depth stops high ts n h =
 
 module _ (inner smaller : ℕ → Reader (Tall Expr)) (room : ℕ) (f : Finds inner room) (g : Finds smaller (room - 1)) (inner-stops : StopsIn inner room)
     (smaller-stops : StopsIn smaller (room - 1)) where
-  list-parts : Parts list_written AreExprs list_height (room - 1) (list_before (inner 1) (smaller 1) (room - 1) m.RightParenthesis)
-  list-parts =
-      list-before-part (inner 1) (smaller 1) (room - 1) (λ us z e. (f 1 us z (omega arith) (omega arith) e).1.part)
-      (λ us z e. ((g 1 us z (omega arith) (omega arith) e).0, (g 1 us z (omega arith) (omega arith) e).1.part)) m.RightParenthesis
-
   list-stops : 0 < room → (ts : List Token) (n : ℕ) → list_before (inner 1) (smaller 1) (room - 1) m.RightParenthesis ts ≡ Err (Grammar n)
       → Viable (ListLow (room - 1)) list_written ts n
   list-stops high =
@@ -69,7 +63,7 @@ module _ (inner smaller : ℕ → Reader (Tall Expr)) (room : ℕ) (f : Finds in
       let v = list-stops high u.1 n h2 in
       viable v.tree v.fits (mark_plain m.LeftParenthesis ts u opened ⨠ unfinished (begun v) (s.mark m.RightParenthesis ∷ [])))
       (λ xs read h2.
-      let found = list-parts u.1 xs read in
+      let found = list-parts inner smaller room f g u.1 xs read in
       faulted (mark m.RightParenthesis xs.1) _ n P h2
       (λ h3.
       viable xs.0.0 (found.fits, omega (arith, found.size, found.low))
@@ -85,7 +79,7 @@ module _ (inner smaller : ℕ → Reader (Tall Expr)) (room : ℕ) (f : Finds in
       (λ h1. viable some_expr (tt, omega arith, omega arith) (at_once (written some_expr) ts n (identifier_fault ts n h1)))
       (λ x name h1.
       let first = identifier_took ts x name in
-      either (is_mark m.LeftParenthesis (kind_at x.1)) _ _ n P h1
+      chosen (is_mark m.LeftParenthesis (kind_at x.1)) _ _ _ P h1
       (λ calls h2.
       tested (nat_lt 0 room) _ (length x.1) n P h2
       (λ high h3.

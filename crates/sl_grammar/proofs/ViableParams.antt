@@ -20,15 +20,16 @@ use Rattle.sl_syntax.specs.Written.{Written, container_written, param_written, p
 use Rattle.sl_grammar.specs.declared.fault.Fault.TheVariants.{Grammar}
 use Rattle.sl_grammar.specs.Declarations.{comma_param, const_param, container_by, container_param, container_type, param, param_by, params, scalar_param}
 use Rattle.sl_grammar.specs.Steps.{here, identifier, is_mark, kind_at, mark}
-use Rattle.sl_grammar.proofs.SoundDeclarations.{AnyParam, AnyParams}
-use Rattle.sl_grammar.proofs.SoundSteps.{mark_plain, one_word, seen, ◌⨾◌}
+use Rattle.sl_grammar.proofs.Rows.{Anything, comma_param_written}
+use Rattle.sl_grammar.proofs.SoundDeclarations.{by-took, comma-part, param-part, type-took}
+use Rattle.sl_grammar.proofs.SoundSteps.{mark_plain, one_word, seen, chosen}
+use Rattle.sl_grammar.proofs.Spelling.{◌⨾◌}
 use Rattle.sl_grammar.proofs.ViableDeclarations.{type-begun}
-use Rattle.sl_grammar.proofs.ViableSteps.{Stops, Viable, at_once, begun, behind-viable, either, faulted, identifier_fault, mark_fault, no_fault, one_fault, some_name, unfinished, viable, ◌⨠◌}
-use Rattle.sl_grammar.proofs.ViableTaken.{by-took, comma-part, comma_written, param-part, type-took}
+use Rattle.sl_grammar.proofs.ViableSteps.{Stops, Viable, at_once, begun, behind-viable, faulted, identifier_fault, mark_fault, no_fault, one_fault, some_name, unfinished, viable, ◌⨠◌}
 
 -- a parameter that is no higher than any
 abbrev LowParam : Param → Type 0
-LowParam x = AnyParam x × (param_height x ≤ 2)
+LowParam x = Anything x × (param_height x ≤ 2)
 
 scalar_param-begun : (scalar : Scalar) (ts : List Token) (n : ℕ) → kind_at ts ≡ k.Scalar scalar
     → scalar_param (here ts) scalar (drop 1 ts) ≡ Err (Grammar n) → Viable LowParam param_written ts n
@@ -36,7 +37,7 @@ unfolding scalar_param
 scalar_param-begun scalar ts n e h =
     let P : Type 0 = Viable LowParam param_written ts n in
     let word = one_word ts (k.Scalar scalar) (scalar_word scalar) e refl in
-    either (is_mark m.And (kind_at (drop 1 ts))) _ _ n P h
+    chosen (is_mark m.And (kind_at (drop 1 ts))) _ _ _ P h
     (λ sees h1.
     faulted (identifier (drop 1 (drop 1 ts))) _ n P h1
     (λ h2. viable (r.Reference (here ts) scalar some_name) (tt, omega arith)
@@ -105,25 +106,25 @@ param-by (k.Container form) ts n e h = container_param-begun form ts n e h
 param-by k.Const ts n e h = const_param-begun ts n e h
 param-by _ ts n e h = viable some_param (tt, omega arith) (at_once _ ts n (one_fault _ n h))
 
-param-begun : Stops param_written AnyParam param_height 2 param
+param-begun : Stops param_written Anything param_height 2 param
 unfolding param
 param-begun ts n h = param-by (kind_at ts) ts n refl h
 
-comma-begun : Stops comma_written AnyParam param_height 2 comma_param
+comma-begun : Stops comma_param_written Anything param_height 2 comma_param
 unfolding some_param
 comma-begun ts n h =
-    let P : Type 0 = Viable LowParam comma_written ts n in
+    let P : Type 0 = Viable LowParam comma_param_written ts n in
     faulted (mark m.Comma ts) _ n P h
     (λ h1. viable some_param (tt, omega arith) (at_once _ ts n (mark_fault m.Comma ts n h1)))
     (λ u comma h1.
     let v = param-begun u.1 n h1 in
     viable v.tree v.fits (mark_plain m.Comma ts u comma ⨠ begun v))
 
-pub params-begun : Stops params_written AnyParams (highest param_height) 2 params
+pub params-begun : Stops params_written Anything (highest param_height) 2 params
 unfolding params
 params-begun ts n h =
-    let P : Type 0 = Viable (λ (xs : List Param). AnyParams xs × (highest param_height xs ≤ 2)) params_written ts n in
-    either (is_mark m.RightParenthesis (kind_at ts)) _ _ n P h
+    let P : Type 0 = Viable (λ (xs : List Param). Anything xs × (highest param_height xs ≤ 2)) params_written ts n in
+    chosen (is_mark m.RightParenthesis (kind_at ts)) _ _ _ P h
     (λ closes h1. no_fault _ n P h1)
     (λ opens h1.
     faulted (param ts) _ n P h1
@@ -132,5 +133,5 @@ params-begun ts n h =
     viable (v.tree ∷ []) (tt, omega (arith, v.fits.1)) (unfinished (begun v) []))
     (λ x one h2.
     let first = param-part ts x one in
-    let v = behind-viable comma_written AnyParam param_height 2 (is_mark m.Comma) comma_param comma-part comma-begun (x.0.0 ∷ [], x.0.1) x.1 n h2 in
+    let v = behind-viable comma_param_written Anything param_height 2 (is_mark m.Comma) comma_param comma-part comma-begun (x.0.0 ∷ [], x.0.1) x.1 n h2 in
     viable (x.0.0 ∷ v.tree) (tt, omega (arith, first.size, first.low, v.fits.1)) (first.spelled ⨠ begun v)))

@@ -23,14 +23,14 @@ use Rattle.sl_grammar.specs.Statements.{braced, function, function_behind, funct
 use Rattle.sl_grammar.specs.Steps.{here, identifier, kind_at, mark}
 use Rattle.sl_grammar.proofs.SoundBlocks.{block_written}
 use Rattle.sl_grammar.proofs.SoundDeclarations.{params-part}
-use Rattle.sl_grammar.proofs.SoundPrograms.{function-part}
+use Rattle.sl_grammar.proofs.SoundPrograms.{function-part, result-fixed, result_kind}
 use Rattle.sl_grammar.proofs.SoundStatements.{stmt-sound}
-use Rattle.sl_grammar.proofs.SoundSteps.{identifier_took, mark_plain, one_word, ◌⨾◌}
+use Rattle.sl_grammar.proofs.SoundSteps.{identifier_took, mark_plain, one_word}
+use Rattle.sl_grammar.proofs.Spelling.{◌⨾◌}
 use Rattle.sl_grammar.proofs.ViableBlocks.{braced-begun}
 use Rattle.sl_grammar.proofs.ViableParams.{params-begun}
 use Rattle.sl_grammar.proofs.ViableStatements.{stmt-faults}
 use Rattle.sl_grammar.proofs.ViableSteps.{Viable, at_once, begun, behind-viable, faulted, identifier_fault, mark_fault, no_fault, one_fault, some_name, unfinished, viable, ◌⨠◌}
-use Rattle.sl_grammar.proofs.ViableTaken.{result-fixed, result_kind}
 
 -- a block, for one that is missing
 abbrev some_block : Place × Items × Place

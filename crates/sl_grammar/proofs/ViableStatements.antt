@@ -5,6 +5,7 @@ use Rattle.std.specs.Prelude.{codes, nat_lt}
 use Rattle.sl_base.specs.declared.mark.Mark.TheVariants as m
 use Rattle.sl_base.specs.declared.place.Place.{Place}
 use Rattle.sl_base.specs.declared.token.Token.{Token}
+use Rattle.sl_base.specs.declared.word.Word.{Word}
 use Rattle.sl_base.specs.declared.word.Word.TheVariants as w
 use Rattle.sl_syntax.specs.declared.kind.Kind.{Kind}
 use Rattle.sl_syntax.specs.declared.kind.Kind.TheVariants as k
@@ -13,7 +14,7 @@ use Rattle.sl_syntax.specs.Shaped.{IsStmt, ends_open}
 use Rattle.sl_syntax.specs.Tree as t
 use Rattle.sl_syntax.specs.Tree.{Cond, Stmt}
 use Rattle.sl_syntax.specs.Written as s
-use Rattle.sl_syntax.specs.Written.{Written, from_place, plain, stmt_written, tested}
+use Rattle.sl_syntax.specs.Written.{Written, at, from_place, plain, stmt_written, tested}
 use Rattle.sl_syntax.proofs.WrittenLaws.{words_of-from_place}
 use Rattle.sl_grammar.specs.declared.fault.Fault.TheVariants.{Grammar}
 use Rattle.sl_grammar.specs.Effects.{effect}
@@ -22,16 +23,16 @@ use Rattle.sl_grammar.specs.Statements.{block, braced, choice, condition, effect
 use Rattle.sl_grammar.specs.Steps.{Reader, Tall, here, is_mark, kind_at, mark}
 use Rattle.sl_grammar.proofs.SoundBlocks.{Finds, condition-part, condition_written, tested-written}
 use Rattle.sl_grammar.proofs.SoundEffects.{effect-part}
-use Rattle.sl_grammar.proofs.SoundExpressions.{expr-part}
-use Rattle.sl_grammar.proofs.SoundStatements.{stmt-sound}
-use Rattle.sl_grammar.proofs.SoundSteps.{one_plain, one_word}
+use Rattle.sl_grammar.proofs.SoundExpressions.{whole-part}
+use Rattle.sl_grammar.proofs.SoundStatements.{stmt-sound, is_else_kind, not_open}
+use Rattle.sl_grammar.proofs.SoundSteps.{one_plain, one_word, chosen}
+use Rattle.sl_grammar.proofs.Spelling.{Spelled}
 use Rattle.sl_grammar.proofs.ViableBlocks.{Faults, LowStmt, braced-begun, condition-begun, inner-stops, some_stmt}
-use Rattle.sl_grammar.proofs.ViableDeclarations.{value-stops}
 use Rattle.sl_grammar.proofs.ViableEffects.{effect-viable}
+use Rattle.sl_grammar.proofs.ViableExpressions.{value-stops}
 use Rattle.sl_grammar.proofs.ViableFors.{for-begun}
 use Rattle.sl_grammar.proofs.ViableSteps as steps
-use Rattle.sl_grammar.proofs.ViableSteps.{Begun, Viable, at_once, begun, either, faulted, mark_fault, no_fault, one_fault, rewritten, unfinished, viable, ◌⨠◌}
-use Rattle.sl_grammar.proofs.ViableTaken.{is_else_kind, not_open}
+use Rattle.sl_grammar.proofs.ViableSteps.{Begun, Viable, at_once, begun, faulted, mark_fault, no_fault, one_fault, rewritten, unfinished, viable, ◌⨠◌}
 
 -- the place of the first word is none of the words
 placed-begun : {xs : List Written} {ts : List Token} {n : ℕ} (place : Place) → Begun xs ts n → Begun (from_place place xs) ts n
@@ -82,7 +83,7 @@ module _ (inner : Reader (Tall Stmt)) (room : ℕ) (f : Finds inner room) (g : F
       (word ⨠ rewritten (tested-written c.0.0 (stmt_written v.tree)) (asked.spelled ⨠ begun v)))
       (λ a first_read h3.
       let first = f c.1 a first_read in
-      either (is_else (kind_at a.1)) _ _ n P h3
+      chosen (is_else (kind_at a.1)) _ _ _ P h3
       (λ sees h4.
       let other = one_plain a.1 k.Else (w.Key (codes "else")) (is_else_kind (kind_at a.1) sees) refl in
       faulted (inner (drop 1 a.1)) _ n P h4
@@ -129,7 +130,7 @@ module _ (inner : Reader (Tall Stmt)) (room : ℕ) (f : Finds inner room) (g : F
       let P : Type 0 = Viable (LowStmt (room + 1)) stmt_written ts n in
       let word = one_word ts k.Return (w.Key (codes "return")) e refl in
       let close : List Written = s.mark m.Semicolon ∷ [] in
-      either (is_mark m.Semicolon (kind_at (drop 1 ts))) _ _ n P h
+      chosen (is_mark m.Semicolon (kind_at (drop 1 ts))) _ _ _ P h
       (λ ends h1. no_fault _ n P h1)
       (λ goes h1.
       faulted (expr (room + 1) 1 (drop 1 ts)) _ n P h1
@@ -137,7 +138,7 @@ module _ (inner : Reader (Tall Stmt)) (room : ℕ) (f : Finds inner room) (g : F
       let v = value-stops room (drop 1 ts) n h2 in
       viable (t.gives_back (here ts) (Some v.tree)) (v.fits.0, omega (arith, v.fits.1)) (word ⨠ unfinished (begun v) close))
       (λ v read h2.
-      let found = expr-part room 1 (omega arith) (omega arith) (drop 1 ts) v read in
+      let found = whole-part room (drop 1 ts) v read in
       faulted (mark m.Semicolon v.1) _ n P h2
       (λ h3. viable (t.gives_back (here ts) (Some v.0.0)) (found.fits, omega (arith, found.size, found.low))
       (word ⨠ (found.spelled ⨠ at_once close v.1 n (mark_fault m.Semicolon v.1 n h3))))
@@ -159,24 +160,12 @@ module _ (inner : Reader (Tall Stmt)) (room : ℕ) (f : Finds inner room) (g : F
       (placed-begun (here ts) (found.spelled ⨠ at_once close x.1 n (mark_fault m.Semicolon x.1 n h2))))
       (λ u read h2. no_fault _ n P h2))
 
-  break-begun : (ts : List Token) (n : ℕ) → kind_at ts ≡ k.Break → word_stmt inner room t.break ts ≡ Err (Grammar n)
-      → Viable (LowStmt (room + 1)) stmt_written ts n
+  -- a statement that is a word alone
+  word-begun : (word : Word) (make : Place → Stmt) (ts : List Token) (n : ℕ) (P : Type 0) → word_stmt inner room make ts ≡ Err (Grammar n)
+      → Spelled (at (here ts) word ∷ []) ts (drop 1 ts) → (Begun (at (here ts) word ∷ s.mark m.Semicolon ∷ []) ts n → P) → P
   unfolding word_stmt
-  break-begun ts n e h =
-      let P : Type 0 = Viable (LowStmt (room + 1)) stmt_written ts n in
-      faulted (mark m.Semicolon (drop 1 ts)) _ n P h
-      (λ h1. viable (t.break (here ts)) (tt, omega arith)
-      (one_word ts k.Break (w.Key (codes "break")) e refl ⨠ at_once _ (drop 1 ts) n (mark_fault m.Semicolon (drop 1 ts) n h1)))
-      (λ u close h1. no_fault _ n P h1)
-
-  continue-begun : (ts : List Token) (n : ℕ) → kind_at ts ≡ k.Continue → word_stmt inner room t.continue ts ≡ Err (Grammar n)
-      → Viable (LowStmt (room + 1)) stmt_written ts n
-  unfolding word_stmt
-  continue-begun ts n e h =
-      let P : Type 0 = Viable (LowStmt (room + 1)) stmt_written ts n in
-      faulted (mark m.Semicolon (drop 1 ts)) _ n P h
-      (λ h1. viable (t.continue (here ts)) (tt, omega arith)
-      (one_word ts k.Continue (w.Key (codes "continue")) e refl ⨠ at_once _ (drop 1 ts) n (mark_fault m.Semicolon (drop 1 ts) n h1)))
+  word-begun word make ts n P h first go =
+      faulted (mark m.Semicolon (drop 1 ts)) _ n P h (λ h1. go (first ⨠ at_once _ (drop 1 ts) n (mark_fault m.Semicolon (drop 1 ts) n h1)))
       (λ u close h1. no_fault _ n P h1)
 
   stmt-by : (kind : Kind) (ts : List Token) (n : ℕ) → kind_at ts ≡ kind → stmt_by inner room kind ts ≡ Err (Grammar n)
@@ -185,8 +174,12 @@ module _ (inner : Reader (Tall Stmt)) (room : ℕ) (f : Finds inner room) (g : F
   stmt-by k.If ts n e h = choice-begun ts n e h
   stmt-by k.While ts n e h = loop-begun ts n e h
   stmt-by k.For ts n e h = for-begun inner room f g ts n e h
-  stmt-by k.Break ts n e h = break-begun ts n e h
-  stmt-by k.Continue ts n e h = continue-begun ts n e h
+  stmt-by k.Break ts n e h =
+      word-begun (w.Key (codes "break")) t.break ts n (Viable (LowStmt (room + 1)) stmt_written ts n) h
+      (one_word ts k.Break (w.Key (codes "break")) e refl) (λ b. viable (t.break (here ts)) (tt, omega arith) b)
+  stmt-by k.Continue ts n e h =
+      word-begun (w.Key (codes "continue")) t.continue ts n (Viable (LowStmt (room + 1)) stmt_written ts n) h
+      (one_word ts k.Continue (w.Key (codes "continue")) e refl) (λ b. viable (t.continue (here ts)) (tt, omega arith) b)
   stmt-by k.Return ts n e h = return-begun ts n e h
   stmt-by _ ts n e h = effect-begun ts n h
 

@@ -8,6 +8,7 @@ use Rattle.sl_base.specs.declared.word.Word.{Word}
 use Rattle.sl_syntax.specs.declared.kind.Kind.{Kind}
 use Rattle.sl_syntax.specs.declared.kind.Kind.TheVariants as k
 use Rattle.sl_syntax.specs.declared.tree.identifier.Identifier.{Identifier}
+use Rattle.sl_syntax.specs.Begins.{words_in}
 use Rattle.sl_syntax.specs.Blank.{nowhere}
 use Rattle.sl_syntax.specs.Depth.{highest}
 use Rattle.sl_syntax.specs.Placed.{Spells}
@@ -18,11 +19,8 @@ use Rattle.sl_syntax.specs.Written.{Written, words_of}
 use Rattle.sl_syntax.proofs.WrittenLaws.{words_of-append}
 use Rattle.sl_grammar.specs.declared.fault.Fault.TheVariants.{Grammar}
 use Rattle.sl_grammar.specs.Steps.{Outcome, Reader, Tall, and_then, kind_at, is_mark, mark, identifier_by, identifier, library_by, library, repeat, all_behind}
-use Rattle.sl_grammar.proofs.SoundSteps.{Spelled, Parts}
-
--- the words of tokens
-abbrev pub token_words : List Token → List Word
-token_words ts = map (λ (t : Token). t.word) ts
+use Rattle.sl_grammar.proofs.SoundSteps.{Parts, chosen}
+use Rattle.sl_grammar.proofs.Spelling.{Spelled}
 
 -- The tokens before a fault with n tokens left, and a tree whose words they begin.
 pub record Viable {A : Type 0} (Fits : A → Type 0) (written : A → List Written) (ts : List Token) (n : ℕ) : Type 0 where
@@ -101,7 +99,7 @@ pub ◌⨠◌ : {xs ys : List Written} {ts mid : List Token} {n : ℕ} → Spell
       left = b.left;
       more = b.more;
       words = rw (words_of-append xs ys, first.words, b.words, map-append (λ (t : Token). t.word) first.front b.front)
-          (sym (append_assoc (token_words first.front) (token_words b.front) b.more));
+          (sym (append_assoc (words_in first.front) (words_in b.front) b.more));
     }
 
 -- what is begun, and words behind it that are missing
@@ -112,7 +110,7 @@ unfinished {xs = xs} b ys = record {
   whole = b.whole;
   left = b.left;
   more = b.more ++ words_of ys;
-  words = rw (words_of-append xs ys, b.words) (append_assoc (token_words b.front) b.more (words_of ys));
+  words = rw (words_of-append xs ys, b.words) (append_assoc (words_in b.front) b.more (words_of ys));
 }
 
 -- words that are there, at whose end the fault is
@@ -135,11 +133,6 @@ pub faulted : {A B : Type 0} (o : Outcome A) (f : A → Reader B) (n : ℕ) (P :
     → (o ≡ Err (Grammar n) → P) → ((p : A × List Token) → o ≡ Ok p → f p.0 p.1 ≡ Err (Grammar n) → P) → P
 faulted (Ok p) f n P h first later = later p refl h
 faulted (Err e) f n P h first later = first cc
-
-pub either : {A : Type 0} (b : Bool) (o q : Outcome A) (n : ℕ) (P : Type 0) → cond b o q ≡ Err (Grammar n)
-    → (b ≡ true → o ≡ Err (Grammar n) → P) → (b ≡ false → q ≡ Err (Grammar n) → P) → P
-either true o q n P h then other = then refl h
-either false o q n P h then other = other refl h
 
 pub one_fault : {A : Type 0} (m n : ℕ) → ◌≡◌ {A = Outcome A} (Err (Grammar m)) (Err (Grammar n)) → m ≡ n
 one_fault m n h = cc
@@ -184,32 +177,41 @@ Stops {A} written Fits height room item =
 abbrev pub Low : {A : Type 0} → (A → Type 0) → (A → ℕ) → ℕ → List A → Type 0
 Low Fits height room items = Each Fits items × (highest height items ≤ room)
 
+-- where one item stops at a fault, items begin
 module _ {A : Type 0} (written : A → List Written) (Fits : A → Type 0) (height : A → ℕ) (room : ℕ) (goes : Kind → Bool) (item : Reader (Tall A))
-    (f : Parts written Fits height room item) (stops : Stops written Fits height room item) where
+    (f : Parts written Fits height room item)
+    (stops : (ts : List Token) (n : ℕ) → item ts ≡ Err (Grammar n) → Viable (Low Fits height room) (flat_map written) ts n) where
   repeat-viable : (turns : ℕ) (done : Tall (List A)) (ts : List Token) (n : ℕ) → repeat goes item turns done ts ≡ Err (Grammar n)
       → Viable (Low Fits height room) (flat_map written) ts n
   unfolding repeat
   repeat-viable zero done ts n h =
       let P : Type 0 = Viable (Low Fits height room) (flat_map written) ts n in
-      either (goes (kind_at ts)) _ _ n P h
+      chosen (goes (kind_at ts)) _ _ _ P h
       (λ on h1. viable [] (tt, omega arith) (at_once [] ts n (one_fault {A = Tall (List A)} _ n h1)))
       (λ stop h1. no_fault _ n P h1)
   repeat-viable (suc m) done ts n h =
       let P : Type 0 = Viable (Low Fits height room) (flat_map written) ts n in
-      either (goes (kind_at ts)) _ _ n P h
+      chosen (goes (kind_at ts)) _ _ _ P h
       (λ on h1.
-      faulted (item ts) _ n P h1
-      (λ h2.
-      let v = stops ts n h2 in
-      viable (v.tree ∷ []) ((v.fits.0, tt), omega (arith, v.fits.1)) (unfinished (begun v) []))
-      (λ x read h2.
+      faulted (item ts) _ n P h1 (λ h2. stops ts n h2) (λ x read h2.
       let first = f ts x read in
       let others = repeat-viable m (done.0 ++ x.0.0 ∷ [], max done.1 x.0.1) x.1 n h2 in
       viable (x.0.0 ∷ others.tree) ((first.fits, others.fits.0), omega (arith, first.size, first.low, others.fits.1))
       (first.spelled ⨠ begun others)))
       (λ stop h1. no_fault _ n P h1)
 
+  pub row-viable : (done : Tall (List A)) (ts : List Token) (n : ℕ) → all_behind goes item done ts ≡ Err (Grammar n)
+      → Viable (Low Fits height room) (flat_map written) ts n
+  row-viable done ts n h = repeat-viable (length ts) done ts n h
+
+module _ {A : Type 0} (written : A → List Written) (Fits : A → Type 0) (height : A → ℕ) (room : ℕ) (goes : Kind → Bool) (item : Reader (Tall A))
+    (f : Parts written Fits height room item) (stops : Stops written Fits height room item) where
+  alone-viable : (ts : List Token) (n : ℕ) → item ts ≡ Err (Grammar n) → Viable (Low Fits height room) (flat_map written) ts n
+  alone-viable ts n h =
+      let v = stops ts n h in
+      viable (v.tree ∷ []) ((v.fits.0, tt), omega (arith, v.fits.1)) (unfinished (begun v) [])
+
   -- the fault is in the items that follow
   pub behind-viable : (done : Tall (List A)) (ts : List Token) (n : ℕ) → all_behind goes item done ts ≡ Err (Grammar n)
       → Viable (Low Fits height room) (flat_map written) ts n
-  behind-viable done ts n h = repeat-viable (length ts) done ts n h
+  behind-viable done ts n h = row-viable written Fits height room goes item f alone-viable done ts n h

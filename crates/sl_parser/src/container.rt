@@ -1,6 +1,4 @@
 //! The type of a container.
-ghost use Rattle.std.specs.Prelude.{◌≡◌};
-ghost use Rattle.sl_syntax.specs.Written as written;
 ghost use Rattle.sl_grammar.specs.Steps.{Reads};
 ghost use Rattle.sl_grammar.specs.Declarations.{elements_by};
 ghost use Rattle.sl_parser.specs.Reader as spec;
@@ -17,18 +15,9 @@ pub fn container_type(tokens: &mut Tokens<'_>, form: Form) -> Result<ContainerTy
 {
     let place = tokens.place();
     tokens.skip();
-    elements(tokens, is_map(form))?;
-    Ok(ContainerType { place, form })
-}
-
-// Whether an element is a key with its value.
-fn is_map(form: Form) -> bool
-    ensures { result ≡ written.is_map form }
-{
-    match form {
-        Form::Map | Form::HashMap => true,
-        _ => false,
-    }
+    let container = ContainerType { place, form };
+    elements(tokens, container.is_map())?;
+    Ok(container)
 }
 
 // `<int>`, or `<int, int>` where there are values.

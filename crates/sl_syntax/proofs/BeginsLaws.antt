@@ -39,13 +39,15 @@ not_whole P ws k stops whole = by_test (cases_lt k (length ws)) where
   by_test (inr h) = stops.ends (omega (arith, stops.inside)) whole
 
 -- Words behind a front stop where they do without it.
-pub behind_front : (P Q : List Word → Type 0) (front ws : List Word) (k : ℕ) → ((rest : List Word) → Q rest → P (front ++ rest)) → ((rest : List Word) → P (front ++ rest) → Q rest)
+pub behind_front : (P Q : List Word → Type 0) (front ws : List Word) (k : ℕ) → ((rest : List Word) → Q rest → P (front ++ rest))
+    → ((rest : List Word) → P (front ++ rest) → Q rest)
     → Stops Q ws k → Stops P (front ++ ws) (length front + k)
 behind_front P Q front ws k joined parted stops = record {
   inside = rw length-append (omega (arith, stops.inside));
   before =
       let first = stops.before in
-      let e : take (length front + k) (front ++ ws) ++ first.0 ≡ front ++ (take k ws ++ first.0) = ap (λ l. l ++ first.0) (take-append-add front ws k) ∙ append_assoc front (take k ws) first.0 in
+      let e : take (length front + k) (front ++ ws) ++ first.0 ≡ front ++ (take k ws ++ first.0) =
+      ap (λ l. l ++ first.0) (take-append-add front ws k) ∙ append_assoc front (take k ws) first.0 in
       (first.0, subst P (sym e) (joined (take k ws ++ first.0) first.1));
   behind = λ h begins.
       let n : length front + k + 1 ≡ length front + (k + 1) = omega arith in
@@ -69,7 +71,8 @@ stops_at_first P w ws begins none = record {
 }
 
 -- a second word behind a whole first one, which nothing follows
-pub stops_at_second : (P : List Word → Type 0) (w v : Word) (ws : List Word) → P (w ∷ []) → ((rest : List Word) → P (w ∷ v ∷ rest) → ⊥) → Stops P (w ∷ v ∷ ws) 1
+pub stops_at_second : (P : List Word → Type 0) (w v : Word) (ws : List Word) → P (w ∷ [])
+    → ((rest : List Word) → P (w ∷ v ∷ rest) → ⊥) → Stops P (w ∷ v ∷ ws) 1
 stops_at_second P w v ws whole none = record {
   inside = omega arith;
   before = ([], whole);

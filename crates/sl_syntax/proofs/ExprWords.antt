@@ -44,7 +44,8 @@ pub words-Binary : (x : Box ExprCode Global) (op : BinaryOperator) (p : Place) (
     → expr_words_of (e.Binary x op p y) ≡ expr_words_of x.value ++ w.Mark (binary_mark op) ∷ expr_words_of y.value
 words-Binary x op p y = as_data (e.Binary x op p y) _ (expr_of-Binary x op p y) ∙ rw words_of-append refl
 
-pub words-Postfix : (x : Box ExprCode Global) (op : PostfixOperator) (p : Place) → expr_words_of (e.Postfix x op p) ≡ expr_words_of x.value ++ w.Mark (postfix_mark op) ∷ []
+pub words-Postfix : (x : Box ExprCode Global) (op : PostfixOperator) (p : Place)
+    → expr_words_of (e.Postfix x op p) ≡ expr_words_of x.value ++ w.Mark (postfix_mark op) ∷ []
 words-Postfix x op p = as_data (e.Postfix x op p) _ (expr_of-Postfix x op p) ∙ rw words_of-append refl
 
 pub words-Index : (x : Box ExprCode Global) (p : Place) (y : Box ExprCode Global)
@@ -59,11 +60,23 @@ pub words-Member : (x : Box ExprCode Global) (s : Selector) (p : Place) (f : Ide
     → expr_words_of (e.Member x s p f) ≡ expr_words_of x.value ++ w.Mark (selector_mark s) ∷ w.Name f.name ∷ []
 words-Member x s p f = as_data (e.Member x s p f) _ (expr_of-Member x s p f) ∙ rw words_of-append refl
 
-pub ruleset expr_words = (words-Call, words-LibraryCall, words-Parentheses, words-Prefix, words-Binary, words-Postfix, words-Index, words-MemberCall, words-Member, words_of-append)
+pub ruleset expr_words = (
+  words-Call,
+  words-LibraryCall,
+  words-Parentheses,
+  words-Prefix,
+  words-Binary,
+  words-Postfix,
+  words-Index,
+  words-MemberCall,
+  words-Member,
+  words_of-append,
+)
 
 rest_words : (xs : List ExprCode) → words_of (rest_written (exprs_of xs)) ≡ flat_map (λ y. w.Mark m.Comma ∷ expr_words_of y) xs
 rest_words [] = refl
-rest_words (x ∷ xs) = ap (λ (l : List Word). w.Mark m.Comma ∷ l) (words_of-append (written (expr_of x)) (rest_written (exprs_of xs)) ∙ ap (λ (l : List Word). expr_words_of x ++ l) (rest_words xs))
+rest_words (x ∷ xs) = ap (λ (l : List Word). w.Mark m.Comma ∷ l)
+    (words_of-append (written (expr_of x)) (rest_written (exprs_of xs)) ∙ ap (λ (l : List Word). expr_words_of x ++ l) (rest_words xs))
 
 pub list_words : (xs : List ExprCode) → words_of (list_written (exprs_of xs)) ≡ separated expr_words_of xs
 list_words [] = refl

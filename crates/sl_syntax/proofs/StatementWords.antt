@@ -36,16 +36,19 @@ pub words-Block : (b : BlockCode) → stmt_words_of (s.Block b) ≡ words_of (st
 words-Block b = as_data (s.Block b) _ (stmt_of-Block b)
 
 pub words-If : (p : Place) (c : CondCode) (a : Box StmtCode Global) → stmt_words_of (s.If p c a None) ≡ w.Key (codes "if") ∷ (tested_words c ++ stmt_words_of a.value)
-words-If p c a = as_data (s.If p c a None) _ (stmt_of-If p c a) ∙ ap (λ (l : List Word). w.Key (codes "if") ∷ l) (words_of-tested (cond_of c) (stmt_written (stmt_of a.value)))
+words-If p c a = as_data (s.If p c a None) _ (stmt_of-If p c a)
+    ∙ ap (λ (l : List Word). w.Key (codes "if") ∷ l) (words_of-tested (cond_of c) (stmt_written (stmt_of a.value)))
 
 pub words-If_else : (p : Place) (c : CondCode) (a b : Box StmtCode Global)
     → stmt_words_of (s.If p c a (Some b)) ≡ w.Key (codes "if") ∷ (tested_words c ++ (stmt_words_of a.value ++ w.Key (codes "else") ∷ stmt_words_of b.value))
 words-If_else p c a b =
     as_data (s.If p c a (Some b)) _ (stmt_of-If_else p c a b)
-    ∙ ap (λ (l : List Word). w.Key (codes "if") ∷ l) (words_of-tested (cond_of c) _ ∙ ap (λ (l : List Word). tested_words c ++ l) (words_of-append (stmt_written (stmt_of a.value)) _))
+    ∙ ap (λ (l : List Word). w.Key (codes "if") ∷ l) (words_of-tested (cond_of c) _
+    ∙ ap (λ (l : List Word). tested_words c ++ l) (words_of-append (stmt_written (stmt_of a.value)) _))
 
 pub words-While : (p : Place) (c : CondCode) (a : Box StmtCode Global) → stmt_words_of (s.While p c a) ≡ w.Key (codes "while") ∷ (tested_words c ++ stmt_words_of a.value)
-words-While p c a = as_data (s.While p c a) _ (stmt_of-While p c a) ∙ ap (λ (l : List Word). w.Key (codes "while") ∷ l) (words_of-tested (cond_of c) (stmt_written (stmt_of a.value)))
+words-While p c a = as_data (s.While p c a) _ (stmt_of-While p c a)
+    ∙ ap (λ (l : List Word). w.Key (codes "while") ∷ l) (words_of-tested (cond_of c) (stmt_written (stmt_of a.value)))
 
 abbrev pub parts_words : Option FirstCode → Option CondCode → Option EffectCode → List Word
 parts_words x y z =

@@ -76,7 +76,17 @@ pub stmt_of-RangeFor : (p : Place) (is_auto : Bool) (x v : Identifier) (a : Box 
     → stmt_of (s.RangeFor p is_auto x v a) ≡ t.range_for p is_auto x v (stmt_of a.value)
 stmt_of-RangeFor p is_auto x v a = search (rules, stmt_lemmas)
 
-pub ruleset expr_views = (expr_of-Call, expr_of-LibraryCall, expr_of-Parentheses, expr_of-Prefix, expr_of-Binary, expr_of-Postfix, expr_of-Index, expr_of-MemberCall, expr_of-Member)
+pub ruleset expr_views = (
+  expr_of-Call,
+  expr_of-LibraryCall,
+  expr_of-Parentheses,
+  expr_of-Prefix,
+  expr_of-Binary,
+  expr_of-Postfix,
+  expr_of-Index,
+  expr_of-MemberCall,
+  expr_of-Member,
+)
 
 pub ruleset stmt_views = (stmt_of-Block, stmt_of-If, stmt_of-If_else, stmt_of-While, stmt_of-For, stmt_of-RangeFor)
 

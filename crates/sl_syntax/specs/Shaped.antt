@@ -16,22 +16,7 @@ use Rattle.sl_syntax.specs.Kinds.{kind_of}
 use Rattle.sl_syntax.specs.Tree as t
 use Rattle.sl_syntax.specs.Tree.{Expr, Exprs, Initializer, Declaration, Out, Effect, Cond, First, Stmt, Item, Items, Function, Program}
 
--- How tightly things bind: the rules from `expr`, 1, to `prim`, 9. An item of a print is a sum, 5.
-abbrev pub whole : ℕ
-whole = 1
-
-abbrev pub sum : ℕ
-sum = 5
-
-abbrev pub unary : ℕ
-unary = 7
-
-abbrev pub post : ℕ
-post = 8
-
-abbrev pub prim : ℕ
-prim = 9
-
+-- How tightly things bind, by the grammar's rules: `expr` 1, `conj` 2, `eq` 3, `rel` 4, `sum` 5, `term` 6, `unary` 7, `post` 8, `prim` 9.
 abbrev pub arithmetic_level : Arithmetic → ℕ
 arithmetic_level a.Add = 5
 arithmetic_level a.Subtract = 5

@@ -1,3 +1,5 @@
+ghost use Rattle.std.specs.Prelude.{◌≡◌};
+
 use crate::tree::{Expr, Identifier};
 use sl_base::{Form, Place, Scalar};
 
@@ -6,6 +8,17 @@ use sl_base::{Form, Place, Scalar};
 pub struct ContainerType {
     pub place: Place,
     pub form: Form,
+}
+
+impl ContainerType {
+    ghost use Rattle.sl_syntax.specs.Written.{is_map};
+
+    /// Whether its elements are keys with their values.
+    pub fn is_map(self) -> bool
+        ensures { result ≡ is_map self.form }
+    {
+        matches!(self.form, Form::Map | Form::HashMap)
+    }
 }
 
 /// What a container is made from.

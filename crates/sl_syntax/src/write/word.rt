@@ -106,12 +106,6 @@ fn form_word(form: Form) -> Word
     }
 }
 
-fn is_map(form: Form) -> bool
-    ensures { result ≡ spec.is_map form }
-{
-    matches!(form, Form::Map | Form::HashMap)
-}
-
 /// Writes `<int>`, or `<int, int>` for a map.
 fn write_elements(out: &mut Items<Word>, is_map: bool) -> Result<(), AllocError>
     ensures { OnOk result (out.new ≡ out.old ++ spec.words_of (spec.elements_written is_map)) }
@@ -130,5 +124,5 @@ pub fn write_container(out: &mut Items<Word>, container: ContainerType) -> Resul
     ensures { OnOk result (out.new ≡ out.old ++ spec.words_of (spec.container_written container)) }
 {
     out.push(form_word(container.form))?;
-    write_elements(out, is_map(container.form))
+    write_elements(out, container.is_map())
 }

@@ -12,6 +12,6 @@ built_tokens-requires-clause-whole c = is_program c.args.tokens.now _ c.in-Ok.en
 
 pub returns : goal.returns
 returns c = elim c.match-parse.branch [
-    in-Ok w ↦ rw w.result-is w.built_tokens.ensures
+  | in-Ok w ↦ rw w.result-is w.built_tokens.ensures
   | in-Err+in_ok-grammar_refusal-in-Err w ↦ rw w.result-is w.in_ok-grammar_refusal-in-Err.ensures
-  ]
+]
