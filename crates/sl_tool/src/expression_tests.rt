@@ -309,36 +309,18 @@ const LIBRARY_CALLS: [(&str, &str); 32] = [
 ];
 
 #[test]
-fn reads(rt: HostRuntime) -> Result<(), Fail> {
-    check_bodies(&rt, rt.alloc(), &READS)
-}
-
-#[test]
-fn prints(rt: HostRuntime) -> Result<(), Fail> {
-    check_bodies(&rt, rt.alloc(), &PRINTS)
-}
-
-#[test]
-fn assignments(rt: HostRuntime) -> Result<(), Fail> {
-    check_bodies(&rt, rt.alloc(), &ASSIGNMENTS)
-}
-
-#[test]
-fn operators(rt: HostRuntime) -> Result<(), Fail> {
-    check_bodies(&rt, rt.alloc(), &OPERATORS)
-}
-
-#[test]
-fn signs(rt: HostRuntime) -> Result<(), Fail> {
-    check_bodies(&rt, rt.alloc(), &SIGNS)
-}
-
-#[test]
-fn operands(rt: HostRuntime) -> Result<(), Fail> {
-    check_bodies(&rt, rt.alloc(), &OPERANDS)
-}
-
-#[test]
-fn library_calls(rt: HostRuntime) -> Result<(), Fail> {
-    check_bodies(&rt, rt.alloc(), &LIBRARY_CALLS)
+fn expressions(rt: HostRuntime) -> Result<(), Fail> {
+    let tables: [&[(&str, &str)]; 7] = [
+        &READS,
+        &PRINTS,
+        &ASSIGNMENTS,
+        &OPERATORS,
+        &SIGNS,
+        &OPERANDS,
+        &LIBRARY_CALLS,
+    ];
+    for table in tables {
+        check_bodies(&rt, rt.alloc(), table)?;
+    }
+    Ok(())
 }

@@ -422,51 +422,28 @@ const JUMPS: [(&str, &str); 19] = [
 ];
 
 #[test]
-fn functions(rt: HostRuntime) -> Result<(), Fail> {
-    check_texts(&rt, rt.alloc(), &FUNCTIONS)
+fn heads(rt: HostRuntime) -> Result<(), Fail> {
+    let tables: [&[(&str, &str)]; 2] = [&FUNCTIONS, &PARAMS];
+    for table in tables {
+        check_texts(&rt, rt.alloc(), table)?;
+    }
+    Ok(())
 }
 
 #[test]
-fn params(rt: HostRuntime) -> Result<(), Fail> {
-    check_texts(&rt, rt.alloc(), &PARAMS)
-}
-
-#[test]
-fn containers(rt: HostRuntime) -> Result<(), Fail> {
-    check_bodies(&rt, rt.alloc(), &CONTAINERS)
-}
-
-#[test]
-fn scalars(rt: HostRuntime) -> Result<(), Fail> {
-    check_bodies(&rt, rt.alloc(), &SCALARS)
-}
-
-#[test]
-fn initializers(rt: HostRuntime) -> Result<(), Fail> {
-    check_bodies(&rt, rt.alloc(), &INITIALIZERS)
-}
-
-#[test]
-fn blocks(rt: HostRuntime) -> Result<(), Fail> {
-    check_bodies(&rt, rt.alloc(), &BLOCKS)
-}
-
-#[test]
-fn choices(rt: HostRuntime) -> Result<(), Fail> {
-    check_bodies(&rt, rt.alloc(), &CHOICES)
-}
-
-#[test]
-fn loops(rt: HostRuntime) -> Result<(), Fail> {
-    check_bodies(&rt, rt.alloc(), &LOOPS)
-}
-
-#[test]
-fn ranges(rt: HostRuntime) -> Result<(), Fail> {
-    check_bodies(&rt, rt.alloc(), &RANGES)
-}
-
-#[test]
-fn jumps(rt: HostRuntime) -> Result<(), Fail> {
-    check_bodies(&rt, rt.alloc(), &JUMPS)
+fn bodies(rt: HostRuntime) -> Result<(), Fail> {
+    let tables: [&[(&str, &str)]; 8] = [
+        &CONTAINERS,
+        &SCALARS,
+        &INITIALIZERS,
+        &BLOCKS,
+        &CHOICES,
+        &LOOPS,
+        &RANGES,
+        &JUMPS,
+    ];
+    for table in tables {
+        check_bodies(&rt, rt.alloc(), table)?;
+    }
+    Ok(())
 }
