@@ -1,4 +1,6 @@
 -- Steps of a reader over tokens: a value and the tokens behind it, or the fault of the first token that can't stand there.
+-- The readers here and in the files beside are a means: each function of the parser is one. What the grammar is, `Written`, `Depth` and
+-- `Shaped` of sl_syntax say, from trees to words; proofs/Laws ties the reader of programs to them, and no public clause names a reader.
 use Rattle.std.specs.Prelude.{ℕ, zero, suc, ◌≡◌, ◌≢◌, ◌++◌, List, [], ◌∷◌, drop, length, max, Bool, false, if◌then◌else◌, Result, Ok, Err}
 use denote.Enum.Bare.{sameb}
 use Rattle.sl_base.specs.contracts.mark.Mark.{the_type}

@@ -3,7 +3,7 @@
 -- operand is one, and holds all to its left.
 use Rattle.std.specs.Prelude.{ℕ, ◌+◌, max, List, [], ◌∷◌, Option, Some, None}
 use Rattle.sl_syntax.specs.declared.tree.function.Param.{Param}
-use Rattle.sl_syntax.specs.declared.tree.function.Param.TheVariants as r
+use Rattle.sl_syntax.specs.declared.tree.function.Param.TheVariants as param
 use Rattle.sl_syntax.specs.Tree as t
 use Rattle.sl_syntax.specs.Tree.{Expr, Exprs, Initializer, Declaration, Out, Effect, Cond, First, Stmt, Item, Items, Function, Program}
 
@@ -99,10 +99,10 @@ abbrev mutual
   items_height (t.followed x xs) = max (item_height x) (items_height xs)
 
 abbrev pub param_height : Param → ℕ
-param_height (r.Value place s x) = 1
-param_height (r.Reference place s x) = 1
-param_height (r.Container c x) = 2
-param_height (r.ConstContainer place c x) = 2
+param_height (param.Value place s x) = 1
+param_height (param.Reference place s x) = 1
+param_height (param.Container c x) = 2
+param_height (param.ConstContainer place c x) = 2
 
 abbrev pub function_height : Function → ℕ
 function_height f = max (highest param_height f.params) (stmt_height (t.block f.opens f.items f.closes)) + 1

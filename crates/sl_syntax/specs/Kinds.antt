@@ -2,24 +2,24 @@
 -- key stands nowhere.
 use Rattle.std.specs.Prelude.{ℕ, true, false, List, [], ◌∷◌, Option, Some, None, option_map, find, codes}
 use Rattle.std.specs.Str.{bytes_eq}
-use Rattle.sl_base.specs.declared.form.Form.TheVariants as f
-use Rattle.sl_base.specs.declared.scalar.Scalar.TheVariants as t
+use Rattle.sl_base.specs.declared.form.Form.TheVariants as form
+use Rattle.sl_base.specs.declared.scalar.Scalar.TheVariants as scalar
 use Rattle.sl_base.specs.declared.word.Word.{Word}
 use Rattle.sl_base.specs.declared.word.Word.TheVariants as w
 use Rattle.sl_syntax.specs.declared.kind.Kind.{Kind}
-use Rattle.sl_syntax.specs.declared.kind.Kind.TheVariants as k
+use Rattle.sl_syntax.specs.declared.kind.Kind.TheVariants as kind
 
 abbrev pub keys : List (List ℕ × Kind)
 keys =
-    (codes "int", k.Scalar t.Int) ∷ (codes "bool", k.Scalar t.Bool) ∷ (codes "true", k.Truth true) ∷ (codes "false", k.Truth false)
-    ∷ (codes "void", k.Void) ∷ (codes "const", k.Const) ∷ (codes "auto", k.Auto) ∷ (codes "if", k.If) ∷ (codes "else", k.Else)
-    ∷ (codes "while", k.While) ∷ (codes "for", k.For) ∷ (codes "break", k.Break) ∷ (codes "continue", k.Continue) ∷ (codes "return", k.Return) ∷ []
+    (codes "int", kind.Scalar scalar.Int) ∷ (codes "bool", kind.Scalar scalar.Bool) ∷ (codes "true", kind.Truth true) ∷ (codes "false", kind.Truth false)
+    ∷ (codes "void", kind.Void) ∷ (codes "const", kind.Const) ∷ (codes "auto", kind.Auto) ∷ (codes "if", kind.If) ∷ (codes "else", kind.Else)
+    ∷ (codes "while", kind.While) ∷ (codes "for", kind.For) ∷ (codes "break", kind.Break) ∷ (codes "continue", kind.Continue) ∷ (codes "return", kind.Return) ∷ []
 
 abbrev pub libs : List (List ℕ × Kind)
 libs =
-    (codes "size_t", k.Scalar t.Size) ∷ (codes "ptrdiff_t", k.Scalar t.Diff) ∷ (codes "vector", k.Container f.Vector) ∷ (codes "deque", k.Container f.Deque)
-    ∷ (codes "list", k.Container f.List) ∷ (codes "set", k.Container f.Set) ∷ (codes "map", k.Container f.Map) ∷ (codes "unordered_set", k.Container f.HashSet)
-    ∷ (codes "unordered_map", k.Container f.HashMap) ∷ (codes "cin", k.Input) ∷ (codes "cout", k.Output) ∷ (codes "endl", k.EndLine) ∷ []
+    (codes "size_t", kind.Scalar scalar.Size) ∷ (codes "ptrdiff_t", kind.Scalar scalar.Diff) ∷ (codes "vector", kind.Container form.Vector) ∷ (codes "deque", kind.Container form.Deque)
+    ∷ (codes "list", kind.Container form.List) ∷ (codes "set", kind.Container form.Set) ∷ (codes "map", kind.Container form.Map) ∷ (codes "unordered_set", kind.Container form.HashSet)
+    ∷ (codes "unordered_map", kind.Container form.HashMap) ∷ (codes "cin", kind.Input) ∷ (codes "cout", kind.Output) ∷ (codes "endl", kind.EndLine) ∷ []
 
 abbrev pub kind_or : Kind → Option Kind → Kind
 kind_or instead None = instead
@@ -30,9 +30,9 @@ abbrev pub kind_in : List (List ℕ × Kind) → Kind → List ℕ → Kind
 kind_in rows instead bytes = kind_or instead (option_map (λ m. m.1) (find (λ m. bytes_eq m.0 bytes) rows))
 
 abbrev pub kind_of : Word → Kind
-kind_of (w.Name name) = k.Name
-kind_of (w.Lib name) = kind_in libs k.Library name
-kind_of (w.Key name) = kind_in keys k.Other name
-kind_of (w.Number n) = k.Number
-kind_of (w.Text bytes) = k.Text
-kind_of (w.Mark m) = k.Mark m
+kind_of (w.Name name) = kind.Name
+kind_of (w.Lib name) = kind_in libs kind.Library name
+kind_of (w.Key name) = kind_in keys kind.Other name
+kind_of (w.Number n) = kind.Number
+kind_of (w.Text bytes) = kind.Text
+kind_of (w.Mark m) = kind.Mark m

@@ -3,13 +3,13 @@
 use Rattle.std.specs.Prelude.{◌≡◌, ℕ, ◌<◌, ◌≤◌, Bool, true, false, List, [], ◌∷◌, length, Option, Some, None, ⊤}
 use Rattle.sl_base.specs.declared.limits.TheConstants.{TREE_DEPTH}
 use Rattle.sl_base.specs.declared.word.Word.TheVariants as w
-use Rattle.sl_syntax.specs.declared.kind.Kind.TheVariants as k
+use Rattle.sl_syntax.specs.declared.kind.Kind.TheVariants as kind
 use Rattle.sl_syntax.specs.declared.operator.Arithmetic.{Arithmetic}
-use Rattle.sl_syntax.specs.declared.operator.Arithmetic.TheVariants as a
+use Rattle.sl_syntax.specs.declared.operator.Arithmetic.TheVariants as arithmetic
 use Rattle.sl_syntax.specs.declared.operator.BinaryOperator.{BinaryOperator}
-use Rattle.sl_syntax.specs.declared.operator.BinaryOperator.TheVariants as b
+use Rattle.sl_syntax.specs.declared.operator.BinaryOperator.TheVariants as binary
 use Rattle.sl_syntax.specs.declared.operator.Comparison.{Comparison}
-use Rattle.sl_syntax.specs.declared.operator.Comparison.TheVariants as l
+use Rattle.sl_syntax.specs.declared.operator.Comparison.TheVariants as comparison
 use Rattle.sl_syntax.specs.declared.tree.effect.Read.{Read}
 use Rattle.sl_syntax.specs.Depth.{depth}
 use Rattle.sl_syntax.specs.Kinds.{kind_of}
@@ -18,25 +18,25 @@ use Rattle.sl_syntax.specs.Tree.{Expr, Exprs, Initializer, Declaration, Out, Eff
 
 -- How tightly things bind, by the grammar's rules: `expr` 1, `conj` 2, `eq` 3, `rel` 4, `sum` 5, `term` 6, `unary` 7, `post` 8, `prim` 9.
 abbrev pub arithmetic_level : Arithmetic → ℕ
-arithmetic_level a.Add = 5
-arithmetic_level a.Subtract = 5
-arithmetic_level a.Multiply = 6
-arithmetic_level a.Divide = 6
-arithmetic_level a.Remainder = 6
+arithmetic_level arithmetic.Add = 5
+arithmetic_level arithmetic.Subtract = 5
+arithmetic_level arithmetic.Multiply = 6
+arithmetic_level arithmetic.Divide = 6
+arithmetic_level arithmetic.Remainder = 6
 
 abbrev pub comparison_level : Comparison → ℕ
-comparison_level l.Equal = 3
-comparison_level l.NotEqual = 3
-comparison_level l.Less = 4
-comparison_level l.LessEqual = 4
-comparison_level l.Greater = 4
-comparison_level l.GreaterEqual = 4
+comparison_level comparison.Equal = 3
+comparison_level comparison.NotEqual = 3
+comparison_level comparison.Less = 4
+comparison_level comparison.LessEqual = 4
+comparison_level comparison.Greater = 4
+comparison_level comparison.GreaterEqual = 4
 
 abbrev pub binary_level : BinaryOperator → ℕ
-binary_level b.Or = 1
-binary_level b.And = 2
-binary_level (b.Comparison op) = comparison_level op
-binary_level (b.Arithmetic op) = arithmetic_level op
+binary_level binary.Or = 1
+binary_level binary.And = 2
+binary_level (binary.Comparison op) = comparison_level op
+binary_level (binary.Arithmetic op) = arithmetic_level op
 
 -- the rule to which an expression belongs
 abbrev pub level : Expr → ℕ
@@ -60,7 +60,7 @@ abbrev mutual
   IsExpr (t.truth place v) = ⊤
   IsExpr (t.name x) = ⊤
   IsExpr (t.call f xs) = AreExprs xs
-  IsExpr (t.library_call f xs) = (kind_of (w.Lib f.name) ≡ k.Library) × AreExprs xs
+  IsExpr (t.library_call f xs) = (kind_of (w.Lib f.name) ≡ kind.Library) × AreExprs xs
   IsExpr (t.parentheses place x) = IsExpr x
   IsExpr (t.prefix op place x) = (7 ≤ level x) × IsExpr x
   IsExpr (t.binary x op place y) = (binary_level op ≤ level x) × (binary_level op < level y) × IsExpr x × IsExpr y

@@ -2,34 +2,34 @@
 -- a node is that of one of its words: of an operator, of `[`, of `.` or `->`, of the name in a call, and else of its first word.
 use Rattle.std.specs.Prelude.{Bool, true, false, List, [], ◌∷◌, ◌++◌, map, flat_map, Option, Some, None, codes}
 use Rattle.sl_base.specs.declared.form.Form.{Form}
-use Rattle.sl_base.specs.declared.form.Form.TheVariants as f
+use Rattle.sl_base.specs.declared.form.Form.TheVariants as form
 use Rattle.sl_base.specs.declared.mark.Mark.{Mark}
 use Rattle.sl_base.specs.declared.mark.Mark.TheVariants as m
 use Rattle.sl_base.specs.declared.place.Place.{Place}
 use Rattle.sl_base.specs.declared.scalar.Scalar.{Scalar}
-use Rattle.sl_base.specs.declared.scalar.Scalar.TheVariants as c
+use Rattle.sl_base.specs.declared.scalar.Scalar.TheVariants as scalar
 use Rattle.sl_base.specs.declared.word.Word.{Word}
 use Rattle.sl_base.specs.declared.word.Word.TheVariants as w
 use Rattle.sl_syntax.specs.declared.operator.Arithmetic.{Arithmetic}
-use Rattle.sl_syntax.specs.declared.operator.Arithmetic.TheVariants as a
+use Rattle.sl_syntax.specs.declared.operator.Arithmetic.TheVariants as arithmetic
 use Rattle.sl_syntax.specs.declared.operator.Assignment.{Assignment}
-use Rattle.sl_syntax.specs.declared.operator.Assignment.TheVariants as g
+use Rattle.sl_syntax.specs.declared.operator.Assignment.TheVariants as assignment
 use Rattle.sl_syntax.specs.declared.operator.BinaryOperator.{BinaryOperator}
-use Rattle.sl_syntax.specs.declared.operator.BinaryOperator.TheVariants as b
+use Rattle.sl_syntax.specs.declared.operator.BinaryOperator.TheVariants as binary
 use Rattle.sl_syntax.specs.declared.operator.Comparison.{Comparison}
-use Rattle.sl_syntax.specs.declared.operator.Comparison.TheVariants as l
+use Rattle.sl_syntax.specs.declared.operator.Comparison.TheVariants as comparison
 use Rattle.sl_syntax.specs.declared.operator.PostfixOperator.{PostfixOperator}
-use Rattle.sl_syntax.specs.declared.operator.PostfixOperator.TheVariants as q
+use Rattle.sl_syntax.specs.declared.operator.PostfixOperator.TheVariants as postfix
 use Rattle.sl_syntax.specs.declared.operator.PrefixOperator.{PrefixOperator}
-use Rattle.sl_syntax.specs.declared.operator.PrefixOperator.TheVariants as p
+use Rattle.sl_syntax.specs.declared.operator.PrefixOperator.TheVariants as prefix
 use Rattle.sl_syntax.specs.declared.operator.Selector.{Selector}
-use Rattle.sl_syntax.specs.declared.operator.Selector.TheVariants as s
+use Rattle.sl_syntax.specs.declared.operator.Selector.TheVariants as selector
 use Rattle.sl_syntax.specs.declared.tree.declaration.ContainerType.{ContainerType}
 use Rattle.sl_syntax.specs.declared.tree.effect.Read.{Read}
 use Rattle.sl_syntax.specs.declared.tree.function.Param.{Param}
-use Rattle.sl_syntax.specs.declared.tree.function.Param.TheVariants as r
+use Rattle.sl_syntax.specs.declared.tree.function.Param.TheVariants as param
 use Rattle.sl_syntax.specs.declared.tree.function.ResultType.{ResultType}
-use Rattle.sl_syntax.specs.declared.tree.function.ResultType.TheVariants as z
+use Rattle.sl_syntax.specs.declared.tree.function.ResultType.TheVariants as result
 use Rattle.sl_syntax.specs.declared.tree.identifier.Identifier.{Identifier}
 use Rattle.sl_syntax.specs.Tree as t
 use Rattle.sl_syntax.specs.Tree.{Expr, Exprs, Initializer, Declaration, Out, Effect, Cond, First, Stmt, Item, Items, Function, Program}
@@ -59,86 +59,86 @@ from_place place [] = []
 from_place place (x ∷ xs) = record { word = x.word; told = place ∷ x.told } ∷ xs
 
 abbrev pub arithmetic_mark : Arithmetic → Mark
-arithmetic_mark a.Add = m.Plus
-arithmetic_mark a.Subtract = m.Minus
-arithmetic_mark a.Multiply = m.Star
-arithmetic_mark a.Divide = m.Slash
-arithmetic_mark a.Remainder = m.Percent
+arithmetic_mark arithmetic.Add = m.Plus
+arithmetic_mark arithmetic.Subtract = m.Minus
+arithmetic_mark arithmetic.Multiply = m.Star
+arithmetic_mark arithmetic.Divide = m.Slash
+arithmetic_mark arithmetic.Remainder = m.Percent
 
 abbrev pub comparison_mark : Comparison → Mark
-comparison_mark l.Equal = m.EqualEqual
-comparison_mark l.NotEqual = m.NotEqual
-comparison_mark l.Less = m.Less
-comparison_mark l.LessEqual = m.LessEqual
-comparison_mark l.Greater = m.Greater
-comparison_mark l.GreaterEqual = m.GreaterEqual
+comparison_mark comparison.Equal = m.EqualEqual
+comparison_mark comparison.NotEqual = m.NotEqual
+comparison_mark comparison.Less = m.Less
+comparison_mark comparison.LessEqual = m.LessEqual
+comparison_mark comparison.Greater = m.Greater
+comparison_mark comparison.GreaterEqual = m.GreaterEqual
 
 abbrev pub binary_mark : BinaryOperator → Mark
-binary_mark b.Or = m.OrOr
-binary_mark b.And = m.AndAnd
-binary_mark (b.Comparison op) = comparison_mark op
-binary_mark (b.Arithmetic op) = arithmetic_mark op
+binary_mark binary.Or = m.OrOr
+binary_mark binary.And = m.AndAnd
+binary_mark (binary.Comparison op) = comparison_mark op
+binary_mark (binary.Arithmetic op) = arithmetic_mark op
 
 abbrev pub prefix_mark : PrefixOperator → Mark
-prefix_mark p.Not = m.Not
-prefix_mark p.Negate = m.Minus
-prefix_mark p.Dereference = m.Star
-prefix_mark p.Increment = m.PlusPlus
-prefix_mark p.Decrement = m.MinusMinus
+prefix_mark prefix.Not = m.Not
+prefix_mark prefix.Negate = m.Minus
+prefix_mark prefix.Dereference = m.Star
+prefix_mark prefix.Increment = m.PlusPlus
+prefix_mark prefix.Decrement = m.MinusMinus
 
 abbrev pub postfix_mark : PostfixOperator → Mark
-postfix_mark q.Increment = m.PlusPlus
-postfix_mark q.Decrement = m.MinusMinus
+postfix_mark postfix.Increment = m.PlusPlus
+postfix_mark postfix.Decrement = m.MinusMinus
 
 abbrev pub selector_mark : Selector → Mark
-selector_mark s.Dot = m.Dot
-selector_mark s.Arrow = m.Arrow
+selector_mark selector.Dot = m.Dot
+selector_mark selector.Arrow = m.Arrow
 
 abbrev pub assignment_mark : Assignment → Mark
-assignment_mark g.Set = m.Equal
-assignment_mark (g.Update a.Add) = m.PlusEqual
-assignment_mark (g.Update a.Subtract) = m.MinusEqual
-assignment_mark (g.Update a.Multiply) = m.StarEqual
-assignment_mark (g.Update a.Divide) = m.SlashEqual
-assignment_mark (g.Update a.Remainder) = m.PercentEqual
+assignment_mark assignment.Set = m.Equal
+assignment_mark (assignment.Update arithmetic.Add) = m.PlusEqual
+assignment_mark (assignment.Update arithmetic.Subtract) = m.MinusEqual
+assignment_mark (assignment.Update arithmetic.Multiply) = m.StarEqual
+assignment_mark (assignment.Update arithmetic.Divide) = m.SlashEqual
+assignment_mark (assignment.Update arithmetic.Remainder) = m.PercentEqual
 
 abbrev pub truth_word : Bool → Word
 truth_word true = w.Key (codes "true")
 truth_word false = w.Key (codes "false")
 
 abbrev pub scalar_word : Scalar → Word
-scalar_word c.Int = w.Key (codes "int")
-scalar_word c.Bool = w.Key (codes "bool")
-scalar_word c.Size = w.Lib (codes "size_t")
-scalar_word c.Diff = w.Lib (codes "ptrdiff_t")
+scalar_word scalar.Int = w.Key (codes "int")
+scalar_word scalar.Bool = w.Key (codes "bool")
+scalar_word scalar.Size = w.Lib (codes "size_t")
+scalar_word scalar.Diff = w.Lib (codes "ptrdiff_t")
 
 abbrev pub result_word : ResultType → Word
-result_word z.Void = w.Key (codes "void")
-result_word (z.Scalar s) = scalar_word s
+result_word result.Void = w.Key (codes "void")
+result_word (result.Scalar s) = scalar_word s
 
 abbrev pub form_word : Form → Word
-form_word f.Vector = w.Lib (codes "vector")
-form_word f.Deque = w.Lib (codes "deque")
-form_word f.List = w.Lib (codes "list")
-form_word f.Set = w.Lib (codes "set")
-form_word f.Map = w.Lib (codes "map")
-form_word f.HashSet = w.Lib (codes "unordered_set")
-form_word f.HashMap = w.Lib (codes "unordered_map")
+form_word form.Vector = w.Lib (codes "vector")
+form_word form.Deque = w.Lib (codes "deque")
+form_word form.List = w.Lib (codes "list")
+form_word form.Set = w.Lib (codes "set")
+form_word form.Map = w.Lib (codes "map")
+form_word form.HashSet = w.Lib (codes "unordered_set")
+form_word form.HashMap = w.Lib (codes "unordered_map")
 
 -- whether its elements are pairs of a key and a value
 abbrev pub is_map : Form → Bool
-is_map f.Vector = false
-is_map f.Deque = false
-is_map f.List = false
-is_map f.Set = false
-is_map f.Map = true
-is_map f.HashSet = false
-is_map f.HashMap = true
+is_map form.Vector = false
+is_map form.Deque = false
+is_map form.List = false
+is_map form.Set = false
+is_map form.Map = true
+is_map form.HashSet = false
+is_map form.HashMap = true
 
 -- `<int>` or `<int, int>`
 abbrev pub elements_written : Bool → List Written
-elements_written false = mark m.Less ∷ plain (scalar_word c.Int) ∷ mark m.Greater ∷ []
-elements_written true = mark m.Less ∷ plain (scalar_word c.Int) ∷ mark m.Comma ∷ plain (scalar_word c.Int) ∷ mark m.Greater ∷ []
+elements_written false = mark m.Less ∷ plain (scalar_word scalar.Int) ∷ mark m.Greater ∷ []
+elements_written true = mark m.Less ∷ plain (scalar_word scalar.Int) ∷ mark m.Comma ∷ plain (scalar_word scalar.Int) ∷ mark m.Greater ∷ []
 
 abbrev pub container_written : ContainerType → List Written
 container_written x = at x.place (form_word x.form) ∷ elements_written (is_map x.form)
@@ -250,10 +250,10 @@ abbrev mutual
   items_written (t.followed x xs) = item_written x ++ items_written xs
 
 abbrev pub param_written : Param → List Written
-param_written (r.Value place s x) = at place (scalar_word s) ∷ named x ∷ []
-param_written (r.Reference place s x) = at place (scalar_word s) ∷ mark m.And ∷ named x ∷ []
-param_written (r.Container c x) = container_written c ++ mark m.And ∷ named x ∷ []
-param_written (r.ConstContainer place c x) = at place (w.Key (codes "const")) ∷ (container_written c ++ mark m.And ∷ named x ∷ [])
+param_written (param.Value place s x) = at place (scalar_word s) ∷ named x ∷ []
+param_written (param.Reference place s x) = at place (scalar_word s) ∷ mark m.And ∷ named x ∷ []
+param_written (param.Container c x) = container_written c ++ mark m.And ∷ named x ∷ []
+param_written (param.ConstContainer place c x) = at place (w.Key (codes "const")) ∷ (container_written c ++ mark m.And ∷ named x ∷ [])
 
 abbrev pub params_written : List Param → List Written
 params_written [] = []
