@@ -1,11 +1,12 @@
 #!/usr/bin/env bash
-# Times `stllint check` on texts of 1 MB that stress the lexer, and prints a line for each: the seconds of wall clock, the status, and what
-# the text is made of. An empty text comes first: what the other figures have on top of its own is the lexer's. It judges nothing.
-# usage: bench/lexer.sh [RUNS]   RUNS times each, the least of which counts; 3 if left out
+# Times `stllint check` on texts of 1 MB that stress the lexer, and one of functions that the parser reads too, and prints a line for each:
+# the seconds of wall clock, the status, and what the text is made of. An empty text comes first: what the other figures have on top of its
+# own is the lexer's, and of the functions the parser's too. It judges nothing.
+# usage: bench/speed.sh [RUNS]   RUNS times each, the least of which counts; 3 if left out
 set -u
 
 fail() {
-  printf 'bench/lexer.sh: %s\n' "$1" >&2
+  printf 'bench/speed.sh: %s\n' "$1" >&2
   exit 1
 }
 
@@ -26,6 +27,7 @@ repeated '7' >"$texts/digits"
 repeated 'number7 ' >"$texts/names"
 repeated '<<= ' >"$texts/marks"
 repeated '"a\\n" ' >"$texts/texts"
+repeated 'int f() { int x = 1 + 2 * 3; if (x < 4) x = f(); else std::cout << x << std::endl; } ' >"$texts/functions"
 { printf '/*'; head -c "$((size - 4))" /dev/zero | tr '\0' '*'; printf '*/'; } >"$texts/comment"
 : >"$texts/empty"
 
@@ -33,7 +35,7 @@ repeated '"a\\n" ' >"$texts/texts"
 "$top/stllint" check "$texts/empty" >/dev/null 2>&1
 [ $? -ne 125 ] || fail 'the program could not be built'
 
-for text in empty blanks parentheses digits comment names marks texts; do
+for text in empty blanks parentheses digits comment names marks texts functions; do
   least=
   for ((i = 0; i < runs; i++)); do
     start=$EPOCHREALTIME
