@@ -1,4 +1,5 @@
 pub mod PlaceLaws
+pub mod PlaceOrder
 pub mod Told
 pub mod Names
 pub mod WordLaws

@@ -1,17 +1,18 @@
 -- The first file of a name.
 use Rattle.std.proofs.Common.{◌++◌, Vec, ◌≡◌, ◌≢◌, ℕ, zero, suc, ◌<◌, Bool, true, false, cond, List, [], ◌∷◌, length, get_or, set, Option, Some, None, string_bytes, arith, refl, sym, ap, ◌∙◌}
+use Rattle.std.proofs.Math.ListN.{length-set}
 use Rattle.std.specs.Str.{bytes_eq}
 use Rattle.std.proofs.lemmas.Slice.Eq.{bytes_eq-Decides}
-use Rattle.std.specs.Prelude.{Contains, ◌==◌}
+use Rattle.std.specs.Prelude.{Contains, ◌==◌, ◌↔◌}
 use Rattle.std.specs.List.{IsAnyAnswer}
 use Rattle.std.proofs.lemmas.List.Elements.{contains_decides, Decides-contains}
 use Rattle.std.specs.Bool.{Decides}
 use Rattle.std.proofs.lemmas.Bool.Decides.{Decides-eqb}
 use Rattle.std.proofs.Math.Seq.{map-set_same}
 use Rattle.sl_base.specs.Memory.{MemFile, names_of, left_in, HasNameAt, IsPlace, IsBlamed, BlamesAlone}
-use Rattle.sl_base.specs.declared.outside.mem_files.Blame.{Blame}
-use Rattle.sl_base.specs.declared.outside.mem_files.Blame.TheVariants.{File}
-use Rattle.sl_base.specs.Outside.{OthersKept}
+use Rattle.sl_base.specs.declared.outside.blame.Blame.{Blame}
+use Rattle.sl_base.specs.declared.outside.blame.Blame.TheVariants.{Nothing, Known, Unknown}
+use Rattle.sl_base.specs.Outside.{NoFault, OthersKept}
 use Rattle.std.specs.Io.KnownBytes.{Consumes, IsAtEnd}
 use Rattle.std.proofs.KnownBytes.{Keeps-refl}
 use Rattle.std.specs.declared.alloc.Global.{Global}
@@ -76,7 +77,7 @@ left_in-there [] name i p e = omega (arith, p.within)
 left_in-there (f ∷ fs) name i p e = let q = left_in-at (f ∷ fs) name i f p in absurd cc
 
 -- the blame on the file at the place of a name is on that name alone
-pub blames_file : (fs gs : List MemFile) (blame : Blame) (name : List ℕ) (i : ℕ) → gs ≡ fs → blame ≡ File i → IsPlace fs name i → BlamesAlone (left_in gs) (IsBlamed gs blame) name
+pub blames_file : (fs gs : List MemFile) (blame : Blame) (name : List ℕ) (i : ℕ) → gs ≡ fs → blame ≡ Known i → IsPlace fs name i → BlamesAlone (left_in gs) (IsBlamed gs blame) name
 blames_file fs gs blame name i e b p = rw (e, b) (λ other h.
     let same : other ≡ name = same_name fs i other name h.0 h.1 p.named in
     (λ none. ap (left_in fs) same ∙ none, λ _. same))
@@ -88,3 +89,54 @@ listed fails call r h = Decides-contains fails call r (contains_decides (λ a b.
 -- a read keeps the names
 pub names_of-there : (fs : List MemFile) (i : ℕ) (f : MemFile) (bytes : Vec ℕ Global) → f ≡ get_or fs i f → names_of (set fs i (f.0, bytes)) ≡ names_of fs
 names_of-there fs i f bytes e = map-set_same (λ (x : MemFile). string_bytes x.0) fs i (f.0, bytes) f (ap (λ (x : MemFile). string_bytes x.0) e)
+
+-- ## A read changes no blame
+
+-- what a file is written over with has the name that was there
+abbrev KeepsName : List MemFile → ℕ → MemFile → Type 0
+KeepsName fs i g = string_bytes g.0 ≡ string_bytes (get_or fs i g).0
+
+-- each file keeps its name
+same_names : (fs : List MemFile) (i k : ℕ) (g d : MemFile) → KeepsName fs i g → string_bytes (get_or (set fs i g) k d).0 ≡ string_bytes (get_or fs k d).0
+same_names [] i k g d e = refl
+same_names (f ∷ fs) zero zero g d e = e
+same_names (f ∷ fs) zero (suc k) g d e = refl
+same_names (f ∷ fs) (suc i) zero g d e = refl
+same_names (f ∷ fs) (suc i) (suc k) g d e = same_names fs i k g d e
+
+-- a name is there, or it isn't, whatever was left of it
+same_absent : (b : Bool) (x y : List ℕ) (p q : Option (List ℕ)) → (p ≡ None) ↔ (q ≡ None) → (cond b (Some x) p ≡ None) ↔ (cond b (Some y) q ≡ None)
+same_absent true x y p q h = (λ e. absurd cc, λ e. absurd cc)
+same_absent false x y p q h = h
+
+absent-there : (fs : List MemFile) (i : ℕ) (g : MemFile) (name : List ℕ) → KeepsName fs i g → (left_in (set fs i g) name ≡ None) ↔ (left_in fs name ≡ None)
+absent-there [] i g name e = (λ h. h, λ h. h)
+absent-there (f ∷ fs) zero g name e =
+    rw e (same_absent (bytes_eq (string_bytes f.0) name) g.1.items f.1.items (left_in fs name) (left_in fs name) (λ h. h, λ h. h))
+absent-there (f ∷ fs) (suc i) g name e =
+    same_absent (bytes_eq (string_bytes f.0) name) f.1.items f.1.items (left_in (set fs i g) name) (left_in fs name) (absent-there fs i g name e)
+
+blame-there : (fs : List MemFile) (i : ℕ) (g : MemFile) (blame : Blame) (name : List ℕ) → KeepsName fs i g → IsBlamed (set fs i g) blame name ↔ IsBlamed fs blame name
+blame-there fs i g Nothing name e = (λ h. h, λ h. h)
+blame-there fs i g (Known k) name e = (
+  λ h. ((let lt = h.0 in omega (arith, length-set {A = MemFile})), λ d. sym (same_names fs i k g d e) ∙ h.1 d),
+  λ h. ((let lt = h.0 in omega (arith, length-set {A = MemFile})), λ d. same_names fs i k g d e ∙ h.1 d),
+)
+blame-there fs i g Unknown name e = absent-there fs i g name e
+
+-- a read at a place tells no fault
+pub NoFault-there : (n : ℕ) (fs : List MemFile) (i : ℕ) (f : MemFile) (bytes : Vec ℕ Global) (blame : Blame) → f ≡ get_or fs i f
+    → NoFault n n (IsBlamed fs blame) (IsBlamed (set fs i (f.0, bytes)) blame)
+NoFault-there n fs i f bytes blame e = record {
+  count = refl;
+  blame = λ name. blame-there fs i (f.0, bytes) blame name (kept fs i f (f.0, bytes) e refl);
+}
+  where
+    kept : (fs : List MemFile) (i : ℕ) (f g : MemFile) → f ≡ get_or fs i f → string_bytes g.0 ≡ string_bytes f.0 → KeepsName fs i g
+    kept [] i f g e q = refl
+    kept (x ∷ xs) zero f g e q = q ∙ ap (λ (y : MemFile). string_bytes y.0) e
+    kept (x ∷ xs) (suc i) f g e q = kept xs i f g e q
+
+-- what is left of the file at the place of a name, where something is told of it
+pub left_in-told : (fs : List MemFile) (name : List ℕ) (i : ℕ) (f : MemFile) (x : List ℕ) → IsPlace fs name i → f ≡ get_or fs i f → left_in fs name ≡ Some x → f.1.items ≡ x
+left_in-told fs name i f x p e h = let at = left_in-at fs name i f p in let q : f.1.items ≡ (get_or fs i f).1.items = ap (λ (y : MemFile). y.1.items) e in cc

@@ -1,8 +1,8 @@
 -- One more read or write of told bytes.
-use Rattle.std.proofs.Common.{◌≡◌, ℕ, ◌+◌, ◌-◌, ◌≤◌, List, ◌++◌, length, take, drop, Option, Result, Ok, Err, OnErr, arith, length-drop, length-append, length-take}
+use Rattle.std.proofs.Common.{◌≡◌, ℕ, ◌+◌, ◌-◌, ◌≤◌, List, ◌++◌, length, take, drop, Option, Result, Ok, Err, OnErr, refl, ◌∙◌, arith, length-drop, length-append, length-take}
 use Rattle.std.specs.Io.KnownBytes.{Appends, Consumes}
 use Rattle.std.proofs.KnownBytes.{Appends-trans, Keeps-refl, Keeps-trans, Consumes-trans}
-use Rattle.sl_base.specs.Outside.{OthersKept, AllKept, IsReadInPart}
+use Rattle.sl_base.specs.Outside.{NoFault, OthersKept, AllKept, IsReadInPart}
 use Rattle.std.proofs.Math.Seq.{take-add, take_all}
 
 pub Appends-next : (a b c : Option (List ℕ)) (bytes : List ℕ) (done n : ℕ) → Appends a b (take done bytes) → Appends b c (take n (take (length bytes - done) (drop done bytes))) → Appends a c (take (done + n) bytes)
@@ -23,6 +23,16 @@ OthersKept-all f g h name p q = OthersKept-trans f g h name p (λ other _. q oth
 pub IsReadInPart-next : (limit : ℕ) (a b c : Option (List ℕ)) (front buf : List ℕ) (n : ℕ) → Consumes a b front → Consumes b c (take n buf) → length front + n ≤ limit + 1 → IsReadInPart limit a c
 IsReadInPart-next limit a b c front buf n p q short =
     (front ++ take n buf, omega (arith, length-append front (take n buf), length-take n buf), Consumes-trans a b c front (take n buf) p q)
+
+-- nothing failed so far, and nothing fails after that
+pub NoFault-refl : (n : ℕ) (blamed : List ℕ → Type 0) → NoFault n n blamed blamed
+NoFault-refl n blamed = record { count = refl; blame = λ name. (λ h. h, λ h. h) }
+
+pub NoFault-trans : (a b c : ℕ) (p q r : List ℕ → Type 0) → NoFault a b p q → NoFault b c q r → NoFault a c p r
+NoFault-trans a b c p q r h k = record {
+  count = k.count ∙ h.count;
+  blame = λ name. (λ x. (h.blame name).0 ((k.blame name).0 x), λ x. (k.blame name).1 ((h.blame name).1 x));
+}
 
 -- what holds whatever a call returned holds where it failed
 pub OnErr-any : {T E P : Type 0} (r : Result T E) → P → OnErr r P

@@ -2,8 +2,8 @@
 use Rattle.std.specs.Prelude.{◌≡◌, ◌<◌, ℕ, List, [], ◌∷◌, Option, Some, None, if◌then◌else◌, String, Vec, string_bytes, length, map, slice_index_or}
 use Rattle.std.specs.Str.{bytes_eq}
 use Rattle.std.specs.declared.alloc.Global.{Global}
-use Rattle.sl_base.specs.declared.outside.mem_files.Blame.{Blame}
-use Rattle.sl_base.specs.declared.outside.mem_files.Blame.TheVariants.{Nothing, File, Missing}
+use Rattle.sl_base.specs.declared.outside.blame.Blame.{Blame}
+use Rattle.sl_base.specs.declared.outside.blame.Blame.TheVariants.{Nothing, Known, Unknown}
 
 abbrev pub MemFile : Type 0
 MemFile = String Global × Vec ℕ Global
@@ -29,8 +29,8 @@ pub record IsPlace (fs : List MemFile) (name : List ℕ) (i : ℕ) : Type 0 wher
 -- the last read that failed was of this name
 abbrev pub IsBlamed : List MemFile → Blame → List ℕ → Type 0
 IsBlamed fs Nothing name = ⊥
-IsBlamed fs (File i) name = (i < length fs) × HasNameAt fs i name
-IsBlamed fs Missing name = left_in fs name ≡ None
+IsBlamed fs (Known i) name = (i < length fs) × HasNameAt fs i name
+IsBlamed fs Unknown name = left_in fs name ≡ None
 
 -- The blame is on this name alone, or, where it isn't there, on the names that aren't there alone.
 abbrev pub BlamesAlone : (List ℕ → Option (List ℕ)) → (List ℕ → Type 0) → List ℕ → Type 0

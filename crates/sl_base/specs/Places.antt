@@ -1,5 +1,5 @@
 -- Lines and columns of a text, from 1. Only a line feed ends a line; a column is a byte.
-use Rattle.std.specs.Prelude.{◌≡◌, ℕ, ◌+◌, ◌==◌, Bool, not, List, take, reverse, count_by}
+use Rattle.std.specs.Prelude.{◌≡◌, ◌<◌, ◌⊎◌, ℕ, ◌+◌, ◌==◌, Bool, not, List, take, reverse, count_by}
 use Rattle.std.specs.List.{prefix_len}
 use Rattle.sl_base.specs.declared.place.Place.{Place}
 
@@ -22,3 +22,7 @@ pub record IsAfter (front : List ℕ) (place : Place) : Type 0 where
 -- the place of an offset
 abbrev pub place_at : List ℕ → ℕ → Place
 place_at text offset = record { line = line_after (take offset text); col = col_after (take offset text) }
+
+-- a place comes before another in a text
+abbrev pub IsPlaceBefore : Place → Place → Type 0
+IsPlaceBefore p q = (p.line < q.line) ⊎ ((p.line ≡ q.line) × (p.col < q.col))

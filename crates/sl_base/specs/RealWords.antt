@@ -1,8 +1,8 @@
 -- Which word of the command a read that failed was of.
 use Rattle.std.specs.Prelude.{◌≡◌, ◌<◌, ℕ, List, String, string_bytes, length, map, slice_index_or}
 use Rattle.std.specs.declared.alloc.Global.{Global}
-use Rattle.sl_base.specs.declared.outside.real_files.Blame.{Blame}
-use Rattle.sl_base.specs.declared.outside.real_files.Blame.TheVariants.{Nothing, Word, Missing}
+use Rattle.sl_base.specs.declared.outside.blame.Blame.{Blame}
+use Rattle.sl_base.specs.declared.outside.blame.Blame.TheVariants.{Nothing, Known, Unknown}
 
 abbrev pub names_of_words : List (String Global) → List (List ℕ)
 names_of_words words = map string_bytes words
@@ -18,5 +18,5 @@ IsWordAt words name i = (i < length words) × ((d : String Global) → string_by
 -- the last read that failed was of this name
 abbrev pub IsBlamedWord : List (String Global) → Blame → List ℕ → Type 0
 IsBlamedWord words Nothing name = ⊥
-IsBlamedWord words (Word i) name = IsWordAt words name i
-IsBlamedWord words Missing name = HasNoWord words name
+IsBlamedWord words (Known i) name = IsWordAt words name i
+IsBlamedWord words Unknown name = HasNoWord words name

@@ -1,10 +1,10 @@
 -- The tokens of a text, ISO/IEC 14882:2017, [lex.phases] and [lex.pptoken]: a cut into pieces by longest match. Where no cut covers the
 -- text, the fault: the first rule that is broken directly behind the longest cut.
-use Rattle.std.specs.Prelude.{◌≡◌, ℕ, ◌+◌, ◌≤◌, ◌||◌, Bool, false, is_some, List, [], ◌∷◌, length, take, drop, Option, option_map}
+use Rattle.std.specs.Prelude.{◌≡◌, ℕ, ◌+◌, ◌<◌, ◌≤◌, ◌||◌, Bool, false, is_some, List, [], ◌∷◌, length, take, drop, slice_get, Option, Some, option_map}
 use Rattle.std.specs.List.{filter_map}
 use Rattle.sl_base.specs.declared.token.Token.{Token}
 use Rattle.sl_base.specs.declared.word.Word.{Word}
-use Rattle.sl_base.specs.Places.{place_at}
+use Rattle.sl_base.specs.Places.{place_at, IsPlaceBefore}
 use Rattle.sl_base.specs.Pieces.{PieceKind, TokenRule, rule_number, word_of, IsLongest, Breaks}
 
 -- a piece of a text: its kind, the offset of its first byte, from 0, and how many bytes it has
@@ -39,6 +39,10 @@ Cut text pieces to = Follow text false 0 pieces to
 -- the tokens of a text: those of the cut that covers it
 abbrev pub Tokens : List ℕ → List Token → Type 0
 Tokens text tokens = (pieces : List Piece) × Cut text pieces (length text) × (tokens ≡ filter_map (token_of text) pieces)
+
+-- the places of tokens come in their order, so no two have one place
+abbrev pub TokensAscend : List Token → Type 0
+TokensAscend tokens = (i j : ℕ) (s t : Token) → i < j → slice_get tokens i ≡ Some s → slice_get tokens j ≡ Some t → IsPlaceBefore s.place t.place
 
 -- what begins behind these pieces breaks a rule
 abbrev pub BreaksBehind : List ℕ → List Piece → ℕ → TokenRule → ℕ → Type 0

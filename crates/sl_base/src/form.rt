@@ -1,5 +1,5 @@
 /// The form of a container, as its class of ISO/IEC 14882:2017, [containers].
-#[derive(Clone, Copy, Debug, PartialEq, Eq)]
+#[derive(Clone, Copy)]
 pub enum Form {
     Vector,
     Deque,

@@ -1,10 +1,10 @@
-ghost use Rattle.std.specs.Prelude.{◌≡◌, [], ◌∷◌, ◌++◌, length, OnOk, OnErr};
+ghost use Rattle.std.specs.Prelude.{◌≡◌, [], ◌∷◌, ◌++◌, length, IfOk, OnOk, OnErr};
 
 use std::alloc::{AllocError, Global};
 use std::marker::Model;
 
 /// A list over a vector. A contract sees the list of the items.
-#[derive(Debug, Drop)]
+#[derive(Drop)]
 pub struct Items<T> {
     items: Vec<T>,
 }
@@ -27,6 +27,17 @@ impl<T> Items<T> {
         }
     }
 
+    /// These items, copied.
+    pub fn from_slice(alloc: Global, items: &[T]) -> Result<Items<T>, AllocError>
+    where
+        T: Copy,
+        ensures { IfOk result (λ copied. copied ≡ items.now) }
+    {
+        let mut copied = Items::new(alloc);
+        copied.extend_from_slice(items)?;
+        Ok(copied)
+    }
+
     /// Puts an item at the end. Where memory runs out, the list stays as it was.
     pub fn push(&mut self, item: T) -> Result<(), AllocError>
     where
@@ -35,6 +46,17 @@ impl<T> Items<T> {
         ensures kept { OnErr result (self.new ≡ self.old) }
     {
         self.items.push(item)?;
+        Ok(())
+    }
+
+    /// Puts these items behind the others. Where memory runs out, the list stays as it was.
+    pub fn extend_from_slice(&mut self, items: &[T]) -> Result<(), AllocError>
+    where
+        T: Copy,
+        ensures extended { OnOk result (self.new ≡ self.old ++ items.now) }
+        ensures kept { OnErr result (self.new ≡ self.old) }
+    {
+        self.items.extend_from_slice(items)?;
         Ok(())
     }
 

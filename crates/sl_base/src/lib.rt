@@ -1,6 +1,7 @@
 // What every layer shares: places, names, words and tokens, the limits, and the outside.
 #![tactic(auto)]
 
+pub mod failures;
 mod form;
 mod items;
 pub mod limits;

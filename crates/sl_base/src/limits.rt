@@ -1,4 +1,23 @@
 //! The limits on a text and on a run. What goes past one is refused, or ends the run, as its user says.
+ghost use Rattle.std.specs.Prelude.{◌≡◌};
+ghost use Rattle.sl_base.specs.declared.limits.TheConstants.{
+  TEXT_BYTES,
+  NAME_BYTES,
+  LARGEST_NUMBER,
+  TREE_DEPTH,
+  FUNCTIONS,
+  CONTAINERS,
+  ITERATORS,
+  SCALARS,
+  SITES,
+  PARAMETERS,
+  LIST_ELEMENTS,
+  STATEMENTS,
+  WINDOW,
+  ELEMENTS,
+  CALLS,
+  OUTPUT_BYTES,
+};
 
 /// Bytes of a text.
 pub const TEXT_BYTES: usize = 1_048_576;
@@ -47,3 +66,23 @@ pub const CALLS: usize = 256;
 
 /// Bytes of a run's output that are kept.
 pub const OUTPUT_BYTES: usize = 65_536;
+
+/// What the limits are.
+pub fn the_limits()
+    ensures text { TEXT_BYTES ≡ 1048576 }
+    ensures name { NAME_BYTES ≡ 64 }
+    ensures number { LARGEST_NUMBER ≡ 2147483647 }
+    ensures depth { TREE_DEPTH ≡ 64 }
+    ensures functions { FUNCTIONS ≡ 64 }
+    ensures containers { CONTAINERS ≡ 16 }
+    ensures iterators { ITERATORS ≡ 32 }
+    ensures scalars { SCALARS ≡ 48 }
+    ensures sites { SITES ≡ 4096 }
+    ensures parameters { PARAMETERS ≡ 8 }
+    ensures list { LIST_ELEMENTS ≡ 64 }
+    ensures statements { STATEMENTS ≡ 20000 }
+    ensures window { WINDOW ≡ 16 }
+    ensures elements { ELEMENTS ≡ 1000000 }
+    ensures calls { CALLS ≡ 256 }
+    ensures output { OUTPUT_BYTES ≡ 65536 }
+{}

@@ -1,5 +1,5 @@
 /// An operator or punctuator, ISO/IEC 14882:2017, [lex.operators], of those that the subset has.
-#[derive(Clone, Copy, Debug, PartialEq, Eq)]
+#[derive(Clone, Copy, PartialEq, Eq)]
 pub enum Mark {
     /// `{`
     LeftBrace,

@@ -5,7 +5,7 @@ use arrayvec::ArrayVec;
 use std::marker::Model;
 
 /// The bytes of a name, 1 to 64 of them. A contract sees the list of bytes.
-#[derive(Debug, Drop)]
+#[derive(Drop)]
 pub struct Name {
     bytes: ArrayVec<u8, NAME_BYTES>,
 }

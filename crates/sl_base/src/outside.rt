@@ -1,5 +1,6 @@
 //! The outside: files that are read and a sink that is written to, in memory and real.
 
+pub mod blame;
 pub mod files;
 pub mod mem_files;
 pub mod mem_sink;

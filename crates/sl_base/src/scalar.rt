@@ -1,5 +1,5 @@
 /// The type of a number: `int`, `bool`, `std::size_t`, `std::ptrdiff_t`.
-#[derive(Clone, Copy, Debug, PartialEq, Eq)]
+#[derive(Clone, Copy)]
 pub enum Scalar {
     Int,
     Bool,

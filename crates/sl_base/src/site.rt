@@ -4,7 +4,7 @@ use crate::limits::SITES;
 use std::marker::Model;
 
 /// The number, from 0, of a place in the text at which iterators can be invalidated. A contract sees the number.
-#[derive(Clone, Copy, Debug, PartialEq, Eq)]
+#[derive(Clone, Copy)]
 pub struct Site(u16);
 
 impl Model for Site {

@@ -1,7 +1,7 @@
 use crate::{Items, Mark, Name};
 
 /// What a token says.
-#[derive(Debug, Drop)]
+#[derive(Drop)]
 pub enum Word {
     /// A name that is no key.
     Name(Name),

@@ -27,7 +27,7 @@ pub mod SoundBlocks
 pub mod SoundFors
 pub mod SoundStatements
 pub mod SoundPrograms
-pub mod Laws
+pub mod ProgramLaws
 pub mod ViableSteps
 pub mod ViableLists
 pub mod ViableOperands

@@ -3,5 +3,7 @@
 #![tactic(auto)]
 
 mod fault;
+mod laws;
 
 pub use fault::Fault;
+pub use laws::{one_program, one_shape};

@@ -9,7 +9,7 @@ use Rattle.sl_base.specs.Bytes.{begins, begins_with}
 use Rattle.sl_base.specs.Comments.{counts_all, is_line_comment, comment_end, is_block_comment}
 use Rattle.sl_base.specs.Marks.{mark_of}
 use Rattle.sl_base.specs.Places.{is_line_feed}
-use Rattle.sl_lexer.specs.Front.{first_at, comment_len}
+use Rattle.sl_lexer.specs.Means.Front.{first_at, comment_len}
 use Rattle.sl_lexer.specs.declared.byte.First.TheVariants.{Other}
 use Rattle.sl_lexer.proofs.WordLaws.{run-all, run-most}
 use Rattle.sl_lexer.proofs.FirstLaws.{begins-take, begins-is, begins-more}

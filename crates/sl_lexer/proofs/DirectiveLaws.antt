@@ -9,7 +9,7 @@ use Rattle.std.proofs.lemmas.Slice.Eq.{bytes_eq-Decides}
 use Rattle.sl_base.specs.Bytes.{is_space, is_name_byte, begins, begins_with}
 use Rattle.sl_base.specs.Directives.{IsDirective}
 use Rattle.sl_base.specs.Headers.{headers, is_header}
-use Rattle.sl_lexer.specs.Front.{first_at, has_header, header_len, after_spaces, include_len, hash_len}
+use Rattle.sl_lexer.specs.Means.Front.{first_at, has_header, header_len, after_spaces, include_len, hash_len}
 use Rattle.sl_lexer.specs.declared.byte.First.TheVariants.{Hash}
 use Rattle.sl_lexer.proofs.FirstLaws.{tells_at, begins-is}
 use Rattle.sl_lexer.proofs.CommentLaws.{more-by}

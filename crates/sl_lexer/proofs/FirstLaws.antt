@@ -6,7 +6,7 @@ use Rattle.std.proofs.lemmas.List.{take-append-drop}
 use Rattle.std.proofs.lemmas.Slice.Eq.{starts_is}
 use Rattle.sl_base.specs.Bytes.{is_blank, is_letter, is_digit, begins, begins_with}
 use Rattle.sl_base.specs.Pieces.{bad_byte, rule_of}
-use Rattle.sl_lexer.specs.Front.{first_of, first_at, rule_for}
+use Rattle.sl_lexer.specs.Means.Front.{first_of, first_at, rule_for}
 use Rattle.sl_lexer.specs.declared.byte.First.{First}
 use Rattle.sl_lexer.specs.declared.byte.First.TheVariants.{Blank, Letter, Digit, Quote, Apostrophe, Hash, Other}
 

@@ -9,7 +9,7 @@ use Rattle.sl_base.specs.declared.limits.TheConstants.{NAME_BYTES, LARGEST_NUMBE
 use Rattle.sl_base.specs.Pieces.{PieceKind, blank_piece, comment_piece, directive_piece, name_piece, lib_piece, number_piece, text_piece, mark_piece, decimal, IsPiece, IsLongest, TokenRule, bad_byte, bad_number, open_comment, rule_of, IsBadNumber, Breaks, begins_nothing, long_name, long_lib, wrong_escape, joint, no_number, no_comment}
 use Rattle.sl_base.specs.Quoted.{unescaped, between}
 use Rattle.sl_base.specs.Tokens.{Stands}
-use Rattle.sl_lexer.specs.Front.{first_at, comment_len, mark_len, as_piece, comment_or_mark, piece_in, joint_in, judged_comment, judged_text, judged, rule_for, front_from, front_of}
+use Rattle.sl_lexer.specs.Means.Front.{first_at, comment_len, mark_len, as_piece, comment_or_mark, piece_in, joint_in, judged_comment, judged_text, judged, rule_for, front_from, front_of}
 use Rattle.sl_lexer.specs.declared.byte.First.TheVariants.{Other}
 use Rattle.sl_lexer.proofs.CommentLaws.{block-first, comment-shape, comment-form}
 use Rattle.sl_lexer.proofs.FirstLaws.{begins-is, rule-for}

@@ -18,9 +18,9 @@ use Rattle.sl_base.proofs.PlaceLaws.{IsAfter-is}
 use Rattle.sl_lexer.specs.declared.error.LexErr.{LexErr}
 use Rattle.sl_lexer.specs.declared.error.LexErr.TheVariants.{Memory}
 use Rattle.sl_lexer.specs.declared.front.Front.{Front}
-use Rattle.sl_lexer.specs.Answers.{error_of, answer_of, IsAnswer}
+use Rattle.sl_lexer.specs.Means.Answers.{error_of, answer_of, IsAnswer}
 use Rattle.sl_lexer.specs.Faults.{fault_of}
-use Rattle.sl_lexer.specs.Front.{front_of}
+use Rattle.sl_lexer.specs.Means.Front.{front_of}
 use Rattle.sl_lexer.proofs.FrontLaws.{front_at, front-ok}
 use Rattle.sl_lexer.proofs.CutLaws.{piece-some, piece-within, follow-push, one_fault, not_both, fault_behind}
 

@@ -8,5 +8,6 @@ pub mod MarkLaws
 pub mod PieceLaws
 pub mod FrontLaws
 pub mod CutLaws
+pub mod TokenOrder
 pub mod LexLaws
 pub mod Examples

@@ -6,7 +6,7 @@ use Rattle.std.proofs.lemmas.Bool.{and_parts, both_ways, ltb-true, cases_lt}
 use Rattle.std.proofs.lemmas.List.{length-take, length-take-le, take_min}
 use Rattle.std.proofs.lemmas.Slice.Eq.{bytes_eq-Decides}
 use Rattle.sl_base.specs.Marks.{marks, mark_of}
-use Rattle.sl_lexer.specs.Front.{first_at, mark_len}
+use Rattle.sl_lexer.specs.Means.Front.{first_at, mark_len}
 use Rattle.sl_lexer.specs.declared.byte.First.{First}
 use Rattle.sl_lexer.specs.declared.byte.First.TheVariants.{Other}
 use Rattle.sl_lexer.proofs.FirstLaws.{at-take}

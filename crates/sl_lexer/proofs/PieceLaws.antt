@@ -10,7 +10,7 @@ use Rattle.sl_base.specs.Directives.{IsDirective, opens_directive, closes_direct
 use Rattle.sl_base.specs.Marks.{mark_of}
 use Rattle.sl_base.specs.Pieces.{PieceKind, blank_piece, comment_piece, directive_piece, name_piece, lib_piece, number_piece, text_piece, mark_piece, is_text, HasForm, IsPiece, IsLongest}
 use Rattle.sl_base.specs.Quoted.{is_character}
-use Rattle.sl_lexer.specs.Front.{first_at, begins_lib, text_len, character_len, comment_len, mark_len, hash_len, closed_len, as_piece, comment_or_mark, piece_in}
+use Rattle.sl_lexer.specs.Means.Front.{first_at, begins_lib, text_len, character_len, comment_len, mark_len, hash_len, closed_len, as_piece, comment_or_mark, piece_in}
 use Rattle.sl_lexer.specs.declared.byte.First.{First}
 use Rattle.sl_lexer.specs.declared.byte.First.TheVariants.{Blank, Letter, Digit, Quote, Apostrophe, Hash, Other}
 use Rattle.sl_lexer.proofs.FirstLaws.{front-begins, at-blank, at-letter, at-digit, TellsAt, tells_at}

@@ -8,8 +8,8 @@ use Rattle.sl_base.specs.Pieces.{text_piece, is_text}
 use Rattle.sl_base.specs.Places.{is_line_feed}
 use Rattle.sl_base.specs.Quoted.{escape_of, text_end, unescaped, between, is_character}
 use Rattle.sl_base.specs.declared.word.Word.TheVariants.{Text}
-use Rattle.sl_lexer.specs.Answers.{IsAnswer, IsUnescaped}
-use Rattle.sl_lexer.specs.Front.{first_at, text_len, one_len, closed_one, character_len, judged, judged_text}
+use Rattle.sl_lexer.specs.Means.Answers.{IsAnswer, IsUnescaped}
+use Rattle.sl_lexer.specs.Means.Front.{first_at, text_len, one_len, closed_one, character_len, judged, judged_text}
 use Rattle.sl_lexer.specs.declared.byte.First.TheVariants.{Quote, Apostrophe}
 use Rattle.sl_lexer.specs.declared.error.LexErr.{LexErr}
 use Rattle.sl_lexer.proofs.CommentLaws.{more-by, counts-all}

@@ -8,7 +8,7 @@ use Rattle.std.proofs.lemmas.List.Sums.{prefix_len-le-length}
 use Rattle.std.proofs.lemmas.Slice.Eq.{bytes_eq-Decides}
 use Rattle.sl_base.specs.Bytes.{is_letter, is_digit, is_name_byte, begins}
 use Rattle.sl_base.specs.Pieces.{std_colons, is_name, is_lib, is_number}
-use Rattle.sl_lexer.specs.Front.{begins_lib, number_len}
+use Rattle.sl_lexer.specs.Means.Front.{begins_lib, number_len}
 use Rattle.sl_lexer.specs.declared.error.LexErr.{LexErr}
 
 -- ## Runs of a class

@@ -1,4 +1,4 @@
--- The definitions of the lexer: what it tells, and the functions that its code computes.
-pub mod Front
+-- What the lexer's public contract says beside the definitions of sl_base.
 pub mod Faults
-pub mod Answers
+-- What its private contracts say: functions of the bytes, which the lemmas tie to those definitions. Nobody has to believe them.
+pub mod Means

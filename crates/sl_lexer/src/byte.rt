@@ -1,6 +1,6 @@
 ghost use Rattle.std.specs.Prelude.{◌≡◌, ◌==◌};
 ghost use Rattle.sl_base.specs.Bytes as spec;
-ghost use Rattle.sl_lexer.specs.Front as front;
+ghost use Rattle.sl_lexer.specs.Means.Front as front;
 
 /// What may begin with a byte.
 #[derive(Clone, Copy)]

@@ -3,8 +3,8 @@ ghost use Rattle.sl_base.specs.Bytes as bytes;
 ghost use Rattle.sl_base.specs.Comments as base;
 ghost use Rattle.sl_base.specs.Pieces.{comment_piece};
 ghost use Rattle.sl_base.specs.declared.limits.TheConstants.{TEXT_BYTES};
-ghost use Rattle.sl_lexer.specs.Answers.{answer_of};
-ghost use Rattle.sl_lexer.specs.Front as spec;
+ghost use Rattle.sl_lexer.specs.Means.Answers.{answer_of};
+ghost use Rattle.sl_lexer.specs.Means.Front as spec;
 
 use crate::LexErr;
 use crate::byte::begins;

@@ -2,8 +2,8 @@ ghost use Rattle.std.specs.Prelude.{◌≡◌, ◌==◌, ◌&&◌, ◌+◌, ◌<
 ghost use Rattle.sl_base.specs.Directives as base;
 ghost use Rattle.sl_base.specs.Headers as headers;
 ghost use Rattle.sl_base.specs.declared.limits.TheConstants.{TEXT_BYTES};
-ghost use Rattle.sl_lexer.specs.Answers.{answer_of};
-ghost use Rattle.sl_lexer.specs.Front as spec;
+ghost use Rattle.sl_lexer.specs.Means.Answers.{answer_of};
+ghost use Rattle.sl_lexer.specs.Means.Front as spec;
 ghost use Rattle.sl_lexer.specs.declared.byte.First.TheVariants.{Hash};
 
 use crate::LexErr;

@@ -1,7 +1,7 @@
 ghost use Rattle.std.specs.Prelude.{◌≡◌, ◌+◌, ◌<◌, ◌≤◌, false, length};
 ghost use Rattle.sl_base.specs.declared.limits.TheConstants.{TEXT_BYTES};
-ghost use Rattle.sl_lexer.specs.Answers.{answer_of, IsAnswer};
-ghost use Rattle.sl_lexer.specs.Front.{front_in, front_of};
+ghost use Rattle.sl_lexer.specs.Means.Answers.{answer_of, IsAnswer};
+ghost use Rattle.sl_lexer.specs.Means.Front.{front_in, front_of};
 ghost use Rattle.sl_lexer.specs.declared.byte.First.TheVariants.{Other};
 
 use crate::LexErr;
@@ -16,7 +16,7 @@ use sl_base::Word;
 use std::alloc::Global;
 
 /// The piece that begins a rest of the text: what it says, if it is a token, and how many bytes it has.
-#[derive(Debug, Drop)]
+#[derive(Drop)]
 pub struct Front {
     pub word: Option<Word>,
     pub len: usize,

@@ -1,6 +1,6 @@
 ghost use Rattle.std.specs.Prelude.{◌≡◌, List, ℕ, length};
 ghost use Rattle.sl_base.specs.Pieces.{TokenRule};
-ghost use Rattle.sl_base.specs.Tokens.{Piece, Cut, Tokens, TokenFault};
+ghost use Rattle.sl_base.specs.Tokens.{Piece, Cut, Tokens, TokenFault, TokensAscend};
 ghost use Rattle.sl_base.specs.declared.token.Token.{Token as TokenValue};
 
 /// A text has one cut at most.
@@ -14,4 +14,9 @@ pub fn one_answer()
     ensures one_fault { (text : List ℕ) (rule other : TokenRule) (at there : ℕ) →
         TokenFault text rule at → TokenFault text other there → (rule ≡ other) × (at ≡ there) }
     ensures not_both { (text : List ℕ) (ts : List TokenValue) (rule : TokenRule) (at : ℕ) → Tokens text ts → TokenFault text rule at → ⊥ }
+{}
+
+/// The tokens of a text come in the order of their places, so no two have one place.
+pub fn tokens_ascend()
+    ensures { (text : List ℕ) (tokens : List TokenValue) → Tokens text tokens → TokensAscend tokens }
 {}

@@ -13,10 +13,8 @@ mod line;
 mod mark;
 mod name;
 mod number;
-#[cfg(test)]
-mod tests;
 mod text;
 
 pub use error::LexErr;
-pub use laws::{one_answer, one_cut};
+pub use laws::{one_answer, one_cut, tokens_ascend};
 pub use lexer::lex;

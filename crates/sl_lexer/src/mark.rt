@@ -2,8 +2,8 @@ ghost use Rattle.std.specs.Prelude.{◌≡◌, ◌<◌, ◌≤◌, ◌+◌, leng
 ghost use Rattle.sl_base.specs.Marks as base;
 ghost use Rattle.sl_base.specs.Pieces.{bad_byte, mark_piece};
 ghost use Rattle.sl_base.specs.declared.limits.TheConstants.{TEXT_BYTES};
-ghost use Rattle.sl_lexer.specs.Answers.{answer_of};
-ghost use Rattle.sl_lexer.specs.Front as spec;
+ghost use Rattle.sl_lexer.specs.Means.Answers.{answer_of};
+ghost use Rattle.sl_lexer.specs.Means.Front as spec;
 
 use crate::LexErr;
 use crate::front::Front;

@@ -4,8 +4,8 @@ ghost use Rattle.sl_base.specs.Bytes as bytes;
 ghost use Rattle.sl_base.specs.Pieces as base;
 ghost use Rattle.sl_base.specs.Pieces.{name_piece, lib_piece};
 ghost use Rattle.sl_base.specs.declared.limits.TheConstants.{NAME_BYTES, TEXT_BYTES};
-ghost use Rattle.sl_lexer.specs.Answers.{answer_of};
-ghost use Rattle.sl_lexer.specs.Front as spec;
+ghost use Rattle.sl_lexer.specs.Means.Answers.{answer_of};
+ghost use Rattle.sl_lexer.specs.Means.Front as spec;
 ghost use Rattle.sl_lexer.specs.declared.byte.First.TheVariants.{Letter};
 
 use crate::LexErr;

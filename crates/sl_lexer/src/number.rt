@@ -3,8 +3,8 @@ ghost use Rattle.sl_base.specs.Bytes as bytes;
 ghost use Rattle.sl_base.specs.Pieces as base;
 ghost use Rattle.sl_base.specs.Pieces.{number_piece};
 ghost use Rattle.sl_base.specs.declared.limits.TheConstants.{LARGEST_NUMBER, TEXT_BYTES};
-ghost use Rattle.sl_lexer.specs.Answers.{answer_of};
-ghost use Rattle.sl_lexer.specs.Front as spec;
+ghost use Rattle.sl_lexer.specs.Means.Answers.{answer_of};
+ghost use Rattle.sl_lexer.specs.Means.Front as spec;
 ghost use Rattle.std.specs.List.{list_all, prefix_len};
 
 use crate::LexErr;

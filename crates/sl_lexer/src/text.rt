@@ -1,8 +1,8 @@
 ghost use Rattle.std.specs.Prelude.{◌≡◌, ◌<◌, ◌≤◌, ◌+◌, length, false, IfSome, Some, if◌then◌else◌};
 ghost use Rattle.sl_base.specs.Quoted as base;
 ghost use Rattle.sl_base.specs.declared.limits.TheConstants.{TEXT_BYTES};
-ghost use Rattle.sl_lexer.specs.Answers.{IsAnswer, IsUnescaped};
-ghost use Rattle.sl_lexer.specs.Front as spec;
+ghost use Rattle.sl_lexer.specs.Means.Answers.{IsAnswer, IsUnescaped};
+ghost use Rattle.sl_lexer.specs.Means.Front as spec;
 ghost use Rattle.sl_lexer.specs.declared.byte.First.TheVariants.{Quote, Apostrophe};
 
 use crate::LexErr;

@@ -5,6 +5,7 @@
 -- Chosen here: a run ends at its first failure. The faults by their numbers: 1 an overflow, 2 a zero divisor, 3 a variable that isn't
 -- set, 4 no return value, 5 too many calls in progress. Of the bytes written, 65,536 are kept.
 use Rattle.std.specs.Prelude.{ℕ, zero, suc, ◌-◌, ◌==◌, true, false, List, ℤ, Option, Some, None, take, length, slice_get, slice_index_or}
+use Rattle.sl_base.specs.declared.failures.TheConstants.{INVALID_ITERATOR}
 use Rattle.sl_base.specs.declared.limits.TheConstants.{OUTPUT_BYTES}
 use Rattle.sl_base.specs.declared.place.Place.{Place}
 use Rattle.sl_syntax.specs.Typed.{Head}
@@ -61,7 +62,7 @@ argument_of a vs = elim a as (λ _. Option Value) [ zero ↦ None | suc k ↦ sl
 
 -- the killer where the kind is that of an invalid iterator, else none
 abbrev pub killer_at : ℕ → ℕ → List Value → Memory → Option ℕ
-killer_at kind a vs m = elim (kind == 1) as (λ _. Option ℕ) [ true ↦ killer_of_value (argument_of a vs) m | false ↦ None ]
+killer_at kind a vs m = elim (kind == INVALID_ITERATOR) as (λ _. Option ℕ) [ true ↦ killer_of_value (argument_of a vs) m | false ↦ None ]
 
 -- the name of an argument, where it is a plain name
 abbrev pub name_at : List (Option ℕ) → ℕ → Option ℕ

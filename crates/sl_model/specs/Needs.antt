@@ -5,6 +5,7 @@
 -- Chosen here: the kinds of failures by their numbers (1 invalid iterator, 2 wrong container, 4 end iterator; Texts has them all),
 -- the object as argument 0, and that of several failures the one of least kind counts, and of one kind the one of least argument.
 use Rattle.std.specs.Prelude.{ℕ, ◌==◌, ◌&&◌, ◌||◌, nat_lt, Bool, not, List, [], ◌∷◌, ◌++◌, Option, Some, None, if◌then◌else◌}
+use Rattle.sl_base.specs.declared.failures.TheConstants.{INVALID_ITERATOR, WRONG_CONTAINER, END_ITERATOR}
 use Rattle.sl_model.specs.Containers.{Memory, cont_at, size}
 use Rattle.sl_model.specs.Situation.{Situation, place_of}
 
@@ -14,23 +15,23 @@ fails_if test kind a = if test then (kind, a) ∷ [] else []
 
 -- an iterator that has to stand somewhere
 abbrev pub invalid_fails : Option (ℕ × ℕ) → ℕ → List (ℕ × ℕ)
-invalid_fails None a = (1, a) ∷ []
+invalid_fails None a = (INVALID_ITERATOR, a) ∷ []
 invalid_fails (Some p) a = []
 
 -- an iterator that has to stand in container j
 abbrev pub place_fails : ℕ → Option (ℕ × ℕ) → ℕ → List (ℕ × ℕ)
-place_fails j None a = (1, a) ∷ []
-place_fails j (Some p) a = fails_if (not (p.0 == j)) 2 a
+place_fails j None a = (INVALID_ITERATOR, a) ∷ []
+place_fails j (Some p) a = fails_if (not (p.0 == j)) WRONG_CONTAINER a
 
 -- an iterator that has to stand on an element of container j, which has n
 abbrev pub element_fails : ℕ → ℕ → Option (ℕ × ℕ) → ℕ → List (ℕ × ℕ)
-element_fails j n None a = (1, a) ∷ []
-element_fails j n (Some p) a = if p.0 == j then fails_if (p.1 == n) 4 a else (2, a) ∷ []
+element_fails j n None a = (INVALID_ITERATOR, a) ∷ []
+element_fails j n (Some p) a = if p.0 == j then fails_if (p.1 == n) END_ITERATOR a else (WRONG_CONTAINER, a) ∷ []
 
 -- an iterator that has to stand on an element of whichever container
 abbrev pub dereference_fails : Memory → Option (ℕ × ℕ) → ℕ → List (ℕ × ℕ)
-dereference_fails m None a = (1, a) ∷ []
-dereference_fails m (Some p) a = fails_if (p.1 == size (cont_at m p.0)) 4 a
+dereference_fails m None a = (INVALID_ITERATOR, a) ∷ []
+dereference_fails m (Some p) a = fails_if (p.1 == size (cont_at m p.0)) END_ITERATOR a
 
 -- what a call can need
 pub data Need : Type 0 where

@@ -47,3 +47,12 @@ run_over lib p input picks steps = finished (call_of lib CALLS p p.main first_pl
 -- the run of a text
 abbrev pub run : Typed → List ℤ → List ℕ → ℕ → Finish
 run = run_over lib
+
+-- what `main` leaves in a run
+abbrev pub main_out : Typed → List ℤ → List ℕ → ℕ → Out
+main_out p input picks steps = call_of lib CALLS p p.main first_place [] (empty_state input picks steps)
+
+-- the state at the end
+abbrev pub end_state : Out → State
+end_state (Gives v s) = s
+end_state (Stops e s) = s

@@ -4,6 +4,7 @@
 use Rattle.std.specs.Prelude.{ℕ, ◌==◌, nat_eq, Bool, List, [], ◌∷◌, ◌++◌, length, Option, Some, None, slice_get, slice_index_or, codes, decimal, if◌then◌else◌}
 use Rattle.std.specs.Cmp.Lexicographic.{pointwise}
 use Rattle.std.specs.List.{flat_map}
+use Rattle.sl_base.specs.declared.failures.TheConstants.{INVALID_ITERATOR}
 use Rattle.sl_base.specs.declared.place.Place.{Place}
 use Rattle.sl_model.specs.Covers.{Warning}
 
@@ -55,7 +56,7 @@ sites_text sites (site ∷ more) = codes ", invalidated at " ++ (site_text sites
 
 -- these sites where the kind is that of an invalid iterator
 abbrev pub killers_text : List Place → ℕ → List ℕ → List ℕ
-killers_text sites kind killers = if kind == 1 then sites_text sites killers else []
+killers_text sites kind killers = if kind == INVALID_ITERATOR then sites_text sites killers else []
 
 -- the line of a warning in a file with this name
 abbrev pub warning_line : List ℕ → List Place → Warning → List ℕ

@@ -5,9 +5,11 @@ ghost use Rattle.sl_model.specs.Containers.{Cont, Memory, Dropped, size, stamps}
 ghost use Rattle.sl_model.specs.Edits.{Change, Edit, VectorInsert, kills, after};
 ghost use Rattle.sl_model.specs.Situation.{Situation, own_size};
 ghost use Rattle.sl_model.specs.Rows.{edits, push_back};
-ghost use Rattle.sl_model.specs.Good.{IsAt, IsSound};
+ghost use Rattle.sl_model.specs.Good.{IsAt, IsGood, IsSound};
+ghost use Rattle.sl_model.specs.Scoped.{IsScoped};
+ghost use Rattle.sl_model.specs.Shapes.{lib_makes, lib_shape};
 ghost use Rattle.sl_model.specs.Ends.{OutOfSteps};
-ghost use Rattle.sl_model.specs.Run.{run};
+ghost use Rattle.sl_model.specs.Run.{end_state, main_out, run};
 
 /// One element comes in at the end of a vector of n elements, as `push_back` does it. Where there is room for it, the end
 /// is invalidated and no other place; where there is none, every place is.
@@ -37,4 +39,11 @@ pub fn dropped_has_its_site()
 pub fn longer_runs()
     ensures { (p : Typed) (input : List ℤ) (picks : List ℕ) (n more : ℕ) →
         (run p input picks n).end ≢ OutOfSteps → run p input picks (n + more) ≡ run p input picks n }
+{}
+
+/// Memory is sound at the end of each run. In a text in which each variable that is used is in scope, the whole state is good there.
+pub fn runs_stay_good()
+    ensures sound { (p : Typed) (input : List ℤ) (picks : List ℕ) (steps : ℕ) → IsSound (end_state (main_out p input picks steps)).memory }
+    ensures good { (p : Typed) (input : List ℤ) (picks : List ℕ) (steps : ℕ) → IsScoped lib_shape lib_makes p →
+        IsGood (end_state (main_out p input picks steps)) }
 {}

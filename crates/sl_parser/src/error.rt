@@ -1,7 +1,7 @@
 use thiserror::Error;
 
 /// Why tokens are not parsed.
-#[derive(Clone, Copy, Debug, PartialEq, Eq, Error)]
+#[derive(Clone, Copy, Debug, Error)]
 pub enum ParseErr {
     #[error("out of memory")]
     Memory,

@@ -1,7 +1,7 @@
 //! The operators of a text, and how a function may use a container.
 
 /// An operator that calculates, ISO/IEC 14882:2017, [expr.mul] and [expr.add].
-#[derive(Clone, Copy, Debug, PartialEq, Eq)]
+#[derive(Clone, Copy)]
 pub enum Arithmetic {
     Add,
     Subtract,
@@ -11,7 +11,7 @@ pub enum Arithmetic {
 }
 
 /// An operator that compares, ISO/IEC 14882:2017, [expr.rel] and [expr.eq].
-#[derive(Clone, Copy, Debug, PartialEq, Eq)]
+#[derive(Clone, Copy)]
 pub enum Comparison {
     Equal,
     NotEqual,
@@ -22,7 +22,7 @@ pub enum Comparison {
 }
 
 /// An operator between two operands.
-#[derive(Clone, Copy, Debug, PartialEq, Eq)]
+#[derive(Clone, Copy)]
 pub enum BinaryOperator {
     /// `||`
     Or,
@@ -33,7 +33,7 @@ pub enum BinaryOperator {
 }
 
 /// An operator before its operand.
-#[derive(Clone, Copy, Debug, PartialEq, Eq)]
+#[derive(Clone, Copy)]
 pub enum PrefixOperator {
     /// `!`
     Not,
@@ -48,7 +48,7 @@ pub enum PrefixOperator {
 }
 
 /// An operator behind its operand.
-#[derive(Clone, Copy, Debug, PartialEq, Eq)]
+#[derive(Clone, Copy)]
 pub enum PostfixOperator {
     /// `++`
     Increment,
@@ -57,7 +57,7 @@ pub enum PostfixOperator {
 }
 
 /// How a member is named.
-#[derive(Clone, Copy, Debug, PartialEq, Eq)]
+#[derive(Clone, Copy)]
 pub enum Selector {
     /// `.`
     Dot,
@@ -66,7 +66,7 @@ pub enum Selector {
 }
 
 /// An operator that gives a left side a value.
-#[derive(Clone, Copy, Debug, PartialEq, Eq)]
+#[derive(Clone, Copy)]
 pub enum Assignment {
     /// `=`
     Set,
@@ -75,7 +75,7 @@ pub enum Assignment {
 }
 
 /// How a function may use a container that is handed to it by reference.
-#[derive(Clone, Copy, Debug, PartialEq, Eq)]
+#[derive(Clone, Copy)]
 pub enum Access {
     /// It may not change it.
     Const,

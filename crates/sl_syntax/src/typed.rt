@@ -3,7 +3,7 @@ use sl_base::{Items, Name, Place, Site};
 
 /// A statement of the body of `main`. Variables are numbered from 0 in the order in which they are declared, vectors,
 /// iterators and numbers each by themselves; names are numbered from 0 in the order in which they are declared.
-#[derive(Debug, Drop)]
+#[derive(Drop)]
 pub enum Stmt {
     /// `std::vector<int> v;`, at its lib.
     Vector {
@@ -34,7 +34,7 @@ pub enum Stmt {
 /// A typed text: the statements of `main`, the place of its closing brace, the places of the sites by their number, and the
 /// names of the variables. A site is a call of `push_back`, and behind all of these the closing brace, where it ends a
 /// vector.
-#[derive(Debug, Drop)]
+#[derive(Drop)]
 pub struct Typed {
     pub stmts: Items<Stmt>,
     pub close: Place,

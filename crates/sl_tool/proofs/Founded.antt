@@ -25,7 +25,8 @@ use Rattle.sl_tool.proofs.Exactness.{is_exact}
 use Rattle.sl_tool.proofs.Causes.{has-node}
 use Rattle.sl_tool.proofs.KillersAscend.{killers-ascend}
 use Rattle.sl_tool.proofs.InOrder.{told_one, in-order, once}
-use Rattle.sl_tool.proofs.Ascending.{TokensAscend, tokens-ascend}
+use Rattle.sl_base.specs.Tokens.{TokensAscend}
+use Rattle.sl_lexer.proofs.TokenOrder.{tokens-ascend}
 use Rattle.sl_tool.proofs.Built.{places-ascend, count_items, uses_items, site_in}
 use Rattle.sl_model.proofs.Getting.{get_drop}
 

@@ -13,7 +13,6 @@ pub mod ExactSteps
 pub mod Exactness
 pub mod Causes
 pub mod InOrder
-pub mod Ascending
 pub mod Built
 pub mod KillersAscend
 pub mod Founded

@@ -4,6 +4,7 @@
 use Rattle.std.specs.Prelude.{◌≡◌, ◌↔◌, ◌⊎◌, ℕ, ◌<◌, List, [], ◌∷◌, length, Some, Contains, slice_get, codes}
 use Rattle.sl_base.specs.declared.limits.TheConstants.{STATEMENTS}
 use Rattle.sl_base.specs.declared.place.Place.{Place}
+use Rattle.sl_base.specs.Places.{IsPlaceBefore}
 use Rattle.sl_syntax.specs.declared.typed.Stmt.{Stmt}
 use Rattle.sl_syntax.specs.declared.typed.Stmt.TheVariants.{PushBack, Dereference}
 use Rattle.sl_syntax.specs.declared.typed.Typed.{Typed as TypedCode}
@@ -61,10 +62,6 @@ pub record AreInTurn (stmts : List Stmt) (v w : WarningCode) : Type 0 where
   pub of_first : IsOfNode stmts first v
   pub of_second : IsOfNode stmts second w
   pub order : (first < second) ⊎ ((first ≡ second) × (kind_of v.fault < kind_of w.fault))
-
--- a place comes before another in a text
-abbrev pub IsPlaceBefore : Place → Place → Type 0
-IsPlaceBefore p q = (p.line < q.line) ⊎ ((p.line ≡ q.line) × (p.col < q.col))
 
 -- a warning comes before another in a report: by its place, and at one place by its kind
 abbrev pub IsBefore : Warning → Warning → Type 0

@@ -7,7 +7,7 @@ use sl_syntax::typed::Stmt;
 use std::alloc::{AllocError, Global};
 
 /// What may be wrong with an iterator that is dereferenced.
-#[derive(Debug, Drop)]
+#[derive(Drop)]
 pub enum Fault {
     /// A call at one of these sites may have invalidated it.
     InvalidIterator(Items<Site>),
@@ -16,7 +16,7 @@ pub enum Fault {
 }
 
 /// A warning at a `*`: its place, the number of the iterator's name, and the fault.
-#[derive(Debug, Drop)]
+#[derive(Drop)]
 pub struct Warning {
     pub place: Place,
     pub name: u16,
@@ -25,14 +25,14 @@ pub struct Warning {
 
 /// Where an iterator stands, if it is valid: at the begin of a vector. It was valid behind the first `since` calls of
 /// `push_back`.
-#[derive(Clone, Copy, Debug)]
+#[derive(Clone, Copy)]
 pub struct Standing {
     pub vector: u8,
     pub since: usize,
 }
 
 /// A call of `push_back`.
-#[derive(Clone, Copy, Debug)]
+#[derive(Clone, Copy)]
 pub struct Push {
     pub vector: u8,
     pub site: Site,

@@ -5,6 +5,7 @@ ghost use Rattle.sl_model.specs.Texts.{place_text, site_text, further_sites, sit
 ghost use Rattle.sl_warnings.specs.Views.{sites_in};
 
 use crate::rendering::push;
+use sl_base::failures::INVALID_ITERATOR;
 use sl_base::limits::SITES;
 use sl_base::{Items, Place, Site};
 use sl_kind::Kills;
@@ -20,7 +21,7 @@ pub fn push_killers(
 ) -> Result<(), AllocError>
     ensures { OnOk result (out.new ≡ out.old ++ killers_text sites.now kind (sites_in killers.now)) }
 {
-    if kind != 1 {
+    if kind != INVALID_ITERATOR {
         return Ok(());
     }
     let numbers = sites_of(alloc, killers)?;

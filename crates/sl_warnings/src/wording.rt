@@ -3,7 +3,7 @@ ghost use Rattle.std.specs.Prelude.{◌≡◌, ◌++◌, OnOk};
 ghost use Rattle.sl_model.specs.Texts.{kind_text, who_text, name_text, name_in_for};
 
 use crate::rendering::push;
-use sl_base::{Items, Name};
+use sl_base::{Items, Name, failures};
 use std::alloc::{AllocError, Global};
 
 // The words for a kind, none where the number is no kind's.
@@ -11,17 +11,17 @@ pub fn kind_words(kind: u8) -> &'static str
     ensures { result.now ≡ kind_text kind }
 {
     match kind {
-        1 => "invalid iterator",
-        2 => "wrong container",
-        3 => "bad range",
-        4 => "end iterator",
-        5 => "out of range",
-        6 => "empty container",
-        7 => "own elements",
-        8 => "no room",
-        9 => "overlap",
-        10 => "not partitioned",
-        11 => "not sorted",
+        failures::INVALID_ITERATOR => "invalid iterator",
+        failures::WRONG_CONTAINER => "wrong container",
+        failures::BAD_RANGE => "bad range",
+        failures::END_ITERATOR => "end iterator",
+        failures::OUT_OF_RANGE => "out of range",
+        failures::EMPTY_CONTAINER => "empty container",
+        failures::OWN_ELEMENTS => "own elements",
+        failures::NO_ROOM => "no room",
+        failures::OVERLAP => "overlap",
+        failures::NOT_PARTITIONED => "not partitioned",
+        failures::NOT_SORTED => "not sorted",
         _ => "",
     }
 }

@@ -1,9 +1,9 @@
 ghost use Rattle.std.specs.Prelude.{◌≡◌, ◌≤◌, ◌<◌, List, ℕ, length, take, Option, IfOk, OnOk, OnErr};
 ghost use Rattle.std.specs.Io.KnownBytes.{Consumes, IsAtEnd};
-ghost use Rattle.sl_base.specs.Outside.{Rose, OthersKept, AllKept};
+ghost use Rattle.sl_base.specs.Outside.{Rose, NoFault, OthersKept, AllKept};
 
 /// A read or a write failed.
-#[derive(Clone, Copy, Debug, PartialEq, Eq)]
+#[derive(Clone, Copy)]
 pub struct Failed;
 
 /// Files that are read by name, each from its first byte on.
@@ -27,6 +27,7 @@ pub trait Files {
         ensures others { OnOk result (OthersKept (left self.old) (left self.new) name.now) }
         ensures kept { OnErr result (AllKept (left self.old) (left self.new)) }
         ensures no_fall { faults self.old ≤ faults self.new }
+        ensures steady { OnOk result (NoFault (faults self.old) (faults self.new) (blamed self.old) (blamed self.new)) }
         ensures risen { OnErr result (Rose (faults self.old) (faults self.new)) }
         ensures blame { OnErr result (blamed self.new name.now) };
 }

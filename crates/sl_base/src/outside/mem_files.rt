@@ -1,18 +1,12 @@
-ghost use Rattle.std.specs.Prelude.{◌≡◌, ◌+◌, ◌<◌, ◌≤◌, ◌↔◌, ℕ, [], ◌++◌, length, take, min, None, MatchOption, IfOk, OnOk, OnErr, IsErr};
+ghost use Rattle.std.specs.Prelude.{◌≡◌, ◌+◌, ◌<◌, ◌≤◌, ◌↔◌, ℕ, List, [], ◌++◌, length, take, min, None, MatchOption, IfOk, OnOk, OnErr, IsErr};
 ghost use Rattle.std.specs.Io.KnownBytes.{Consumes, IsAtEnd};
+ghost use Rattle.std.specs.Option.{ForSome};
 ghost use Rattle.sl_base.specs.Counts.{one_more, faults_after};
-ghost use Rattle.sl_base.specs.Outside.{Rose, OthersKept, AllKept};
+ghost use Rattle.sl_base.specs.Outside.{Rose, NoFault, OthersKept, AllKept};
 ghost use Rattle.sl_base.specs.Memory.{left_in, IsPlace, IsBlamed, BlamesAlone};
 
+use crate::outside::blame::Blame;
 use crate::{Failed, Files};
-
-/// What the last read that failed was of.
-#[derive(Drop)]
-enum Blame {
-    Nothing,
-    File(usize),
-    Missing,
-}
 
 /// Files in memory, for tests. They tell their bytes, and their reads take no memory.
 #[derive(Drop)]
@@ -27,7 +21,7 @@ pub struct MemFiles {
 }
 
 impl MemFiles {
-    ghost use Rattle.sl_base.specs.MemoryViews.{mem_files, mem_chunk, mem_fails, mem_calls, mem_faults};
+    ghost use Rattle.sl_base.specs.MemoryViews.{mem_files, mem_chunk, mem_fails, mem_calls, mem_faults, mem_blamed};
 
     /// Files of these names and bytes, of which a read gives at most `chunk` bytes, and of whose reads those
     /// fail whose numbers, from 0, are in `fails`. Of two files of one name the first counts. It takes no memory.
@@ -38,6 +32,7 @@ impl MemFiles {
         ensures fails { mem_fails result ≡ fails.items }
         ensures calls { mem_calls result ≡ 0 }
         ensures faults { mem_faults result ≡ 0 }
+        ensures unblamed { (name : List ℕ) → mem_blamed result name → ⊥ }
     {
         MemFiles {
             files,
@@ -89,7 +84,7 @@ fn take_front(bytes: &mut Vec<u8>, chunk: usize, buf: &mut [u8]) -> usize
     requires some { 0 < chunk }
     requires room { 0 < length buf.old }
     ensures bound { result ≤ length buf.new }
-    ensures chunk { result ≤ chunk }
+    ensures most { result ≡ min chunk (min (length buf.new) (length bytes.old.items)) }
     ensures bytes { bytes.old.items ≡ take result buf.new ++ bytes.new.items }
     ensures end { result ≡ 0 → bytes.new.items ≡ [] }
 {
@@ -119,6 +114,7 @@ impl Files for MemFiles {
         ensures others { OnOk result (OthersKept (mem_left self.old) (mem_left self.new) name.now) }
         ensures kept { OnErr result (AllKept (mem_left self.old) (mem_left self.new)) }
         ensures no_fall { mem_faults self.old ≤ mem_faults self.new }
+        ensures steady { OnOk result (NoFault (mem_faults self.old) (mem_faults self.new) (mem_blamed self.old) (mem_blamed self.new)) }
         ensures risen { OnErr result (Rose (mem_faults self.old) (mem_faults self.new)) }
         ensures blame { OnErr result (mem_blamed self.new name.now) }
 
@@ -128,7 +124,8 @@ impl Files for MemFiles {
         ensures blames_alone { OnErr result (BlamesAlone (mem_left self.new) (mem_blamed self.new) name.now) }
 
         // What goes on as before.
-        ensures chunked { IfOk result (λ n. n ≤ mem_chunk self.old) }
+        ensures most { IfOk result (λ n. ForSome (mem_left self.old name.now)
+            (λ left. n ≡ min (mem_chunk self.old) (min (length buf.new) (length left)))) }
         ensures chunk { mem_chunk self.new ≡ mem_chunk self.old }
         ensures listed { mem_fails self.new ≡ mem_fails self.old }
         ensures names { mem_names self.new ≡ mem_names self.old }
@@ -137,10 +134,10 @@ impl Files for MemFiles {
         let call = self.calls;
         self.calls = call.saturating_add(1);
         let Some(i) = place_of_name(&self.files, name) else {
-            return Err(self.fail(Blame::Missing));
+            return Err(self.fail(Blame::Unknown));
         };
         if self.fails.contains(&call) {
-            return Err(self.fail(Blame::File(i)));
+            return Err(self.fail(Blame::Known(i)));
         }
         Ok(take_front(&mut self.files[i].1, self.chunk, buf))
     }

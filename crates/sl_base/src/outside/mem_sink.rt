@@ -1,4 +1,4 @@
-ghost use Rattle.std.specs.Prelude.{◌≡◌, ◌<◌, ◌≤◌, ◌↔◌, [], length, take, Some, IfOk, OnErr, IsErr, vec_len, vec_capacity};
+ghost use Rattle.std.specs.Prelude.{◌≡◌, ◌<◌, ◌≤◌, ◌-◌, ◌↔◌, [], length, min, take, Some, IfOk, OnOk, OnErr, IsErr, vec_len, vec_capacity};
 ghost use Rattle.std.specs.Io.KnownBytes.{Appends, Keeps};
 ghost use Rattle.sl_base.specs.Counts.{one_more, faults_after};
 ghost use Rattle.sl_base.specs.Outside.{Rose};
@@ -79,6 +79,7 @@ impl Sink for MemSink {
         ensures bytes { IfOk result (λ n. Appends (Some (sink_bytes self.old)) (Some (sink_bytes self.new)) (take n piece.now)) }
         ensures kept { OnErr result (Keeps (Some (sink_bytes self.old)) (Some (sink_bytes self.new))) }
         ensures no_fall { sink_faults self.old ≤ sink_faults self.new }
+        ensures steady { OnOk result (sink_faults self.new ≡ sink_faults self.old) }
         ensures risen { OnErr result (Rose (sink_faults self.old) (sink_faults self.new)) }
 
         // When it fails, and what that leaves.
@@ -86,7 +87,7 @@ impl Sink for MemSink {
         ensures counted { sink_faults self.new ≡ faults_after result (sink_faults self.old) }
 
         // What goes on as before.
-        ensures chunked { IfOk result (λ n. n ≤ sink_chunk self.old) }
+        ensures most { IfOk result (λ n. n ≡ min (sink_chunk self.old) (min (length piece.now) (sink_room self.old - length (sink_bytes self.old)))) }
         ensures chunk { sink_chunk self.new ≡ sink_chunk self.old }
         ensures room { sink_room self.new ≡ sink_room self.old }
         ensures listed { sink_fails self.new ≡ sink_fails self.old }

@@ -1,5 +1,5 @@
-ghost use Rattle.std.specs.Prelude.{◌≡◌, ◌≤◌, IfOk, OnErr, IsErrOf};
-ghost use Rattle.sl_base.specs.Outside.{Rose, IsRead, IsReadInPart, OthersKept};
+ghost use Rattle.std.specs.Prelude.{◌≡◌, ◌≤◌, IfOk, OnOk, OnErr, IsErrOf};
+ghost use Rattle.sl_base.specs.Outside.{Rose, NoFault, IsRead, IsReadInPart, OthersKept};
 ghost use Rattle.sl_base.specs.declared.outside.reading.ReadErr.TheVariants.{Memory};
 
 use crate::Files;
@@ -7,7 +7,7 @@ use std::alloc::{AllocError, Global};
 use thiserror::Error;
 
 /// Why a file was not read.
-#[derive(Clone, Copy, Debug, PartialEq, Eq, Error)]
+#[derive(Clone, Copy, Debug, Error)]
 pub enum ReadErr {
     #[error("out of memory")]
     Memory,
@@ -39,6 +39,9 @@ pub fn read_all<F: Files>(
     ensures part { OnErr result (IsReadInPart limit (F.left files.old name.now) (F.left files.new name.now)) }
     ensures others { OthersKept (F.left files.old) (F.left files.new) name.now }
     ensures no_fall { F.faults files.old ≤ F.faults files.new }
+    ensures steady { OnOk result (NoFault (F.faults files.old) (F.faults files.new) (F.blamed files.old) (F.blamed files.new)) }
+    ensures steady_memory { IsErrOf result ReadErr.Memory →
+        NoFault (F.faults files.old) (F.faults files.new) (F.blamed files.old) (F.blamed files.new) }
     ensures risen { IsErrOf result ReadErr.Failed → Rose (F.faults files.old) (F.faults files.new) }
     ensures blame { IsErrOf result ReadErr.Failed → F.blamed files.new name.now }
 {

@@ -1,21 +1,14 @@
 ghost use Rattle.std.specs.Prelude.{◌≡◌, ◌<◌, ◌≤◌, ℕ, List, None, length, MatchOption, IfOk, OnOk, OnErr, vec_len};
 ghost use Rattle.sl_base.specs.RealWords.{names_of_words, HasNoWord, IsWordAt, IsBlamedWord};
 ghost use Rattle.sl_base.specs.Counts.{one_more, faults_after};
-ghost use Rattle.sl_base.specs.Outside.{Rose};
+ghost use Rattle.sl_base.specs.Outside.{Rose, NoFault};
 
+use crate::outside::blame::Blame;
 use crate::{Failed, Files};
 use std::alloc::{AllocError, Global};
 use std::fs;
 use std::io::Read;
 use std::rt::Files as System;
-
-/// What the last read that failed was of.
-#[derive(Drop)]
-enum Blame {
-    Nothing,
-    Word(usize),
-    Missing,
-}
 
 /// The files of the system that the words of a command name. They tell nothing of their bytes. A file is opened
 /// at its first read and stays open; a name that is none of the words fails.
@@ -33,6 +26,7 @@ impl<R: System + Drop> RealFiles<R> {
     /// The files that these words name. Takes memory for a copy of the words and for one open file a word.
     pub fn new(system: R, alloc: Global, words: &[String]) -> Result<RealFiles<R>, AllocError>
         ensures faults { IfOk result (λ f. f.faults ≡ 0) }
+        ensures unblamed { IfOk result (λ f. (name : List ℕ) → IsBlamedWord f.words.items f.blame name → ⊥) }
         ensures words { IfOk result (λ f. names_of_words f.words.items ≡ names_of_words words.now) }
     {
         let mut copies = Vec::new(alloc);
@@ -87,6 +81,8 @@ impl<R: System + Drop> Files for RealFiles<R> {
         requires { 0 < length buf.old }
         ensures bound { IfOk result (λ n. n ≤ length buf.new) }
         ensures no_fall { self.old.faults ≤ self.new.faults }
+        ensures steady { OnOk result
+            (NoFault self.old.faults self.new.faults (IsBlamedWord self.old.words.items self.old.blame) (IsBlamedWord self.new.words.items self.new.blame)) }
         ensures risen { OnErr result (Rose self.old.faults self.new.faults) }
         ensures blame { OnErr result (IsBlamedWord self.new.words.items self.new.blame name.now) }
 
@@ -96,12 +92,12 @@ impl<R: System + Drop> Files for RealFiles<R> {
         ensures words { self.new.words.items ≡ self.old.words.items }
     {
         let Some(i) = place_of_word(&self.words, name) else {
-            return Err(self.fail(Blame::Missing));
+            return Err(self.fail(Blame::Unknown));
         };
         if self.opened[i].is_none() {
             match fs::open(&self.system, name) {
                 Ok(file) => self.opened[i] = Some(file),
-                Err(_) => return Err(self.fail(Blame::Word(i))),
+                Err(_) => return Err(self.fail(Blame::Known(i))),
             }
         }
         if let Some(file) = &mut self.opened[i] {
@@ -109,6 +105,6 @@ impl<R: System + Drop> Files for RealFiles<R> {
                 return Ok(count);
             }
         }
-        Err(self.fail(Blame::Word(i)))
+        Err(self.fail(Blame::Known(i)))
     }
 }

@@ -1,4 +1,4 @@
-ghost use Rattle.std.specs.Prelude.{◌≤◌, ◌<◌, List, ℕ, length, take, Option, IfOk, OnErr};
+ghost use Rattle.std.specs.Prelude.{◌≡◌, ◌≤◌, ◌<◌, List, ℕ, length, take, Option, IfOk, OnOk, OnErr};
 ghost use Rattle.std.specs.Io.KnownBytes.{Appends, Keeps};
 ghost use Rattle.sl_base.specs.Outside.{Rose};
 
@@ -20,5 +20,6 @@ pub trait Sink {
         ensures bytes { IfOk result (λ n. Appends (taken self.old) (taken self.new) (take n piece.now)) }
         ensures kept { OnErr result (Keeps (taken self.old) (taken self.new)) }
         ensures no_fall { faults self.old ≤ faults self.new }
+        ensures steady { OnOk result (faults self.new ≡ faults self.old) }
         ensures risen { OnErr result (Rose (faults self.old) (faults self.new)) };
 }

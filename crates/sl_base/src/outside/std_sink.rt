@@ -1,4 +1,6 @@
-ghost use Rattle.std.specs.Prelude.{◌≡◌, None};
+ghost use Rattle.std.specs.Prelude.{◌≡◌, ◌<◌, ◌≤◌, None, length, IfOk, OnOk, OnErr};
+ghost use Rattle.sl_base.specs.Counts.{faults_after};
+ghost use Rattle.sl_base.specs.Outside.{Rose};
 
 use crate::{Failed, Sink};
 
@@ -23,7 +25,18 @@ impl<P: Print + Drop> Sink for StdSink<P> {
 
     ghost faults = { λ s. s.faults };
 
-    fn write(&mut self, piece: &[u8]) -> Result<usize, Failed> {
+    // The clauses of the trait.
+    fn write(&mut self, piece: &[u8]) -> Result<usize, Failed>
+        requires { 0 < length piece.now }
+        ensures bound { IfOk result (λ n. n ≤ length piece.now) }
+        ensures some { IfOk result (λ n. 0 < n) }
+        ensures no_fall { self.old.faults ≤ self.new.faults }
+        ensures steady { OnOk result (self.new.faults ≡ self.old.faults) }
+        ensures risen { OnErr result (Rose self.old.faults self.new.faults) }
+
+        // What fails is counted.
+        ensures counted { self.new.faults ≡ faults_after result self.old.faults }
+    {
         match self.out.write_some(piece) {
             Ok(count) if count > 0 => Ok(count),
             _ => {

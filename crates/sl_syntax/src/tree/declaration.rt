@@ -4,7 +4,7 @@ use crate::tree::{Expr, Identifier};
 use sl_base::{Form, Place, Scalar};
 
 /// The type of a container of `int`, at its first token: `std::vector<int>`, `std::map<int, int>`.
-#[derive(Clone, Copy, Debug)]
+#[derive(Clone, Copy)]
 pub struct ContainerType {
     pub place: Place,
     pub form: Form,

@@ -2,7 +2,7 @@ use crate::tree::{Block, ContainerType, Identifier};
 use sl_base::{Place, Scalar};
 
 /// What a function gives back.
-#[derive(Clone, Copy, Debug, PartialEq, Eq)]
+#[derive(Clone, Copy)]
 pub enum ResultType {
     Void,
     Scalar(Scalar),

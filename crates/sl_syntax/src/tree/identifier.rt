@@ -1,7 +1,7 @@
 use sl_base::{Name, Place};
 
 /// A name in a text, and the place of its first byte.
-#[derive(Debug, Drop)]
+#[derive(Drop)]
 pub struct Identifier {
     pub name: Name,
     pub place: Place,

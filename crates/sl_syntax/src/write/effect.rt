@@ -1,5 +1,5 @@
 //! The words of what is done for its effect, and of what is tested.
-ghost use Rattle.std.specs.Prelude.{◌≡◌, ◌++◌, [], ◌∷◌, map, IfOk, OnOk};
+ghost use Rattle.std.specs.Prelude.{◌≡◌, ◌++◌, [], ◌∷◌, map, OnOk};
 ghost use Rattle.sl_syntax.specs.TreeView.{out_of, effect_of, cond_of};
 ghost use Rattle.sl_syntax.specs.Written.{words_of, read_written, print_written, out_written, effect_written, cond_written};
 
@@ -22,24 +22,13 @@ fn write_read(out: &mut Items<Word>, read: &Read) -> Result<(), AllocError>
     Ok(())
 }
 
-/// These bytes once more.
-fn copy_of(alloc: Global, bytes: &[u8]) -> Result<Items<u8>, AllocError>
-    ensures { IfOk result (λ copied. copied ≡ bytes.now) }
-{
-    let mut copied = Items::new(alloc);
-    for byte in bytes {
-        copied.push(*byte)?;
-    }
-    Ok(copied)
-}
-
 /// Writes an item of a print.
 fn write_out(alloc: Global, out: &mut Items<Word>, x: &Out) -> Result<(), AllocError>
     ensures { OnOk result (out.new ≡ out.old ++ words_of (out_written (out_of x.now))) }
 {
     match x {
         Out::Text { text, .. } => {
-            let copied = copy_of(alloc, text.as_slice())?;
+            let copied = Items::from_slice(alloc, text.as_slice())?;
             out.push(Word::Text(copied))
         }
         Out::EndLine { .. } => out.push(lib(b"endl")),

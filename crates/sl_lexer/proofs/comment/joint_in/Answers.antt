@@ -2,7 +2,7 @@
 use Rattle.std.proofs.Common.{◌≡◌, ℕ, zero, suc, ◌+◌, ◌-◌, ◌<◌, ◌≤◌, false, List, [], ◌∷◌, length, drop, get_or, None, option_map, refl, sym, ap, ◌∙◌, subst, arith}
 use Rattle.std.proofs.lemmas.List.{drop_more, take_rest}
 use Rattle.sl_base.specs.Bytes.{begins_joint}
-use Rattle.sl_lexer.specs.Front.{joint_in}
+use Rattle.sl_lexer.specs.Means.Front.{joint_in}
 use Rattle.sl_lexer.proofs.CommentLaws.{counts-more}
 use Rattle.sl_lexer.proofs.comment.joint_in.Goals as goal
 

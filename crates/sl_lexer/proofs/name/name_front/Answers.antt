@@ -6,8 +6,8 @@ use Rattle.sl_base.specs.Bytes.{is_name_byte}
 use Rattle.sl_base.specs.Pieces.{name_piece, word_of}
 use Rattle.sl_base.specs.declared.limits.TheConstants.{NAME_BYTES}
 use Rattle.sl_base.specs.declared.word.Word.{Word}
-use Rattle.sl_lexer.specs.Answers.{answer_of}
-use Rattle.sl_lexer.specs.Front.{judged}
+use Rattle.sl_lexer.specs.Means.Answers.{answer_of}
+use Rattle.sl_lexer.specs.Means.Front.{judged}
 use Rattle.sl_lexer.specs.declared.error.LexErr.{LexErr}
 use Rattle.sl_lexer.specs.declared.front.Front.{Front}
 use Rattle.sl_lexer.proofs.WordLaws.{taken}

@@ -2,7 +2,7 @@
 use Rattle.std.proofs.Common.{◌≡◌, ◌≤◌, ◌-◌, false, length, drop, take, Ok, Err, subst}
 use Rattle.std.proofs.lemmas.Result.{err_from_is_err_and}
 use Rattle.sl_base.specs.Quoted.{unescaped, between}
-use Rattle.sl_lexer.specs.Answers.{IsUnescaped}
+use Rattle.sl_lexer.specs.Means.Answers.{IsUnescaped}
 use Rattle.sl_lexer.proofs.TextLaws.{between-slice, text-ok, text-err}
 use Rattle.sl_lexer.proofs.text.text_at.Goals as goal
 use Rattle.sl_lexer.proofs.text.text_at.Goals.{In-Some}

@@ -1,7 +1,7 @@
 -- No quote so far closes the text: the count goes on behind.
 use Rattle.std.proofs.Common.{◌≡◌, ◌+◌, drop, option_map}
 use Rattle.sl_base.specs.Quoted.{text_end}
-use Rattle.sl_lexer.specs.Front as spec
+use Rattle.sl_lexer.specs.Means.Front as spec
 use Rattle.sl_lexer.proofs.text.text_len.Given as goal
 
 abbrev pub invariant-loop-i : goal.invariant-loop-i

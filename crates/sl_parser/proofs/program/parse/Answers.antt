@@ -1,7 +1,7 @@
 use Rattle.std.proofs.Common.{ap, inr, subst}
 use Rattle.sl_syntax.specs.Begins.{IsProgram, Stops, words_in}
 use Rattle.sl_syntax.proofs.BeginsLaws.{stops_once, not_whole}
-use Rattle.sl_grammar.proofs.Laws.{within, stops, one_program, is_program}
+use Rattle.sl_grammar.proofs.ProgramLaws.{within, stops, one_program, is_program}
 use Rattle.sl_grammar.proofs.SoundPrograms.{read_program}
 use Rattle.sl_parser.specs.declared.error.ParseErr.TheVariants.{Grammar}
 use Rattle.sl_parser.proofs.ParseLaws.{same_token, not_memory}

@@ -1,5 +1,5 @@
 use Rattle.std.proofs.Common.{arith}
-use Rattle.sl_grammar.proofs.Laws.{is_program}
+use Rattle.sl_grammar.proofs.ProgramLaws.{is_program}
 use Rattle.sl_lexer.proofs.CutLaws.{few_tokens}
 use Rattle.sl_tool.proofs.checking.typed_tokens.Goals as goal
 use Rattle.sl_tool.proofs.checking.typed_tokens.Goals.{in-Ok, in-Err+in_ok-grammar_refusal-in-Err}

@@ -1,5 +1,5 @@
 use Rattle.std.proofs.Common.{ℕ, arith, length-take}
-use Rattle.sl_base.proofs.Told.{OthersKept-trans, OthersKept-all, OnErr-any, IsReadInPart-next}
+use Rattle.sl_base.proofs.Told.{OthersKept-trans, OthersKept-all, NoFault-refl, NoFault-trans, OnErr-any, IsReadInPart-next}
 use Rattle.sl_base.proofs.outside.reading.read_all.Goals as goal
 
 pub returns-in-Err-clause-others : goal.returns-in-Err-clause-others
@@ -15,3 +15,12 @@ returns-in_err-extend_from_slice-clause-part g c =
 
 pub returns-in_err-extend_from_slice-clause-others : goal.returns-in_err-extend_from_slice-clause-others
 returns-in_err-extend_from_slice-clause-others g c = OthersKept-trans _ _ _ _ c.loop-block.invariant.others c.in-Ok.ensures.others
+
+pub returns-then-count-eq0-clause-steady : goal.returns-then-count-eq0-clause-steady
+returns-then-count-eq0-clause-steady g c = NoFault-trans _ _ _ _ _ _ c.loop-block.invariant.steady c.in-Ok.ensures.steady
+
+pub returns-in_err-extend_from_slice-clause-steady_memory : goal.returns-in_err-extend_from_slice-clause-steady_memory
+returns-in_err-extend_from_slice-clause-steady_memory g c memory = NoFault-trans _ _ _ _ _ _ c.loop-block.invariant.steady c.in-Ok.ensures.steady
+
+pub returns-clause-steady : goal.returns-clause-steady
+returns-clause-steady g c = c.loop-block.invariant.steady

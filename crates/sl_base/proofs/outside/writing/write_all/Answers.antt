@@ -1,4 +1,4 @@
-use Rattle.std.proofs.Common.{arith}
+use Rattle.std.proofs.Common.{arith, ◌∙◌}
 use Rattle.sl_base.proofs.Told.{Appends-next}
 use Rattle.sl_base.proofs.outside.writing.write_all.Goals as goal
 
@@ -6,5 +6,5 @@ pub loop-done-preserved : goal.loop-done-preserved
 loop-done-preserved g c = (
   omega (arith, c.in_ok-done.ensures.bound),
   Appends-next _ _ _ _ _ _ c.loop-done.invariant.1 c.in_ok-done.ensures.bytes,
-  omega (arith, c.in_ok-done.ensures.no_fall),
+  c.in_ok-done.ensures.steady ∙ c.loop-done.invariant.2,
 )

@@ -1,5 +1,5 @@
 use Rattle.std.proofs.Common.{inl, inr, sym, ap, ◌∙◌}
-use Rattle.sl_base.proofs.Names.{Consumes-there, IsAtEnd-there, OthersKept-there, blames_file, left_in-there, listed, names_of-there}
+use Rattle.sl_base.proofs.Names.{Consumes-there, IsAtEnd-there, OthersKept-there, blames_file, left_in-there, left_in-told, listed, names_of-there, NoFault-there}
 use Rattle.sl_base.proofs.outside.mem_files.MemFilesFiles.read.Goals as goal
 
 pub returns-clause-bytes : goal.returns-clause-bytes
@@ -29,3 +29,11 @@ returns-clause-fails c = (
 
 pub returns-clause-names : goal.returns-clause-names
 returns-clause-names c = names_of-there _ _ _ _ c.index_mut.ensures.value
+
+pub returns-clause-steady : goal.returns-clause-steady
+returns-clause-steady c = NoFault-there _ _ _ _ _ _ c.index_mut.ensures.value
+
+pub returns-clause-most : goal.returns-clause-most
+returns-clause-most c x told =
+    let left = left_in-told _ _ _ _ x (rw c.deref.ensures.value at c.in-Some.ensures) c.index_mut.ensures.value told in
+    rw (sym left) c.take_front.ensures.most

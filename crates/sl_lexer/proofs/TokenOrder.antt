@@ -1,57 +1,15 @@
--- The places of tokens ascend.
-use Rattle.std.proofs.Common.{arith, ◌≡◌, ℕ, zero, suc, ◌+◌, ◌-◌, ◌<◌, ◌≤◌, Bool, true, false, not, List, [], ◌∷◌, length, take, drop, reverse, get_or, Option, Some, None, inl, inr, refl, ap, sym, subst, ◌∙◌, if◌then◌else◌}
+-- The tokens of a text come in the order of their places.
+use Rattle.std.proofs.Common.{arith, ◌≡◌, ℕ, zero, suc, ◌+◌, ◌<◌, ◌≤◌, Bool, false, List, [], ◌∷◌, length, take, drop, Option, Some, None, refl, ap, subst}
 use Rattle.std.specs.Prelude.{slice_get, ◌||◌, is_some}
 use Rattle.std.specs.Option.{option_map}
-use Rattle.std.specs.List.{filter_map, cons_option, prefix_len}
-use Rattle.std.proofs.lemmas.List.{take_more, reverse-append}
-use Rattle.std.proofs.lemmas.List.Sums.{count_by_more_yes, count_by_more_no}
-use Rattle.sl_base.specs.declared.place.Place.{Place}
+use Rattle.std.specs.List.{filter_map, cons_option}
 use Rattle.sl_base.specs.declared.token.Token.{Token}
 use Rattle.sl_base.specs.declared.word.Word.{Word}
-use Rattle.sl_base.specs.Places.{is_line_feed, place_at}
+use Rattle.sl_base.specs.Places.{place_at}
 use Rattle.sl_base.specs.Pieces.{word_of}
-use Rattle.sl_base.specs.Tokens.{Piece, Stands, Follow, token_of, Tokens}
+use Rattle.sl_base.specs.Tokens.{Piece, Stands, Follow, token_of, Tokens, TokensAscend}
+use Rattle.sl_base.proofs.PlaceOrder.{place-ascends}
 use Rattle.sl_lexer.proofs.CutLaws.{piece-some, piece-within}
-use Rattle.sl_tool.specs.Exactness.{IsPlaceBefore}
-
--- what comes before what comes before
-place_trans : (p q r : Place) → IsPlaceBefore p q → IsPlaceBefore q r → IsPlaceBefore p r
-place_trans p q r (inl a) (inl b) = inl (omega arith)
-place_trans p q r (inl a) (inr b) = inl (let e = b.0 in omega arith)
-place_trans p q r (inr a) (inl b) = inl (let e = a.0 in omega arith)
-place_trans p q r (inr a) (inr b) = inr (a.0 ∙ b.0, (let m = a.1 in let n = b.1 in omega arith))
-
--- no line feed
-abbrev is_other : ℕ → Bool
-is_other b = not (is_line_feed b)
-
--- the place of an offset comes before that of the next
-next_place : (text : List ℕ) (i : ℕ) → i < length text → IsPlaceBefore (place_at text i) (place_at text (i + 1))
-next_place text i within = by_byte (is_line_feed (get_or text i 0)) refl
-  where
-    last : reverse (take (i + 1) text) ≡ get_or text i 0 ∷ reverse (take i text)
-    last = ap reverse (take_more text i 0 within) ∙ reverse-append (take i text) (get_or text i 0 ∷ [])
-
-    by_byte : (b : Bool) → is_line_feed (get_or text i 0) ≡ b → IsPlaceBefore (place_at text i) (place_at text (i + 1))
-    by_byte true e = inl (let n = count_by_more_yes is_line_feed text i 0 within e in omega arith)
-    by_byte false e = inr (
-      ap (λ n. n + 1) (sym (count_by_more_no is_line_feed text i 0 within e)),
-      (let n : prefix_len is_other (reverse (take (i + 1) text)) ≡ 1 + prefix_len is_other (reverse (take i text)) = ap (prefix_len is_other) last ∙ ap (λ b. if not b then 1 + prefix_len is_other (reverse (take i text)) else 0) e in
-          omega arith),
-    )
-
--- the place of an offset comes before that of a later one
-later_place : (text : List ℕ) (i d : ℕ) → i + suc d ≤ length text → IsPlaceBefore (place_at text i) (place_at text (i + suc d))
-later_place text i zero h = let e : i + 1 ≡ i + suc zero = omega arith in subst (λ n. IsPlaceBefore (place_at text i) (place_at text n)) e (next_place text i (omega arith))
-later_place text i (suc d) h =
-    let e : i + suc d + 1 ≡ i + suc (suc d) = omega arith in
-    subst (λ n. IsPlaceBefore (place_at text i) (place_at text n)) e
-    (place_trans (place_at text i) (place_at text (i + suc d)) (place_at text (i + suc d + 1)) (later_place text i d (omega arith)) (next_place text (i + suc d) (omega arith)))
-
-place-ascends : (text : List ℕ) (i j : ℕ) → i < j → j ≤ length text → IsPlaceBefore (place_at text i) (place_at text j)
-place-ascends text i j lt h =
-    let e : i + suc (j - i - 1) ≡ j = omega arith in
-    subst (λ n. IsPlaceBefore (place_at text i) (place_at text n)) e (later_place text i (j - i - 1) (omega arith))
 
 -- a token begins at an offset of the text that isn't before another, and its place is that of its offset
 abbrev IsTokenFrom : List ℕ → ℕ → Token → Type 0
@@ -102,10 +60,6 @@ offsets_ascend text seen from (p ∷ ps) to f i j s t lt a b =
     offsets_case text p.from (p.from + p.len) (word_of p.kind (take p.len (drop p.from text))) (filter_map (token_of text) ps) i j s t lt (omega arith)
     (λ k g. let r = token_in text (seen || is_some (token_of text p)) (from + p.len) ps to f.2 k t g in let le = r.0 in let e = f.0 in omega arith)
     (λ k l less x y. offsets_ascend text (seen || is_some (token_of text p)) (from + p.len) ps to f.2 k l s t less x y) a b
-
--- the places of tokens come in their order
-abbrev pub TokensAscend : List Token → Type 0
-TokensAscend tokens = (i j : ℕ) (s t : Token) → i < j → slice_get tokens i ≡ Some s → slice_get tokens j ≡ Some t → IsPlaceBefore s.place t.place
 
 -- so it is in each text
 pub tokens-ascend : (text : List ℕ) (tokens : List Token) → Tokens text tokens → TokensAscend tokens

@@ -1,0 +1,5 @@
+use Rattle.sl_grammar.proofs.ProgramLaws as reading
+use Rattle.sl_grammar.proofs.laws.one_program.Goals as goal
+
+pub returns : goal.returns
+returns c = reading.one_program
