@@ -1,16 +1,8 @@
-// The program: `check FILE`, over the files of the system and the standard output.
+// The program: the tool over the files of the system and the standard output.
 #![tactic(auto)]
 
-mod analysis;
-mod checking;
-mod reading;
-mod refusal;
-mod reporting;
-mod status;
-mod tool;
-
 use sl_base::{RealFiles, StdSink};
-use status::Status;
+use sl_tool::{Status, run_tool};
 use std::alloc::AllocError;
 use std::process::ExitCode;
 use std::{env, io};
@@ -25,7 +17,7 @@ fn run(rt: HostRuntime) -> Result<Status, AllocError> {
     let words = words_of_command(&rt)?;
     let mut files = RealFiles::new(rt, rt.alloc(), &words)?;
     let mut out = StdSink::new(rt);
-    Ok(tool::run_tool(rt.alloc(), &words, &mut files, &mut out))
+    Ok(run_tool(rt.alloc(), &words, &mut files, &mut out))
 }
 
 // The words behind the program's name. Where one of them is no text there are none, which is no command.
@@ -36,14 +28,3 @@ fn words_of_command(rt: &HostRuntime) -> Result<Vec<String>, AllocError> {
         Err(_) => Err(AllocError),
     }
 }
-
-#[cfg(test)]
-mod depth_tests;
-#[cfg(test)]
-mod expression_tests;
-#[cfg(test)]
-mod grammar_tests;
-#[cfg(test)]
-mod tests;
-#[cfg(test)]
-mod tree_tests;
