@@ -5,7 +5,7 @@ ghost use Rattle.sl_tool.specs.Refusals.{reason_words};
 use sl_base::Place;
 
 /// Why a text is refused.
-#[derive(Clone, Copy, Debug, PartialEq, Eq)]
+#[derive(Clone, Copy)]
 pub enum Reason {
     /// A byte that begins no token, the 65th of a name, the backslash of a wrong escape or one before a line's end.
     BadByte,
@@ -41,7 +41,7 @@ impl Reason {
 }
 
 /// A reason, and the place at which it is met.
-#[derive(Clone, Copy, Debug, PartialEq, Eq)]
+#[derive(Clone, Copy)]
 pub struct Refusal {
     pub place: Place,
     pub reason: Reason,
