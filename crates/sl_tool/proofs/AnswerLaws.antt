@@ -10,10 +10,10 @@ use Rattle.sl_model.specs.Covers.{Warning}
 use Rattle.sl_model.specs.Texts.{report_text}
 use Rattle.sl_tool.specs.declared.status.Status.{Status}
 use Rattle.sl_tool.specs.Answers.{AnswerTo, refused, not_built, reported, IsReport, status_of}
-use Rattle.sl_tool.specs.Form.{ReadsAs}
+use Rattle.sl_tool.specs.Subset.{ReadsAs}
 use Rattle.sl_tool.specs.Refusals.{IsParsed, by_length, by_token, by_grammar}
 
--- the report on a text of the form is its answer
+-- the report on a text of the subset is its answer
 pub AnswerTo-report : (file text : List ℕ) (tokens : List Token) (program : Program) (p : TypedCode) (result : Result (Status × List ℕ) AllocError) → IsParsed text tokens program → ReadsAs tokens p
     → IfOk result (λ a. (r : List Warning) × IsReport p r × (a.0 ≡ status_of r) × (a.1 ≡ report_text file p.sites r)) → IfOk result (λ a. AnswerTo file text a.0 a.1)
 AnswerTo-report file text tokens program p (Ok a) parsed reads h = rw (h.2, h.3) (reported tokens program parsed p reads h.0 h.1)

@@ -12,8 +12,9 @@ use Rattle.sl_base.specs.declared.word.Word.TheVariants.{Mark}
 use Rattle.sl_syntax.specs.declared.typed.Stmt.{Stmt}
 use Rattle.sl_tool.specs.declared.reading.reader.Reader.{Reader}
 use Rattle.sl_syntax.specs.Begins.{words_in}
-use Rattle.sl_tool.specs.Form.{Item, vector_item, push_back_item, begin_item, dereference_item, item_words, Scope, no_scope, IsAllowed, after_item, after_items, typed_item, typed_items, push_places, UsesDeclared}
-use Rattle.sl_tool.specs.Reading.{BeginsWith, IsSmall, no_reader, scope_of, item_places, Adds, TakesItem, AreItems, IsBody, IsRead}
+use Rattle.sl_tool.specs.Subset.{Item, vector_item, push_back_item, begin_item, dereference_item, item_words, Scope, no_scope, IsAllowed, after_item, after_items, typed_item, typed_items, push_places}
+use Rattle.sl_tool.proofs.Uses.{UsesDeclared}
+use Rattle.sl_tool.specs.Means.Reading.{BeginsWith, IsSmall, no_reader, scope_of, item_places, Adds, TakesItem, AreItems, IsBody, IsRead}
 use Rattle.sl_syntax.specs.Begins.{Stops}
 use Rattle.sl_tool.proofs.ItemLaws.{begins_with}
 use Rattle.sl_tool.proofs.StopHereLaws.{stops_behind}

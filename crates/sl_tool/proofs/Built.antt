@@ -7,11 +7,12 @@ use Rattle.std.proofs.lemmas.Option.{slice_get-map}
 use Rattle.sl_base.specs.declared.place.Place.{Place}
 use Rattle.sl_base.specs.declared.token.Token.{Token}
 use Rattle.sl_syntax.specs.declared.typed.Stmt.TheVariants.{PushBack, Dereference}
-use Rattle.sl_tool.specs.Form.{Item, vector_item, push_back_item, begin_item, dereference_item, item_words, Scope, AllAllowed, after_item, place_in, typed_item, typed_items, push_places, UsesDeclared}
-use Rattle.sl_tool.specs.Reading.{AreItems}
+use Rattle.sl_tool.specs.Subset.{Item, vector_item, push_back_item, begin_item, dereference_item, item_words, Scope, AllAllowed, after_item, place_in, typed_item, typed_items, push_places}
+use Rattle.sl_tool.proofs.Uses.{UsesDeclared}
+use Rattle.sl_tool.specs.Means.Reading.{AreItems}
 use Rattle.sl_base.specs.Places.{IsPlaceBefore}
 use Rattle.sl_base.specs.Tokens.{TokensAscend}
-use Rattle.sl_tool.specs.Exactness.{PlacesAscend}
+use Rattle.sl_tool.proofs.Nodes.{PlacesAscend}
 use Rattle.sl_tool.proofs.BodyLaws.{behind, uses_declared}
 use Rattle.sl_tool.proofs.Lists.{there, get_or-there}
 use Rattle.sl_model.proofs.Getting.{get_drop}

@@ -1,4 +1,4 @@
--- What the library gives at the calls of a text of the form.
+-- What the library gives at the calls of a text of the subset.
 use Rattle.std.proofs.Common.{◌≡◌, ℕ, ◌+◌, Bool, true, false, List, [], ◌∷◌, length, Option, Some, None, refl, ap, ◌∙◌, drop, if◌then◌else◌, ◌++◌}
 use Rattle.std.specs.Prelude.{slice_get, nat_lt, ◌==◌, ℤ, pos}
 use Rattle.sl_base.specs.declared.form.Form.{Form}

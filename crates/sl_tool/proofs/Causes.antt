@@ -9,8 +9,9 @@ use Rattle.sl_tool.specs.declared.analysis.Push.{Push}
 use Rattle.sl_tool.specs.declared.analysis.Warning.{Warning}
 use Rattle.sl_tool.specs.declared.analysis.Fault.{Fault}
 use Rattle.sl_tool.specs.declared.analysis.Fault.TheVariants.{InvalidIterator, EndIterator}
-use Rattle.sl_tool.specs.Analysis.{Known, nothing_known, sites_on, killers_of, standing_at, fault_in, told_at, goes_on, warned, known_after, warnings_of}
-use Rattle.sl_tool.specs.Exactness.{IsPushBefore, IsOfNode}
+use Rattle.sl_tool.specs.Means.Analysis.{Known, nothing_known, sites_on, killers_of, standing_at, fault_in, told_at, goes_on, warned, known_after, warnings_of}
+use Rattle.sl_tool.specs.Exactness.{IsPushBefore}
+use Rattle.sl_tool.proofs.Nodes.{IsOfNode}
 use Rattle.sl_tool.proofs.Lists.{pushed}
 use Rattle.sl_model.proofs.Getting.{get_drop}
 

@@ -7,7 +7,7 @@ use Rattle.sl_model.specs.Edits.{numbers}
 use Rattle.sl_model.specs.Good.{IsAt, IsSound}
 use Rattle.sl_model.specs.State.{Frame}
 use Rattle.sl_tool.specs.declared.analysis.Standing.{Standing}
-use Rattle.sl_tool.specs.Analysis.{Known, is_filled, killers_of}
+use Rattle.sl_tool.specs.Means.Analysis.{Known, is_filled, killers_of}
 
 -- An iterator stands at the begin of its vector, which has elements or hasn't as it was when the iterator was made; where it hadn't, no call
 -- came since.

@@ -1,4 +1,4 @@
--- What each statement of a text of the form does in the plainest run: where it isn't warned of, the run goes on; where it is, the run
+-- What each statement of a text of the subset does in the plainest run: where it isn't warned of, the run goes on; where it is, the run
 -- ends in a trap that the first warning tells of.
 use Rattle.std.proofs.Common.{arith, ◌≡◌, ℕ, zero, suc, ◌+◌, ◌<◌, ◌≤◌, Bool, true, false, List, [], ◌∷◌, ◌++◌, length, get_or, drop, Option, Some, None, refl, ap, sym, subst, ◌∙◌, if◌then◌else◌}
 use Rattle.std.specs.Prelude.{slice_get, nat_lt, Contains, ℤ, pos}
@@ -13,7 +13,6 @@ use Rattle.sl_syntax.specs.View.{stmt_of, free_call, member_call, vector_row, be
 use Rattle.sl_model.specs.Containers.{Cont, size, cont_at, killer}
 use Rattle.sl_model.specs.Schedule.{pick}
 use Rattle.sl_model.specs.Values.{Value, number, iterator, nothing, LibOut, thrown, trapped, gives}
-use Rattle.sl_model.specs.Good.{IsAt}
 use Rattle.sl_model.specs.Ends.{Trapped, OutOfSteps, End}
 use Rattle.sl_model.specs.State.{State, cont_of, iter_of, stamp_of, new_iterator}
 use Rattle.sl_model.specs.Eval.{Oracle, settle_call}
@@ -24,8 +23,8 @@ use Rattle.sl_model.specs.Covers.{Tells}
 use Rattle.sl_tool.specs.declared.analysis.Warning.{Warning}
 use Rattle.sl_tool.specs.declared.analysis.Fault.TheVariants.{InvalidIterator}
 use Rattle.sl_tool.specs.declared.analysis.Standing.{Standing}
-use Rattle.sl_tool.specs.Analysis.{Known, killers_of, standing_at, is_filled, with_vector, with_push, with_iterator, found_valid, dereferenced, fault_in, told_at}
-use Rattle.sl_tool.specs.Told.{warning_of}
+use Rattle.sl_tool.specs.Means.Analysis.{Known, killers_of, standing_at, is_filled, with_vector, with_push, with_iterator, found_valid, dereferenced, fault_in, told_at}
+use Rattle.sl_tool.specs.Means.Told.{warning_of}
 use Rattle.sl_tool.proofs.Describes.{Describes, Stays}
 use Rattle.sl_tool.proofs.Lists.{there, get_or-there}
 use Rattle.sl_tool.proofs.Calls.{lib-begin, lib-push_back, pushed_back, lib-star_valid, lib-star_invalid, at_element, cont_at-there}

@@ -1,4 +1,4 @@
--- The report on a text of the form is exact: the plainest run meets its first warning.
+-- The report on a text of the subset is exact: the plainest run meets its first warning.
 use Rattle.std.proofs.Common.{arith, ◌≡◌, ℕ, suc, ◌+◌, ◌≤◌, Bool, true, false, if◌then◌else◌, List, [], ◌∷◌, ◌++◌, length, refl, sym, length-append, add-one}
 use Rattle.std.specs.Prelude.{unwrap_or, All, ◌^◌, ◌<◌}
 use Rattle.std.proofs.Math.ListN.{length-set}
@@ -19,9 +19,9 @@ use Rattle.sl_model.specs.Run.{empty_state, finished, run}
 use Rattle.sl_model.specs.Library.{lib}
 use Rattle.sl_model.specs.Covers.{Tells, Safe, Warning as WarningValue}
 use Rattle.sl_tool.specs.declared.analysis.Warning.{Warning}
-use Rattle.sl_tool.specs.Analysis.{Known, nothing_known, standing_at, is_filled, warned, warnings_of, with_vector, with_push, with_iterator, found_valid}
-use Rattle.sl_tool.specs.Form.{UsesDeclared}
-use Rattle.sl_tool.specs.Told.{report_of, warning_of}
+use Rattle.sl_tool.specs.Means.Analysis.{Known, nothing_known, standing_at, is_filled, warned, warnings_of, with_vector, with_push, with_iterator, found_valid}
+use Rattle.sl_tool.proofs.Uses.{UsesDeclared}
+use Rattle.sl_tool.specs.Means.Told.{report_of, warning_of}
 use Rattle.sl_tool.specs.Exactness.{IsMet, IsExact}
 use Rattle.sl_tool.proofs.Soundness.{same_uses, begins, safe as safe_if_empty}
 use Rattle.sl_tool.proofs.Kept.{valid}
@@ -103,7 +103,7 @@ begins_plain n few = record {
   steps = few;
 }
 
--- the plainest run of a text of the form meets the first warning
+-- the plainest run of a text of the subset meets the first warning
 pub meets-first : (p : Typed) → UsesDeclared 0 0 p.stmts → length p.stmts ≤ STATEMENTS → (w : Warning) (ws : List Warning) → warnings_of nothing_known p.stmts ≡ w ∷ ws → IsMet (typed_of p) (warning_of p.names w)
 meets-first p u few w ws e =
     let s : State = empty_state [] [] STATEMENTS in

@@ -15,16 +15,19 @@ use Rattle.sl_model.specs.Covers.{Warning as WarningValue}
 use Rattle.sl_tool.specs.declared.analysis.Warning.{Warning}
 use Rattle.sl_tool.specs.declared.analysis.Fault.{Fault}
 use Rattle.sl_tool.specs.declared.analysis.Fault.TheVariants.{InvalidIterator, EndIterator}
-use Rattle.sl_tool.specs.Analysis.{nothing_known, warnings_of}
-use Rattle.sl_tool.specs.Told.{kind_of, killers_in, warning_of, report_of}
-use Rattle.sl_tool.specs.Form.{head_words, no_scope, typed_items, push_places, ReadsAs, IsBuilt, UsesDeclared}
-use Rattle.sl_tool.specs.Reading.{AreItems}
-use Rattle.sl_tool.specs.Exactness.{IsExact, IsPushBefore, HasCause, IsOfNode, AreInOrder, AreOnce, PlacesAscend, IsFounded, Ascend}
+use Rattle.sl_tool.specs.Means.Analysis.{nothing_known, warnings_of}
+use Rattle.sl_tool.specs.Means.Told.{kind_of, killers_in, warning_of, report_of}
+use Rattle.sl_tool.specs.Subset.{head_words, no_scope, typed_items, push_places, ReadsAs, IsBuilt}
+use Rattle.sl_tool.proofs.Uses.{UsesDeclared}
+use Rattle.sl_tool.specs.Means.Reading.{AreItems}
+use Rattle.sl_tool.specs.Exactness.{IsExact, IsPushBefore, IsFounded, Ascend}
+use Rattle.sl_tool.proofs.Nodes.{HasCause, IsOfNode, PlacesAscend}
+use Rattle.sl_warnings.specs.Reports.{IsAscending}
 use Rattle.sl_tool.proofs.Goes.{get-left}
 use Rattle.sl_tool.proofs.Exactness.{is_exact}
 use Rattle.sl_tool.proofs.Causes.{has-node}
 use Rattle.sl_tool.proofs.KillersAscend.{killers-ascend}
-use Rattle.sl_tool.proofs.InOrder.{told_one, in-order, once}
+use Rattle.sl_tool.proofs.InOrder.{told_one, in-order}
 use Rattle.sl_base.specs.Tokens.{TokensAscend}
 use Rattle.sl_lexer.proofs.TokenOrder.{tokens-ascend}
 use Rattle.sl_tool.proofs.Built.{places-ascend, count_items, uses_items, site_in}
@@ -73,12 +76,8 @@ pub exact-built : (text : List ℕ) (p : Typed) → IsBuilt text p → IsExact (
 exact-built text p (tokens, cut, r) = is_exact p (uses-declared tokens p r) (few-statements tokens p r)
 
 -- It is in order.
-pub order-built : (text : List ℕ) (p : Typed) → IsBuilt text p → AreInOrder (report_of p.names (warnings_of nothing_known p.stmts))
+pub order-built : (text : List ℕ) (p : Typed) → IsBuilt text p → IsAscending (report_of p.names (warnings_of nothing_known p.stmts))
 order-built text p (tokens, cut, r) = in-order p.stmts p.names (stars-ascend text tokens p cut r)
-
--- It has no place and kind twice.
-pub once-built : (text : List ℕ) (p : Typed) → IsBuilt text p → AreOnce (report_of p.names (warnings_of nothing_known p.stmts))
-once-built text p built = once (report_of p.names (warnings_of nothing_known p.stmts)) (order-built text p built)
 
 -- a fault is of one of two kinds
 two_kinds : (fault : Fault) → (kind_of fault ≡ 1) ⊎ (kind_of fault ≡ 4)

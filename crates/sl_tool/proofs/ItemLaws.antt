@@ -9,8 +9,8 @@ use Rattle.sl_base.specs.declared.word.Word.{Word}
 use Rattle.sl_base.specs.declared.word.Word.TheVariants.{Mark}
 use Rattle.sl_tool.specs.declared.reading.reader.Reader.{Reader}
 use Rattle.sl_syntax.specs.Begins.{words_in}
-use Rattle.sl_tool.specs.Form.{Item, vector_item, push_back_item, begin_item, dereference_item, item_words, IsAllowed}
-use Rattle.sl_tool.specs.Reading.{BeginsWith, IsTaken, TakesItem, scope_of}
+use Rattle.sl_tool.specs.Subset.{Item, vector_item, push_back_item, begin_item, dereference_item, item_words, IsAllowed}
+use Rattle.sl_tool.specs.Means.Reading.{BeginsWith, IsTaken, TakesItem, scope_of}
 
 -- the words from the token k on
 pub front : (ts : List Token) (k : ℕ) (t : Token) → k < length ts → t ≡ get_or ts k t → drop k (words_in ts) ≡ t.word ∷ drop (k + 1) (words_in ts)

@@ -16,7 +16,7 @@ use Rattle.sl_model.specs.Good.{IsAt, IsSound}
 use Rattle.sl_model.specs.State.{Frame}
 use Rattle.sl_model.specs.Rows.{insertion}
 use Rattle.sl_tool.specs.declared.analysis.Standing.{Standing}
-use Rattle.sl_tool.specs.Analysis.{Known, is_filled, killers_of, with_vector, with_push, with_iterator, found_valid}
+use Rattle.sl_tool.specs.Means.Analysis.{Known, is_filled, killers_of, with_vector, with_push, with_iterator, found_valid}
 use Rattle.sl_tool.proofs.Describes.{Describes, IsHere, Stays}
 use Rattle.sl_tool.proofs.Killers.{killers_of-more, killers_of-last}
 use Rattle.sl_tool.proofs.NoKillers.{killers_of-new, killers_of-other}

@@ -4,7 +4,7 @@ use Rattle.std.specs.Prelude.{◌==◌, Contains}
 use Rattle.std.proofs.lemmas.Bool.{eq-eqb}
 use Rattle.sl_tool.specs.declared.analysis.Standing.{Standing}
 use Rattle.sl_tool.specs.declared.analysis.Push.{Push}
-use Rattle.sl_tool.specs.Analysis.{Known, sites_on, killers_of, with_push}
+use Rattle.sl_tool.specs.Means.Analysis.{Known, sites_on, killers_of, with_push}
 
 pub Contains-cons : (x y : ℕ) (xs : List ℕ) → Contains xs y → Contains (x ∷ xs) y
 Contains-cons x y xs h = (suc h.0, let lt = h.1 in omega arith, h.2)

@@ -1,5 +1,5 @@
 -- The killers of a warning ascend, since the sites of a text are numbered in its order.
-use Rattle.std.proofs.Common.{arith, ◌≡◌, ℕ, zero, suc, ◌+◌, ◌<◌, Bool, true, false, List, [], ◌∷◌, ◌++◌, length, drop, Some, inl, inr, refl, ap, sym, ◌∙◌, if◌then◌else◌}
+use Rattle.std.proofs.Common.{arith, ◌≡◌, ℕ, zero, suc, ◌+◌, ◌<◌, Bool, true, false, List, [], ◌∷◌, length, drop, Some, inl, inr, refl, ap, sym, ◌∙◌, if◌then◌else◌}
 use Rattle.std.specs.Prelude.{slice_get, ◌==◌}
 use Rattle.sl_base.specs.declared.place.Place.{Place}
 use Rattle.sl_base.specs.declared.token.Token.{Token}
@@ -7,9 +7,9 @@ use Rattle.sl_tool.specs.declared.analysis.Push.{Push}
 use Rattle.sl_tool.specs.declared.analysis.Standing.{Standing}
 use Rattle.sl_tool.specs.declared.analysis.Fault.TheVariants.{InvalidIterator, EndIterator}
 use Rattle.sl_tool.specs.declared.analysis.Warning.{Warning}
-use Rattle.sl_tool.specs.Analysis.{Known, nothing_known, sites_on, killers_of, standing_at, fault_in, told_at, dereferenced, with_vector, with_push, with_iterator, found_valid, warnings_of}
-use Rattle.sl_tool.specs.Told.{killers_in}
-use Rattle.sl_tool.specs.Form.{Item, vector_item, push_back_item, begin_item, dereference_item, item_words, Scope, no_scope, after_item, place_in, number_of_name, typed_items}
+use Rattle.sl_tool.specs.Means.Analysis.{Known, nothing_known, sites_on, killers_of, standing_at, fault_in, told_at, dereferenced, with_vector, with_push, with_iterator, found_valid, warnings_of}
+use Rattle.sl_tool.specs.Means.Told.{killers_in}
+use Rattle.sl_tool.specs.Subset.{Item, vector_item, push_back_item, begin_item, dereference_item, item_words, Scope, no_scope, after_item, place_in, number_of_name, typed_items}
 use Rattle.sl_tool.specs.Exactness.{Ascend}
 use Rattle.sl_tool.proofs.Causes.{joined, if_more}
 use Rattle.sl_tool.proofs.Kept.{length-more}

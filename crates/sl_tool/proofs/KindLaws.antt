@@ -5,9 +5,9 @@ use Rattle.sl_base.specs.declared.word.Word.{Word}
 use Rattle.sl_base.specs.declared.word.Word.TheVariants.{Name, Number, Mark}
 use Rattle.sl_tool.specs.declared.reading.slots.Kind.{Kind}
 use Rattle.sl_tool.specs.declared.reading.slots.Kind.TheVariants.{Vector, PushBack, Begin, Dereference}
-use Rattle.sl_tool.specs.Form.{Item, vector_item, push_back_item, begin_item, dereference_item, item_words, Scope, IsAllowed}
-use Rattle.sl_tool.specs.Reading.{BeginsWith}
-use Rattle.sl_tool.specs.Slots.{slots_of, BeginsKind, IsPossible}
+use Rattle.sl_tool.specs.Subset.{Item, vector_item, push_back_item, begin_item, dereference_item, item_words, Scope, IsAllowed}
+use Rattle.sl_tool.specs.Means.Reading.{BeginsWith}
+use Rattle.sl_tool.specs.Means.Slots.{slots_of, BeginsKind, IsPossible}
 use Rattle.sl_tool.proofs.FreshLaws.{fresh, some_name}
 use Rattle.sl_tool.proofs.SlotLaws.{FitAll, HaveWords, fit_all_length}
 

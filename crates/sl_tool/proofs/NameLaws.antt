@@ -5,7 +5,7 @@ use Rattle.std.proofs.lemmas.Bool.Decides.{nat_tests}
 use Rattle.std.proofs.lemmas.List.Sums.{fails_before_first, passes_at_first, prefix_len-le-length}
 use Rattle.std.proofs.lemmas.Slice.Eq.{bytes_eq-Decides}
 use Rattle.std.specs.Str.{bytes_eq}
-use Rattle.sl_tool.specs.Form.{number_of_name}
+use Rattle.sl_tool.specs.Subset.{number_of_name}
 
 -- a name with a number is there
 pub known : (names : List (List ℕ)) (name : List ℕ) → number_of_name names name < length names → Contains names name

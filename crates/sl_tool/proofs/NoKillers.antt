@@ -5,7 +5,7 @@ use Rattle.std.proofs.lemmas.Bool.{eqb-true}
 use Rattle.std.proofs.lemmas.List.{drop_all}
 use Rattle.sl_tool.specs.declared.analysis.Standing.{Standing}
 use Rattle.sl_tool.specs.declared.analysis.Push.{Push}
-use Rattle.sl_tool.specs.Analysis.{Known, sites_on, killers_of, with_push}
+use Rattle.sl_tool.specs.Means.Analysis.{Known, sites_on, killers_of, with_push}
 use Rattle.sl_tool.proofs.Killers.{drop-more}
 
 -- nothing is among none

@@ -23,10 +23,10 @@ use Rattle.sl_tool.specs.declared.parsed.Parsed.{Parsed}
 use Rattle.sl_tool.specs.declared.status.Status.{Status}
 use Rattle.sl_tool.specs.declared.status.Status.TheVariants.{Refused}
 use Rattle.sl_tool.specs.Answers.{AnswerTo, refused, not_built, reported, IsReport, status_of}
-use Rattle.sl_tool.specs.Begins.{IsText, StopsAt}
-use Rattle.sl_tool.specs.Form.{Item, item_words, head_words, typed_text, ReadsAs, IsBuilt}
-use Rattle.sl_tool.specs.Refusals.{IsParsed, IsRefusal, by_length, by_token, by_grammar, rule_words, stop_place}
-use Rattle.sl_tool.proofs.FormProgram.{text_is_program}
+use Rattle.sl_tool.specs.Subset.{IsInSubset}
+use Rattle.sl_tool.specs.Subset.{Item, item_words, head_words, typed_text, ReadsAs, IsBuilt}
+use Rattle.sl_tool.specs.Refusals.{IsParsed, IsRefusal, by_length, by_token, by_grammar, stop_place}
+use Rattle.sl_tool.proofs.SubsetProgram.{text_is_program}
 use Rattle.sl_tool.proofs.ItemLaws.{begins_with, same_item, no_item_at_end}
 
 -- the words of a body are those of no other statements
@@ -48,12 +48,12 @@ one_reading tokens p q a b =
     let body : flat_map item_words a.items ++ Mark RightBrace ∷ [] ≡ flat_map item_words b.items ++ Mark RightBrace ∷ [] = ap (λ l. drop (length head_words) l) (sym a.words ∙ b.words) in
     a.typed ∙ ap (typed_text tokens) (one_body a.items b.items body) ∙ sym b.typed
 
-is_text : (tokens : List Token) (p : Typed) → ReadsAs tokens p → IsText (words_in tokens)
+is_text : (tokens : List Token) (p : Typed) → ReadsAs tokens p → IsInSubset (words_in tokens)
 is_text tokens p reads = record { items = reads.items; are_items = reads.words; allowed = reads.allowed; few = reads.few }
 
 -- tokens that are read don't stop
-reads_or_stops : (tokens others : List Token) (p : Typed) (k : ℕ) → tokens ≡ others → ReadsAs tokens p → StopsAt others k → ⊥
-reads_or_stops tokens others p k e reads stops = not_whole IsText (words_in others) k stops (subst (λ ts. IsText (words_in ts)) e (is_text tokens p reads))
+reads_or_stops : (tokens others : List Token) (p : Typed) (k : ℕ) → tokens ≡ others → ReadsAs tokens p → Stops IsInSubset (words_in others) k → ⊥
+reads_or_stops tokens others p k e reads stops = not_whole IsInSubset (words_in others) k stops (subst (λ ts. IsInSubset (words_in ts)) e (is_text tokens p reads))
 
 one_stop : (P : List Word → Type 0) (text : List ℕ) (tokens others : List Token) (j k : ℕ) → tokens ≡ others → Stops P (words_in tokens) j → Stops P (words_in others) k
     → stop_place text tokens j ≡ stop_place text others k
@@ -122,7 +122,7 @@ one_answer file text _ _ _ _ e (refused x a) (not_built ts p parsed k stops) = a
 one_answer file text _ _ _ _ e (refused x a) (reported ts p parsed t reads r is) = absurd (parsed_or_refused file text x ts p parsed a)
 one_answer file text _ _ _ _ e (not_built ts p parsed k stops) (refused y b) = absurd (parsed_or_refused file text y ts p parsed b)
 one_answer file text _ _ _ _ e (not_built ts p parsed k stops) (not_built us q also j others) =
-    (refl, ap (λ (at : Place). refusal_line file at (codes "not built")) (one_stop IsText text us ts j k (one_tokens text us ts also.cut parsed.cut) others stops))
+    (refl, ap (λ (at : Place). refusal_line file at (codes "not built")) (one_stop IsInSubset text us ts j k (one_tokens text us ts also.cut parsed.cut) others stops))
 one_answer file text _ _ _ _ e (not_built ts p parsed k stops) (reported us q also t reads r is) =
     absurd (reads_or_stops us ts t k (one_tokens text us ts also.cut parsed.cut) reads stops)
 one_answer file text _ _ _ _ e (reported ts p parsed t reads r is) other = absurd (status_or_refused r e)
@@ -131,14 +131,14 @@ one_answer file text _ _ _ _ e (reported ts p parsed t reads r is) other = absur
 pub one_refusal : (file text line bytes : List ℕ) (status : Status) → AnswerTo file text Refused line → AnswerTo file text status bytes → (status ≡ Refused) × (bytes ≡ line)
 one_refusal file text line bytes status a b = one_answer file text line bytes Refused status refl a b
 
--- a text of the form isn't refused by its line
+-- a text of the subset isn't refused by its line
 built_or_refused : (file text line : List ℕ) (p : Typed) → length text ≤ TEXT_BYTES → IsBuilt text p → IsRefusal file text line → ⊥
 built_or_refused file text _ p short built (by_length long) = omega arith
 built_or_refused file text _ p short (ts, t, reads) (by_token also rule at fault) = not_both text ts rule at t fault
 built_or_refused file text _ p short (ts, t, reads) (by_grammar also us u k stops) =
     program_or_stops us ts k (one_tokens text us ts u t) stops (text_is_program (words_in ts) (is_text ts p reads))
 
--- the answer to a text of the form is a report on it
+-- the answer to a text of the subset is a report on it
 pub is_reported : (file text bytes : List ℕ) (status : Status) (p : Typed) → length text ≤ TEXT_BYTES → IsBuilt text p → AnswerTo file text status bytes
     → (r : List Warning) × IsReport p r × (status ≡ status_of r) × (bytes ≡ report_text file p.sites r)
 is_reported file text _ _ p short built (refused x a) = absurd (built_or_refused file text x p short built a)

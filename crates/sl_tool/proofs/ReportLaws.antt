@@ -1,30 +1,22 @@
 -- Warnings that come in their order, one behind the other.
-use Rattle.std.proofs.Common.{◌≡◌, ◌≢◌, ℕ, suc, ◌<◌, ◌+◌, arith, Bool, true, false, List, [], ◌∷◌, ◌++◌, length, drop, Some, refl, ap, sym, ◌∙◌, inl, inr, append_assoc, get_or, add-one}
+use Rattle.std.proofs.Common.{◌≡◌, ◌≢◌, ℕ, suc, ◌<◌, ◌+◌, arith, Bool, true, false, List, [], ◌∷◌, ◌++◌, length, drop, Some, refl, ap, sym, ◌∙◌, append_assoc, get_or, add-one}
 use Rattle.std.specs.Prelude.{slice_get, Contains}
-use Rattle.std.specs.Cmp.{nat_cmp_is}
-use Rattle.std.specs.declared.cmp.Ordering.TheVariants.{Less, Equal}
+use Rattle.std.specs.declared.cmp.Ordering.TheVariants.{Less}
 use Rattle.std.proofs.Math.Seq.{drop-cons}
 use Rattle.sl_model.specs.Covers.{Warning}
 use Rattle.sl_tool.specs.declared.analysis.Warning.{Warning as WarningCode}
-use Rattle.sl_tool.specs.Told.{killers_in, warning_of, report_of}
+use Rattle.sl_tool.specs.Means.Told.{killers_in, warning_of, report_of}
 use Rattle.sl_kind.specs.declared.kills.Kills.{Kills}
 use Rattle.sl_kind.specs.Kills.{has}
-use Rattle.sl_warnings.specs.Reports.{warning_cmp, added}
+use Rattle.sl_warnings.specs.Reports.{warning_cmp, IsAscending, added}
 use Rattle.sl_warnings.specs.Views.{sites_in}
 use Rattle.sl_warnings.proofs.Sites.{sites_in-last, sites_in-has}
 use Rattle.sl_model.proofs.Getting.{get_within}
+use Rattle.sl_tool.proofs.Ascending.{less_in}
 use Rattle.sl_tool.proofs.Goes.{get-left}
 use Rattle.sl_tool.proofs.Lists.{there, get_or-there}
-use Rattle.sl_tool.specs.Exactness.{IsBefore, AreInOrder, KillersAscend, Ascend}
-
--- what comes before is less
-before_less : (v w : Warning) → IsBefore v w → warning_cmp v w ≡ Less
-before_less v w (inl (inl line)) = rw (sym (nat_cmp_is v.place.line w.place.line Less line), warning_cmp) refl
-before_less v w (inl (inr (line, col))) = rw (sym (nat_cmp_is v.place.line w.place.line Equal line), sym (nat_cmp_is v.place.col w.place.col Less col), warning_cmp) refl
-before_less v w (inr (place, kind)) =
-    let line : v.place.line ≡ w.place.line = ap (λ p. p.line) place in
-    let col : v.place.col ≡ w.place.col = ap (λ p. p.col) place in
-    rw (sym (nat_cmp_is v.place.line w.place.line Equal line), sym (nat_cmp_is v.place.col w.place.col Equal col), sym (nat_cmp_is v.kind w.kind Less kind), warning_cmp) refl
+use Rattle.sl_tool.specs.Exactness.{Ascend}
+use Rattle.sl_tool.specs.Means.Told.{KillersAscend}
 
 -- a warning behind all others goes to the end
 added-last : (w : Warning) (r : List Warning) → ((i : ℕ) (v : Warning) → slice_get r i ≡ Some v → warning_cmp v w ≡ Less) → added w r ≡ r ++ w ∷ []
@@ -44,9 +36,9 @@ before_seam : {A : Type 0} (whole r rest : List A) (i : ℕ) (v : A) → r ++ re
 before_seam whole r rest i v e h = rw (← e) (get-left r rest v i h)
 
 -- the next of the warnings of a report in order
-added-next : (whole r rest : List Warning) (w : Warning) → AreInOrder whole → r ++ w ∷ rest ≡ whole → added w r ≡ r ++ w ∷ []
+added-next : (whole r rest : List Warning) (w : Warning) → IsAscending whole → r ++ w ∷ rest ≡ whole → added w r ≡ r ++ w ∷ []
 added-next whole r rest w ordered e = added-last w r (λ i v h.
-    before_less v w (ordered i (length r) v w (get_within r i v h) (before_seam whole r (w ∷ rest) i v e h) (at_seam whole r rest w e)))
+    less_in whole ordered i (length r) v w (get_within r i v h) (before_seam whole r (w ∷ rest) i v e h) (at_seam whole r rest w e))
 
 -- and its killers
 killers-next : (whole r rest : List Warning) (w : Warning) → KillersAscend whole → r ++ w ∷ rest ≡ whole → Ascend w.killers
@@ -84,7 +76,7 @@ whole_report : (names : List (List ℕ)) (ws : List WarningCode) (i : ℕ) (w : 
 whole_report names ws i w r lt e so_far = ap (λ l. r ++ report_of names l) (sym (next ws i w lt e)) ∙ so_far
 
 -- a turn of the loop over warnings
-pub report-step : (names : List (List ℕ)) (ws : List WarningCode) (i : ℕ) (w : WarningCode) (r : List Warning) → AreInOrder (report_of names ws) → i < length ws → w ≡ get_or ws i w → r ++ report_of names (drop i ws) ≡ report_of names ws → added (warning_of names w) r ++ report_of names (drop (i + 1) ws) ≡ report_of names ws
+pub report-step : (names : List (List ℕ)) (ws : List WarningCode) (i : ℕ) (w : WarningCode) (r : List Warning) → IsAscending (report_of names ws) → i < length ws → w ≡ get_or ws i w → r ++ report_of names (drop i ws) ≡ report_of names ws → added (warning_of names w) r ++ report_of names (drop (i + 1) ws) ≡ report_of names ws
 report-step names ws i w r ordered lt e so_far =
     let whole = whole_report names ws i w r lt e so_far in
     let rest = report_of names (drop (i + 1) ws) in

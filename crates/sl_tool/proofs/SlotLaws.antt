@@ -10,8 +10,8 @@ use Rattle.sl_base.specs.declared.word.Word.{Word}
 use Rattle.sl_tool.specs.declared.reading.slots.Slot.{Slot}
 use Rattle.sl_syntax.specs.Begins.{Begins, Stops}
 use Rattle.sl_syntax.specs.Begins.{words_in}
-use Rattle.sl_tool.specs.Form.{Scope}
-use Rattle.sl_tool.specs.Slots.{Fits, Fit}
+use Rattle.sl_tool.specs.Subset.{Scope}
+use Rattle.sl_tool.specs.Means.Slots.{Fits, Fit}
 use Rattle.sl_tool.proofs.ItemLaws.{front}
 
 -- the words begin with words that fit all the slots

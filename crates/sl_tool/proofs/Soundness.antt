@@ -1,4 +1,4 @@
--- Every failure of every run of a text of the form is told.
+-- Every failure of every run of a text of the subset is told.
 use Rattle.std.proofs.Common.{◌≡◌, ℕ, true, false, List, [], ◌∷◌, length, refl, sym, length-append}
 use Rattle.std.specs.Prelude.{unwrap_or, ℤ}
 use Rattle.std.proofs.Math.ListN.{length-set}
@@ -19,9 +19,9 @@ use Rattle.sl_model.specs.Run.{done_with, empty_state, finished, run}
 use Rattle.sl_model.specs.Library.{lib}
 use Rattle.sl_model.specs.Covers.{Covers, Reports, Safe, HasMeaning, Warning as WarningValue}
 use Rattle.sl_tool.specs.declared.analysis.Warning.{Warning}
-use Rattle.sl_tool.specs.Analysis.{Known, nothing_known, standing_at, is_filled, warned, warnings_of, with_vector, with_push, with_iterator, found_valid}
-use Rattle.sl_tool.specs.Form.{UsesDeclared}
-use Rattle.sl_tool.specs.Told.{report_of}
+use Rattle.sl_tool.specs.Means.Analysis.{Known, nothing_known, standing_at, is_filled, warned, warnings_of, with_vector, with_push, with_iterator, found_valid}
+use Rattle.sl_tool.proofs.Uses.{UsesDeclared}
+use Rattle.sl_tool.specs.Means.Told.{report_of}
 use Rattle.sl_tool.proofs.Describes.{Describes}
 use Rattle.sl_tool.proofs.Goes.{EndsTold, IsTold, goes-on}
 use Rattle.sl_tool.proofs.Kept.{valid}

@@ -1,4 +1,4 @@
--- What each statement of a text of the form does to a state that is described.
+-- What each statement of a text of the subset does to a state that is described.
 use Rattle.std.proofs.Common.{arith, ◌≡◌, ℕ, ◌+◌, ◌<◌, Bool, true, false, List, [], ◌∷◌, ◌++◌, length, get_or, drop, Option, Some, None, ⊎_elim, refl, ap, sym, subst, ◌∙◌, if◌then◌else◌}
 use Rattle.std.specs.Prelude.{slice_get, nat_lt, ◌==◌, Contains, ℤ, pos, codes}
 use Rattle.std.proofs.lemmas.Bool.{ltb-false, le-ltb, lt-ltb, eqb-true, eqb-false}
@@ -22,8 +22,8 @@ use Rattle.sl_model.specs.Rows.{grown_picks}
 use Rattle.sl_model.specs.Library.{lib}
 use Rattle.sl_model.specs.Covers.{Covers}
 use Rattle.sl_tool.specs.declared.analysis.Standing.{Standing}
-use Rattle.sl_tool.specs.Analysis.{Known, killers_of, standing_at, is_filled, with_vector, with_push, with_iterator, found_valid, dereferenced, fault_in, told_at}
-use Rattle.sl_tool.specs.Told.{report_of}
+use Rattle.sl_tool.specs.Means.Analysis.{Known, killers_of, standing_at, is_filled, with_vector, with_push, with_iterator, found_valid, dereferenced, fault_in, told_at}
+use Rattle.sl_tool.specs.Means.Told.{report_of}
 use Rattle.sl_tool.proofs.Describes.{Describes, Stays}
 use Rattle.sl_tool.proofs.Goes.{Goes, ticked}
 use Rattle.sl_tool.proofs.Lists.{there, get_or-there, number-at}

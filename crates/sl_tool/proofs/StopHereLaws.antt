@@ -11,9 +11,9 @@ use Rattle.sl_base.specs.declared.word.Word.TheVariants.{Mark}
 use Rattle.sl_tool.specs.declared.reading.slots.Kind.{Kind}
 use Rattle.sl_syntax.specs.Begins.{Begins, Stops}
 use Rattle.sl_syntax.specs.Begins.{words_in}
-use Rattle.sl_tool.specs.Form.{Item, vector_item, push_back_item, begin_item, dereference_item, item_words, Scope, IsAllowed, AllAllowed, after_item}
-use Rattle.sl_tool.specs.Reading.{BeginsWith, IsBody, StopsIn}
-use Rattle.sl_tool.specs.Slots.{Fit, slots_of, BeginsKind, IsPossible}
+use Rattle.sl_tool.specs.Subset.{Item, vector_item, push_back_item, begin_item, dereference_item, item_words, Scope, IsAllowed, AllAllowed, after_item}
+use Rattle.sl_tool.specs.Means.Reading.{BeginsWith, IsBody, StopsIn}
+use Rattle.sl_tool.specs.Means.Slots.{Fit, slots_of, BeginsKind, IsPossible}
 use Rattle.sl_tool.proofs.ItemLaws.{begins_with, same_item, no_item_at_end}
 use Rattle.sl_tool.proofs.KindLaws.{kind_of, possible_of, fits_kind, item_of_fit, have_words, first_word, one_kind, not_brace}
 use Rattle.sl_tool.proofs.SlotLaws.{FitAll, fit_whole, stops_in_slots}

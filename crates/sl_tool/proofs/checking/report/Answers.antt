@@ -1,6 +1,6 @@
 use Rattle.std.proofs.Common.{sym}
-use Rattle.sl_tool.specs.Analysis.{nothing_known, warnings_of}
-use Rattle.sl_tool.specs.Told.{report_of}
+use Rattle.sl_tool.specs.Means.Analysis.{nothing_known, warnings_of}
+use Rattle.sl_tool.specs.Means.Told.{report_of}
 use Rattle.sl_tool.proofs.Reported.{is_report, ordered, ascending}
 use Rattle.sl_tool.proofs.checking.report.Goals as goal
 

@@ -1,4 +1,3 @@
-use Rattle.std.proofs.Common.{arith}
 use Rattle.sl_tool.specs.Refusals.{by_token}
 use Rattle.sl_tool.proofs.RefusalLaws.{is_refusal}
 use Rattle.sl_tool.proofs.parsed.token_refusal.Goals as goal

@@ -1,7 +1,7 @@
 use Rattle.std.proofs.Common.{arith, subst, sym}
 use Rattle.sl_syntax.specs.Begins.{Stops}
 use Rattle.sl_syntax.specs.Begins.{words_in}
-use Rattle.sl_tool.specs.Reading.{IsBody, StopsIn, scope_of}
+use Rattle.sl_tool.specs.Means.Reading.{IsBody, StopsIn, scope_of}
 use Rattle.sl_tool.proofs.BodyLaws.{read_at_end, takes_on}
 use Rattle.sl_tool.proofs.reading.body.read_body.Goals as goal
 

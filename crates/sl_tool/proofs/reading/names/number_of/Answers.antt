@@ -2,7 +2,7 @@ use Rattle.std.proofs.Common.{◌≡◌, ◌∙◌, refl, rules, tests}
 use Rattle.std.proofs.lemmas.Iterator.{YieldsList-from_slice}
 use Rattle.std.proofs.lemmas.Iterator.Search.{position_from_yields_List}
 use Rattle.std.specs.Str.{bytes_eq}
-use Rattle.sl_tool.specs.Form.{number_of_name}
+use Rattle.sl_tool.specs.Subset.{number_of_name}
 use Rattle.sl_tool.proofs.NameLaws.{numbered, known, number_below, number_most}
 use Rattle.sl_tool.proofs.reading.names.number_of.Goals as goal
 

@@ -1,5 +1,5 @@
 use Rattle.std.proofs.Common.{◌≡◌, arith}
-use Rattle.sl_tool.specs.Reading.{scope_of}
+use Rattle.sl_tool.specs.Means.Reading.{scope_of}
 use Rattle.sl_tool.proofs.SlotLaws.{token_fits, token_differs, fits_end, which_ends}
 use Rattle.sl_tool.proofs.reading.stopping.fitting.Goals as goal
 

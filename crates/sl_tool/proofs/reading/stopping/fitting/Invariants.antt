@@ -1,7 +1,7 @@
 use Rattle.std.proofs.Common.{ℕ, ◌+◌, drop}
 use Rattle.sl_syntax.specs.Begins.{words_in}
-use Rattle.sl_tool.specs.Reading.{scope_of}
-use Rattle.sl_tool.specs.Slots.{Fit}
+use Rattle.sl_tool.specs.Means.Reading.{scope_of}
+use Rattle.sl_tool.specs.Means.Slots.{Fit}
 use Rattle.sl_tool.proofs.reading.stopping.fitting.Given as goal
 
 abbrev pub invariant-loop-k : goal.invariant-loop-k

@@ -1,7 +1,7 @@
 use Rattle.std.proofs.Common.{◌≡◌, ◌∙◌, arith, subst}
 use Rattle.sl_syntax.specs.Begins.{words_in}
-use Rattle.sl_tool.specs.Reading.{scope_of}
-use Rattle.sl_tool.specs.Slots.{IsPossible}
+use Rattle.sl_tool.specs.Means.Reading.{scope_of}
+use Rattle.sl_tool.specs.Means.Slots.{IsPossible}
 use Rattle.sl_tool.proofs.ItemLaws.{front}
 use Rattle.sl_tool.proofs.KindLaws.{one_kind}
 use Rattle.sl_tool.proofs.StopHereLaws.{in_none, in_brace, in_other, in_item}

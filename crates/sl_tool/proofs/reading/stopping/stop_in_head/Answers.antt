@@ -1,7 +1,7 @@
 use Rattle.std.proofs.Common.{subst}
 use Rattle.sl_syntax.specs.Begins.{words_in}
-use Rattle.sl_tool.specs.Reading.{scope_of}
-use Rattle.sl_tool.specs.Slots.{Fit, head_slots}
+use Rattle.sl_tool.specs.Means.Reading.{scope_of}
+use Rattle.sl_tool.specs.Means.Slots.{Fit, head_slots}
 use Rattle.sl_tool.proofs.HeadLaws.{stops_in_head}
 use Rattle.sl_tool.proofs.reading.stopping.stop_in_head.Goals as goal
 

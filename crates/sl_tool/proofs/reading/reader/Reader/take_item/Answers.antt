@@ -1,5 +1,5 @@
 use Rattle.std.proofs.Common.{refl}
-use Rattle.sl_tool.specs.Form.{vector_item, begin_item, dereference_item}
+use Rattle.sl_tool.specs.Subset.{vector_item, begin_item, dereference_item}
 use Rattle.sl_tool.proofs.ItemLaws.{no_item, taken}
 use Rattle.sl_tool.proofs.reading.reader.Reader.take_item.Goals as goal
 

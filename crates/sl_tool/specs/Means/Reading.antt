@@ -13,9 +13,9 @@ use Rattle.sl_tool.specs.declared.reading.reader.Reader.{Reader}
 use Rattle.sl_tool.specs.declared.reading.read.Read.{Read}
 use Rattle.sl_tool.specs.declared.reading.read.Read.TheVariants.{Whole, Stops as ReadStops}
 use Rattle.sl_syntax.specs.Begins.{Stops}
-use Rattle.sl_tool.specs.Begins.{IsText}
+use Rattle.sl_tool.specs.Subset.{IsInSubset}
 use Rattle.sl_syntax.specs.Begins.{words_in}
-use Rattle.sl_tool.specs.Form.{head_words, Item, push_back_item, item_words, Scope, no_scope, IsAllowed, after_item, after_items, AllAllowed, typed_item, typed_items, push_places, place_in}
+use Rattle.sl_tool.specs.Subset.{head_words, Item, push_back_item, item_words, Scope, no_scope, IsAllowed, after_item, after_items, AllAllowed, typed_item, typed_items, push_places, place_in}
 
 -- the words begin with those of the statement
 abbrev pub BeginsWith : List Word → Item → Type 0
@@ -83,7 +83,7 @@ StopsIn s words k =
 
 -- Where words stop that don't begin with `int main() {`.
 abbrev pub StopsInHead : List Word → ℕ → Type 0
-StopsInHead words k = ((rest : List Word) → words ≡ head_words ++ rest → ⊥) → Stops IsText words k
+StopsInHead words k = ((rest : List Word) → words ≡ head_words ++ rest → ⊥) → Stops IsInSubset words k
 
 -- what is read, by whether it is all
 abbrev pub MatchRead : {T : Type 0} → Read T → (T → Type 0) → (ℕ → Type 0) → Type 0

@@ -119,7 +119,7 @@ typed_text tokens items =
       names = (after_items no_scope items).names;
     }
 
--- these tokens are a text of the form, and this is the text in numbers
+-- these tokens are a text of the subset, and this is the text in numbers
 pub record ReadsAs (tokens : List Token) (p : Typed) : Type 0 where
   pub items : List Item
   pub words : words_in tokens ≡ text_words items
@@ -127,18 +127,17 @@ pub record ReadsAs (tokens : List Token) (p : Typed) : Type 0 where
   pub few : length items ≤ STATEMENTS
   pub typed : p ≡ typed_text tokens items
 
--- the text has tokens, and they are a text of the form, which is this in numbers
+-- the text has tokens, and they are a text of the subset, which is this in numbers
 abbrev pub IsBuilt : List ℕ → Typed → Type 0
 IsBuilt text p = (tokens : List Token) × Tokens text tokens × ReadsAs tokens p
 
--- this is a text of the form in numbers
+-- the words are a text of the subset
+pub record IsInSubset (words : List Word) : Type 0 where
+  pub items : List Item
+  pub are_items : words ≡ text_words items
+  pub allowed : AllAllowed no_scope items
+  pub few : length items ≤ STATEMENTS
+
+-- this is a text of the subset in numbers
 abbrev pub IsOfText : Typed → Type 0
 IsOfText p = (text : List ℕ) × IsBuilt text p
-
--- each statement uses vectors and iterators that are declared before it, of which there are this many at first
-abbrev pub UsesDeclared : ℕ → ℕ → List Stmt → Type 0
-UsesDeclared vectors iterators [] = Unit {0}
-UsesDeclared vectors iterators (Vector place ∷ ss) = UsesDeclared (vectors + 1) iterators ss
-UsesDeclared vectors iterators (PushBack place vector name site number ∷ ss) = (vector < vectors) × UsesDeclared vectors iterators ss
-UsesDeclared vectors iterators (Begin place vector name ∷ ss) = (vector < vectors) × UsesDeclared vectors (iterators + 1) ss
-UsesDeclared vectors iterators (Dereference place iterator name ∷ ss) = (iterator < iterators) × UsesDeclared vectors iterators ss

@@ -1,4 +1,4 @@
--- Statements as rows of slots, and how many words fit them. A means of the reader: proofs/StopLaws ties it to the form.
+-- Statements as rows of slots, and how many words fit them. A means of the reader: proofs/StopLaws ties it to the subset.
 use Rattle.std.specs.Prelude.{◌≡◌, ℕ, zero, suc, ◌+◌, ◌<◌, List, [], ◌∷◌, length, Contains, codes}
 use Rattle.sl_base.specs.declared.limits.TheConstants.{CONTAINERS, ITERATORS, SCALARS, SITES}
 use Rattle.sl_base.specs.declared.mark.Mark.TheVariants.{LeftParenthesis, RightParenthesis, LeftBrace, Less, Greater, Equal, Star, Semicolon, Dot}
@@ -8,7 +8,7 @@ use Rattle.sl_tool.specs.declared.reading.slots.Slot.{Slot}
 use Rattle.sl_tool.specs.declared.reading.slots.Slot.TheVariants.{VectorLib, IntKey, AutoKey, MainName, PushBackName, BeginName, ThisMark, NewName, VectorName, IteratorName, AnyNumber}
 use Rattle.sl_tool.specs.declared.reading.slots.Kind.{Kind}
 use Rattle.sl_tool.specs.declared.reading.slots.Kind.TheVariants.{Vector, PushBack, Begin, Dereference}
-use Rattle.sl_tool.specs.Form.{Scope, IsNew}
+use Rattle.sl_tool.specs.Subset.{Scope, IsNew}
 
 -- the word may stand there
 abbrev pub Fits : Scope → Slot → Word → Type 0

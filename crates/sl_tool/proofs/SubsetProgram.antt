@@ -1,4 +1,4 @@
--- A text of the form is a program: one function, whose items are the statements.
+-- A text of the subset is a program: one function, whose items are the statements.
 use Rattle.std.proofs.Common.{◌≡◌, ℕ, ◌≤◌, List, [], ◌∷◌, ◌++◌, Some, codes, refl, sym, ap, ◌∙◌, arith}
 use Rattle.std.proofs.lemmas.List.{append-nil}
 use Rattle.std.specs.List.{flat_map}
@@ -17,8 +17,8 @@ use Rattle.sl_syntax.specs.Shaped.{IsItem, AreItems}
 use Rattle.sl_syntax.specs.Tree as t
 use Rattle.sl_syntax.specs.Written.{Written, words_of, item_written, items_written, at}
 use Rattle.sl_syntax.proofs.WrittenLaws.{words_of-append}
-use Rattle.sl_tool.specs.Begins.{IsText}
-use Rattle.sl_tool.specs.Form.{Item, vector_item, push_back_item, begin_item, dereference_item, item_words, head_words}
+use Rattle.sl_tool.specs.Subset.{IsInSubset}
+use Rattle.sl_tool.specs.Subset.{Item, vector_item, push_back_item, begin_item, dereference_item, item_words, head_words}
 
 abbrev called : List ℕ → Identifier
 called name = record { name = name; place = nowhere }
@@ -75,7 +75,7 @@ main_of is = record { place = nowhere; result = z.Scalar c.Int; name = called (c
 closed : (xs : List Written) → words_of (xs ++ at nowhere (w.Mark m.RightBrace) ∷ [] ++ []) ≡ words_of xs ++ w.Mark m.RightBrace ∷ []
 closed xs = rw (append-nil, words_of-append xs (at nowhere (w.Mark m.RightBrace) ∷ [])) refl
 
-pub text_is_program : (ws : List Word) → IsText ws → IsProgram ws
+pub text_is_program : (ws : List Word) → IsInSubset ws → IsProgram ws
 text_is_program ws text = (
   main_of text.items,
   record { some = omega arith; each = (items-fit text.items, tt); depth = omega (arith, items-low text.items) },
