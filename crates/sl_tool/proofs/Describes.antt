@@ -29,5 +29,6 @@ pub record Describes (k : Known) (m : Memory) (frame : Frame) (iters : List ℕ)
   pub iters_frame : frame.iters ≡ numbers 0 (length k.iterators)
   pub forms : (j : ℕ) (c : Cont) → slice_get m.conts j ≡ Some c → c.form ≡ f.Vector
   pub filled : (j : ℕ) (c : Cont) → slice_get m.conts j ≡ Some c → slice_index_or k.filled j false ≡ nat_lt 0 (size c)
-  pub stands : (i stamp : ℕ) (standing : Standing) → slice_get iters i ≡ Some stamp → slice_get k.iterators i ≡ Some standing → IsHere m stamp k standing
+  pub stands : (i stamp : ℕ) (standing : Standing) → slice_get iters i ≡ Some stamp → slice_get k.iterators i ≡ Some standing
+      → IsHere m stamp k standing
   pub since : (i : ℕ) (standing : Standing) → slice_get k.iterators i ≡ Some standing → standing.since ≤ length k.pushes

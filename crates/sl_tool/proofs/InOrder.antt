@@ -22,7 +22,8 @@ first_at k (Dereference place it name) i w h =
     told_first place name (fault_in (killers_of k (standing_at k it)) (standing_at k it).at_element) i w h
 
 -- two warnings of the statements from an index on
-in_turn : (all : List Stmt) (ss : List Stmt) (n : ℕ) (k : Known) → drop n all ≡ ss → ArePushes all n k.pushes → (i j : ℕ) (v w : Warning) → i < j → slice_get (warnings_of k ss) i ≡ Some v → slice_get (warnings_of k ss) j ≡ Some w → AreInTurn all v w
+in_turn : (all : List Stmt) (ss : List Stmt) (n : ℕ) (k : Known) → drop n all ≡ ss → ArePushes all n k.pushes → (i j : ℕ) (v w : Warning) → i < j
+    → slice_get (warnings_of k ss) i ≡ Some v → slice_get (warnings_of k ss) j ≡ Some w → AreInTurn all v w
 in_turn all [] n k e are i j v w lt a b = absurd cc
 in_turn all (s ∷ ss) n k e are i j v w lt a b =
     let there : slice_get all n ≡ Some s = first_behind all n s ss e in
@@ -44,11 +45,13 @@ in_turn all (s ∷ ss) n k e are i j v w lt a b =
     ]
 
 -- each two warnings of a text are in turn
-pub are-in-turn : (stmts : List Stmt) (i j : ℕ) (v w : Warning) → i < j → slice_get (warnings_of nothing_known stmts) i ≡ Some v → slice_get (warnings_of nothing_known stmts) j ≡ Some w → AreInTurn stmts v w
+pub are-in-turn : (stmts : List Stmt) (i j : ℕ) (v w : Warning) → i < j → slice_get (warnings_of nothing_known stmts) i ≡ Some v
+    → slice_get (warnings_of nothing_known stmts) j ≡ Some w → AreInTurn stmts v w
 are-in-turn stmts i j v w lt a b = in_turn stmts stmts 0 nothing_known refl (λ i p e. absurd cc) i j v w lt a b
 
 -- a warning of a report is one of the analysis
-pub told_one : (names : List (List ℕ)) (ws : List Warning) (i : ℕ) (w : WarningValue) → slice_get (report_of names ws) i ≡ Some w → (v : Warning) × (slice_get ws i ≡ Some v) × (w ≡ warning_of names v)
+pub told_one : (names : List (List ℕ)) (ws : List Warning) (i : ℕ) (w : WarningValue) → slice_get (report_of names ws) i ≡ Some w → (v : Warning)
+    × (slice_get ws i ≡ Some v) × (w ≡ warning_of names v)
 told_one names [] i w h = absurd cc
 told_one names (v ∷ ws) zero w h = let q : warning_of names v ≡ w = cc in (v, refl, sym q)
 told_one names (v ∷ ws) (suc i) w h = told_one names ws i w h
@@ -60,4 +63,5 @@ in-order stmts names ascend = ascending (report_of names (warnings_of nothing_kn
     let q = told_one names (warnings_of nothing_known stmts) j w b in
     let t = are-in-turn stmts i j p.0 q.0 lt p.1 q.1 in
     rw (p.2, q.2) (earlier_less (warning_of names p.0) (warning_of names q.0)
-        (ascend t.first t.second t.of_first.iterator t.of_second.iterator p.0.name q.0.name p.0.place q.0.place t.order t.of_first.there t.of_second.there)))
+    (ascend t.first t.second t.of_first.iterator t.of_second.iterator p.0.name q.0.name p.0.place q.0.place t.order t.of_first.there
+    t.of_second.there)))

@@ -31,4 +31,5 @@ pub record AreInTurn (stmts : List Stmt) (v w : WarningCode) : Type 0 where
 
 -- the places of each `*` come in their order
 abbrev pub PlacesAscend : List Stmt → Type 0
-PlacesAscend stmts = (i j it jt name other : ℕ) (p q : Place) → i < j → slice_get stmts i ≡ Some (Dereference p it name) → slice_get stmts j ≡ Some (Dereference q jt other) → IsPlaceBefore p q
+PlacesAscend stmts = (i j it jt name other : ℕ) (p q : Place) → i < j → slice_get stmts i ≡ Some (Dereference p it name)
+    → slice_get stmts j ≡ Some (Dereference q jt other) → IsPlaceBefore p q

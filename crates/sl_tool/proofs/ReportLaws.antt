@@ -1,5 +1,6 @@
 -- Warnings that come in their order, one behind the other.
-use Rattle.std.proofs.Common.{◌≡◌, ◌≢◌, ℕ, suc, ◌<◌, ◌+◌, arith, Bool, true, false, List, [], ◌∷◌, ◌++◌, length, drop, Some, refl, ap, sym, ◌∙◌, append_assoc, get_or, add-one}
+use Rattle.std.proofs.Common.{◌≡◌, ◌≢◌, ℕ, suc, ◌<◌, ◌+◌, arith, Bool, true, false, List, [], ◌∷◌, ◌++◌, length, drop, Some, refl, ap, sym, ◌∙◌}
+use Rattle.std.proofs.Common.{append_assoc, get_or, add-one}
 use Rattle.std.specs.Prelude.{slice_get, Contains}
 use Rattle.std.specs.declared.cmp.Ordering.TheVariants.{Less}
 use Rattle.std.proofs.Math.Seq.{drop-cons}
@@ -55,10 +56,12 @@ not_in true h = absurd (h refl)
 not_in false h = refl
 
 -- the set of sites in their order, and the next of them
-set-next : (whole rest : List ℕ) (x : ℕ) (k more : Kills) → Ascend whole → sites_in k ++ x ∷ rest ≡ whole → has more x ≡ true → ((s : ℕ) → s ≢ x → has more s ≡ has k s) → sites_in more ≡ sites_in k ++ x ∷ []
+set-next : (whole rest : List ℕ) (x : ℕ) (k more : Kills) → Ascend whole → sites_in k ++ x ∷ rest ≡ whole → has more x ≡ true
+    → ((s : ℕ) → s ≢ x → has more s ≡ has k s) → sites_in more ≡ sites_in k ++ x ∷ []
 set-next whole rest x k more ascend e same others = sites_in-last k more x same others (λ s from. not_in (has k s) (λ h.
     let at = stands (sites_in k) s (sites_in-has k s h) in
-    let less = ascend at.0 (length (sites_in k)) s x (get_within (sites_in k) at.0 s at.1) (before_seam whole (sites_in k) (x ∷ rest) at.0 s e at.1) (at_seam whole (sites_in k) rest x e) in
+    let less = ascend at.0 (length (sites_in k)) s x (get_within (sites_in k) at.0 s at.1) (before_seam whole (sites_in k) (x ∷ rest) at.0 s e at.1)
+    (at_seam whole (sites_in k) rest x e) in
     absurd (omega arith)))
 
 -- what is left of a list, by its first
@@ -66,23 +69,30 @@ next : {A : Type 0} (xs : List A) (i : ℕ) (x : A) → i < length xs → x ≡ 
 next xs i x lt e = rw add-one (drop-cons xs i x lt ∙ ap (λ y. y ∷ drop (suc i) xs) (sym e))
 
 -- a turn of the loop over sites
-pub set-step : (sites : List ℕ) (i x : ℕ) (k more : Kills) → Ascend sites → i < length sites → x ≡ get_or sites i x → sites_in k ++ drop i sites ≡ sites → has more x ≡ true → ((s : ℕ) → s ≢ x → has more s ≡ has k s) → sites_in more ++ drop (i + 1) sites ≡ sites
+pub set-step : (sites : List ℕ) (i x : ℕ) (k more : Kills) → Ascend sites → i < length sites → x ≡ get_or sites i x → sites_in k
+    ++ drop i sites ≡ sites → has more x ≡ true → ((s : ℕ) → s ≢ x → has more s ≡ has k s) → sites_in more ++ drop (i + 1) sites ≡ sites
 set-step sites i x k more ascend lt e so_far same others =
     let whole = ap (λ l. sites_in k ++ l) (sym (next sites i x lt e)) ∙ so_far in
-    ap (λ l. l ++ drop (i + 1) sites) (set-next sites (drop (i + 1) sites) x k more ascend whole same others) ∙ append_assoc (sites_in k) (x ∷ []) (drop (i + 1) sites) ∙ whole
+    ap (λ l. l ++ drop (i + 1) sites) (set-next sites (drop (i + 1) sites) x k more ascend whole same others) ∙ append_assoc (sites_in k) (x ∷ [])
+    (drop (i + 1) sites) ∙ whole
 
 -- the warnings so far, and the next
-whole_report : (names : List (List ℕ)) (ws : List WarningCode) (i : ℕ) (w : WarningCode) (r : List Warning) → i < length ws → w ≡ get_or ws i w → r ++ report_of names (drop i ws) ≡ report_of names ws → r ++ warning_of names w ∷ report_of names (drop (i + 1) ws) ≡ report_of names ws
+whole_report : (names : List (List ℕ)) (ws : List WarningCode) (i : ℕ) (w : WarningCode) (r : List Warning) → i < length ws → w ≡ get_or ws i w → r
+    ++ report_of names (drop i ws) ≡ report_of names ws → r ++ warning_of names w ∷ report_of names (drop (i + 1) ws) ≡ report_of names ws
 whole_report names ws i w r lt e so_far = ap (λ l. r ++ report_of names l) (sym (next ws i w lt e)) ∙ so_far
 
 -- a turn of the loop over warnings
-pub report-step : (names : List (List ℕ)) (ws : List WarningCode) (i : ℕ) (w : WarningCode) (r : List Warning) → IsAscending (report_of names ws) → i < length ws → w ≡ get_or ws i w → r ++ report_of names (drop i ws) ≡ report_of names ws → added (warning_of names w) r ++ report_of names (drop (i + 1) ws) ≡ report_of names ws
+pub report-step : (names : List (List ℕ)) (ws : List WarningCode) (i : ℕ) (w : WarningCode) (r : List Warning) → IsAscending (report_of names ws)
+    → i < length ws → w ≡ get_or ws i w → r ++ report_of names (drop i ws) ≡ report_of names ws → added (warning_of names w) r
+    ++ report_of names (drop (i + 1) ws) ≡ report_of names ws
 report-step names ws i w r ordered lt e so_far =
     let whole = whole_report names ws i w r lt e so_far in
     let rest = report_of names (drop (i + 1) ws) in
-    ap (λ l. l ++ rest) (added-next (report_of names ws) r rest (warning_of names w) ordered whole) ∙ append_assoc r (warning_of names w ∷ []) rest ∙ whole
+    ap (λ l. l ++ rest) (added-next (report_of names ws) r rest (warning_of names w) ordered whole)
+    ∙ append_assoc r (warning_of names w ∷ []) rest ∙ whole
 
 -- the killers of its warning ascend
-pub killers-step : (names : List (List ℕ)) (ws : List WarningCode) (i : ℕ) (w : WarningCode) (r : List Warning) → KillersAscend (report_of names ws) → i < length ws → w ≡ get_or ws i w → r ++ report_of names (drop i ws) ≡ report_of names ws → Ascend (killers_in w.fault)
+pub killers-step : (names : List (List ℕ)) (ws : List WarningCode) (i : ℕ) (w : WarningCode) (r : List Warning) → KillersAscend (report_of names ws)
+    → i < length ws → w ≡ get_or ws i w → r ++ report_of names (drop i ws) ≡ report_of names ws → Ascend (killers_in w.fault)
 killers-step names ws i w r ascend lt e so_far =
     killers-next (report_of names ws) r (report_of names (drop (i + 1) ws)) (warning_of names w) ascend (whole_report names ws i w r lt e so_far)

@@ -19,12 +19,16 @@ use Rattle.sl_tool.proofs.Founded.{uses-declared}
 
 -- the statements use what is in scope, where so many variables of each sort are
 in_scope : (functions : List Function) (ss : List Stmt) (scalars vectors iterators : ℕ) → UsesDeclared vectors iterators ss
-    → InStmts (record { shape = lib_shape; makes = lib_makes; functions = functions }) a_number (record { scalars = scalars; conts = vectors; iters = iterators }) (stmts_of ss)
+    → InStmts (record { shape = lib_shape; makes = lib_makes; functions = functions }) a_number
+    (record { scalars = scalars; conts = vectors; iters = iterators }) (stmts_of ss)
 in_scope functions [] scalars vectors iterators u = tt
 in_scope functions (Vector place ∷ ss) scalars vectors iterators u = (((refl, tt), tt), in_scope functions ss scalars (vectors + 1) iterators u)
-in_scope functions (PushBack place v name site z ∷ ss) scalars vectors iterators u = (((refl, u.0), (tt, tt)), in_scope functions ss scalars vectors iterators u.1)
-in_scope functions (Begin place v name ∷ ss) scalars vectors iterators u = ((refl, ((refl, u.0), tt)), in_scope functions ss scalars vectors (iterators + 1) u.1)
-in_scope functions (Dereference place it name ∷ ss) scalars vectors iterators u = ((refl, ((refl, tt), (u.0, tt))), in_scope functions ss (scalars + 1) vectors iterators u.1)
+in_scope functions (PushBack place v name site z ∷ ss) scalars vectors iterators u =
+    (((refl, u.0), (tt, tt)), in_scope functions ss scalars vectors iterators u.1)
+in_scope functions (Begin place v name ∷ ss) scalars vectors iterators u =
+    ((refl, ((refl, u.0), tt)), in_scope functions ss scalars vectors (iterators + 1) u.1)
+in_scope functions (Dereference place it name ∷ ss) scalars vectors iterators u =
+    ((refl, ((refl, tt), (u.0, tt))), in_scope functions ss (scalars + 1) vectors iterators u.1)
 
 -- the only function of a text of the subset
 only_main : (g : Signature) (h k : Function) (f : ℕ) → IsScopedFunction g h → slice_get (h ∷ []) f ≡ Some k → IsScopedFunction g k
@@ -36,7 +40,8 @@ pub is_scoped : (p : TypedCode) → IsOfText p → IsScoped lib_shape lib_makes 
 is_scoped p of_text =
     let g = signature_of lib_shape lib_makes (typed_of p) in
     record {
-      bodies = λ f h e. only_main g (main_of p.stmts p.close) h f (in_scope (main_of p.stmts p.close ∷ []) p.stmts 0 0 0 (uses-declared of_text.1.0 p of_text.1.2)) e;
+      bodies = λ f h e. only_main g (main_of p.stmts p.close) h f
+          (in_scope (main_of p.stmts p.close ∷ []) p.stmts 0 0 0 (uses-declared of_text.1.0 p of_text.1.2)) e;
       main = main_of p.stmts p.close;
       main_there = refl;
       main_parameters = refl;
@@ -44,5 +49,6 @@ is_scoped p of_text =
     }
 
 -- and its runs keep the invariant of states
-pub runs-good : (p : TypedCode) → IsOfText p → (input : List ℤ) (picks : List ℕ) (steps : ℕ) → IsGoodOut (call_of lib CALLS (typed_of p) (typed_of p).main first_place [] (empty_state input picks steps))
+pub runs-good : (p : TypedCode) → IsOfText p → (input : List ℤ) (picks : List ℕ) (steps : ℕ)
+    → IsGoodOut (call_of lib CALLS (typed_of p) (typed_of p).main first_place [] (empty_state input picks steps))
 runs-good p of_text input picks steps = run-good (typed_of p) (is_scoped p of_text) input picks steps

@@ -21,7 +21,8 @@ use std::alloc::{AllocError, Global};
 use stopping::stop_in_head;
 use tokens::place_in;
 
-/// The text in numbers, where the tokens are a text of the subset; otherwise the number of the token at which they stop.
+/// The text in numbers, where the tokens are a text of the subset; otherwise the number of the token at which they
+/// stop.
 pub fn read_text(alloc: Global, tokens: &[Token]) -> Result<Read<Typed>, AllocError>
     ensures { IfOk result (λ read. MatchRead read (ReadsAs tokens.now) (Stops IsInSubset (words_in tokens.now))) }
 {

@@ -5,7 +5,8 @@ use Rattle.sl_base.specs.declared.mark.Mark.TheVariants.{LeftParenthesis, RightP
 use Rattle.sl_base.specs.declared.word.Word.{Word}
 use Rattle.sl_base.specs.declared.word.Word.TheVariants.{Name, Lib, Key, Number, Mark}
 use Rattle.sl_tool.specs.declared.reading.slots.Slot.{Slot}
-use Rattle.sl_tool.specs.declared.reading.slots.Slot.TheVariants.{VectorLib, IntKey, AutoKey, MainName, PushBackName, BeginName, ThisMark, NewName, VectorName, IteratorName, AnyNumber}
+use Rattle.sl_tool.specs.declared.reading.slots.Slot.TheVariants.{VectorLib, IntKey, AutoKey, MainName, PushBackName, BeginName, ThisMark, NewName}
+use Rattle.sl_tool.specs.declared.reading.slots.Slot.TheVariants.{VectorName, IteratorName, AnyNumber}
 use Rattle.sl_tool.specs.declared.reading.slots.Kind.{Kind}
 use Rattle.sl_tool.specs.declared.reading.slots.Kind.TheVariants.{Vector, PushBack, Begin, Dereference}
 use Rattle.sl_tool.specs.Subset.{Scope, IsNew}
@@ -39,8 +40,10 @@ head_slots = IntKey ∷ MainName ∷ ThisMark LeftParenthesis ∷ ThisMark Right
 
 abbrev pub slots_of : Kind → List Slot
 slots_of Vector = VectorLib ∷ ThisMark Less ∷ IntKey ∷ ThisMark Greater ∷ NewName ∷ ThisMark Semicolon ∷ []
-slots_of PushBack = VectorName ∷ ThisMark Dot ∷ PushBackName ∷ ThisMark LeftParenthesis ∷ AnyNumber ∷ ThisMark RightParenthesis ∷ ThisMark Semicolon ∷ []
-slots_of Begin = AutoKey ∷ NewName ∷ ThisMark Equal ∷ VectorName ∷ ThisMark Dot ∷ BeginName ∷ ThisMark LeftParenthesis ∷ ThisMark RightParenthesis ∷ ThisMark Semicolon ∷ []
+slots_of PushBack = VectorName ∷ ThisMark Dot ∷ PushBackName ∷ ThisMark LeftParenthesis ∷ AnyNumber ∷ ThisMark RightParenthesis
+    ∷ ThisMark Semicolon ∷ []
+slots_of Begin = AutoKey ∷ NewName ∷ ThisMark Equal ∷ VectorName ∷ ThisMark Dot ∷ BeginName ∷ ThisMark LeftParenthesis ∷ ThisMark RightParenthesis
+    ∷ ThisMark Semicolon ∷ []
 slots_of Dereference = IntKey ∷ NewName ∷ ThisMark Equal ∷ ThisMark Star ∷ IteratorName ∷ ThisMark Semicolon ∷ []
 
 -- a statement of the kind begins with a word like this

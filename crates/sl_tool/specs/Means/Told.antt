@@ -19,7 +19,14 @@ killers_in EndIterator = []
 
 -- a warning at `*`, whose operand is argument 1 and has a name among these
 abbrev pub warning_of : List (List ℕ) → WarningCode → Warning
-warning_of names w = record { place = w.place; kind = kind_of w.fault; call = codes "*"; argument = 1; name = slice_get names w.name; killers = killers_in w.fault }
+warning_of names w = record {
+  place = w.place;
+  kind = kind_of w.fault;
+  call = codes "*";
+  argument = 1;
+  name = slice_get names w.name;
+  killers = killers_in w.fault;
+}
 
 abbrev pub report_of : List (List ℕ) → List WarningCode → List Warning
 report_of names ws = map (warning_of names) ws

@@ -9,4 +9,5 @@ use Rattle.sl_tool.proofs.reading.read_text.Goals as goal
 pub returns-in-Stops : goal.returns-in-Stops
 returns-in-Stops c =
     let stops = rw c.in-Stops.is at c.in_ok-reader.ensures in
-    subst (λ l. Stops IsInSubset l (length head_words + c.in-Stops.k)) (sym c.in-Some.ensures.1) (stops_behind_head (words_in c.in-Some.body.now) c.in-Stops.k stops)
+    subst (λ l. Stops IsInSubset l (length head_words + c.in-Stops.k)) (sym c.in-Some.ensures.1)
+    (stops_behind_head (words_in c.in-Some.body.now) c.in-Stops.k stops)

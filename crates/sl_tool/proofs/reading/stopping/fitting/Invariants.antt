@@ -5,4 +5,5 @@ use Rattle.sl_tool.specs.Means.Slots.{Fit}
 use Rattle.sl_tool.proofs.reading.stopping.fitting.Given as goal
 
 abbrev pub invariant-loop-k : goal.invariant-loop-k
-invariant-loop-k l = (n : ℕ) → Fit (scope_of l.reader) (drop l.k l.slots) (drop l.k (words_in l.tokens)) n → Fit (scope_of l.reader) l.slots (words_in l.tokens) (l.k + n)
+invariant-loop-k l = (n : ℕ) → Fit (scope_of l.reader) (drop l.k l.slots) (drop l.k (words_in l.tokens)) n
+    → Fit (scope_of l.reader) l.slots (words_in l.tokens) (l.k + n)

@@ -11,7 +11,8 @@ pub returns-in-empty : goal.returns-in-empty
 returns-in-empty c = in_none _ _ (omega arith)
 
 pub returns-in-len1-up : goal.returns-in-len1-up
-returns-in-len1-up c = in_brace _ _ _ _ (front c.args.tokens.now 0 c.brace-item.result (omega arith) c.brace-item.is) (c.is_mark.ensures.0 c.if-is_mark.true)
+returns-in-len1-up c = in_brace _ _ _ _ (front c.args.tokens.now 0 c.brace-item.result (omega arith) c.brace-item.is)
+    (c.is_mark.ensures.0 c.if-is_mark.true)
 
 pub returns-in-Some : goal.returns-in-Some
 returns-in-Some c =
