@@ -11,4 +11,5 @@ pub mod Numbers
 pub mod Faults
 pub mod Told
 pub mod Rows
+pub mod Cleared
 pub mod Scoped

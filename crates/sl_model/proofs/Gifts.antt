@@ -12,6 +12,7 @@ use Rattle.sl_model.specs.State.{State, Frame, iter_of, stamp_of, set_iterator_a
 use Rattle.sl_model.specs.Eval.{Out, Gives, Stops, Outs, AllGive, OneStops, Oracle, then_eval, with_number, then_number, add_value, then_rest, then_call, branch, answered, if_set, read_at, settle_call, use_library, moved_to, chosen, first_of, second_of}
 use Rattle.sl_model.specs.Good.{IsSound, AreApart}
 use Rattle.sl_model.specs.Shapes.{Shape, a_number, a_stamp, a_pair, an_element, Gift, a_value, the_scalar, Signature, HasShape, IsGiven, shape_of_result, AllSuit, containers_in}
+use Rattle.sl_model.proofs.Vanishing.{Leaves}
 use Rattle.sl_model.proofs.Levels.{Level, Now, apart_from_stacks, memory-now, set_iterator-now, Above, now_above, above_less}
 
 -- the stamp of a value is below n
@@ -30,26 +31,27 @@ abbrev pub grown : Bool → ℕ → ℕ
 grown true n = n + 1
 grown false n = n
 
--- What a call gives: the memory is sound, it has as many containers, or one more where the call makes one, no stamp is unused
--- again, and the value has its shape and a stamp that was used.
-pub record Answers (shape : Shape) (makes_one : Bool) (m : Memory) (v : Value) (t : Memory) : Type 0 where
-  pub sound : IsSound t
+-- What a call gives: the memory is sound and nothing has vanished, it has as many containers, or one more where the call makes
+-- one, no stamp is unused again, and the value has its shape and a stamp that was used.
+pub record Answers (shape : Shape) (makes_one : Bool) (m : Memory) (site : ℕ) (v : Value) (t : Memory) : Type 0 where
+  pub leaves : Leaves m site t
   pub many : length t.conts ≡ grown makes_one (length m.conts)
   pub later : m.fresh ≤ t.fresh
   pub shaped : HasShape shape v
   pub used : IsUsed t.fresh v
 
 -- where a call gives something
-abbrev pub IsAnswer : Shape → Bool → Memory → LibOut → Type 0
-IsAnswer shape makes_one m (gives v t picks) = Answers shape makes_one m v t
-IsAnswer shape makes_one m (trapped k a) = Unit {0}
-IsAnswer shape makes_one m thrown = Unit {0}
-IsAnswer shape makes_one m (faulted w) = Unit {0}
-IsAnswer shape makes_one m unbuilt = Unit {0}
+abbrev pub IsAnswer : Shape → Bool → Memory → ℕ → LibOut → Type 0
+IsAnswer shape makes_one m site (gives v t picks) = Answers shape makes_one m site v t
+IsAnswer shape makes_one m site (trapped k a) = Unit {0}
+IsAnswer shape makes_one m site thrown = Unit {0}
+IsAnswer shape makes_one m site (faulted w) = Unit {0}
+IsAnswer shape makes_one m site unbuilt = Unit {0}
 
--- a library gives these shapes and makes containers at these calls, and it keeps what holds of all states of a run
+-- a library gives these shapes and makes containers at these calls, and it keeps memory and what holds of all states of a run
 abbrev pub KeepsGood : (Callee → Shape) → (Callee → Bool) → Lib → Type 0
-KeepsGood shape makes_one l = (c : Callee) (a : Args) (m : Memory) (picks : List ℕ) → IsSound m → AllUsed m.fresh a.values → IsAnswer (shape c) (makes_one c) m (l c a m picks)
+KeepsGood shape makes_one l = (c : Callee) (a : Args) (m : Memory) (picks : List ℕ) → IsSound m → AllUsed m.fresh a.values
+    → IsAnswer (shape c) (makes_one c) m a.site (l c a m picks)
 
 -- a value is given in a good state at a level
 pub record Gave (L : Level) (n : ℕ) (gift : Gift) (v : Value) (s : State) : Type 0 where
@@ -242,12 +244,12 @@ module _ (L : Level) where
   gave_as n gift next v s e h = subst (λ (x : Gift). Gave L n x v s) e h
 
   -- what a call of the library gives, where it makes no container
-  at_settle : (n : ℕ) (shape : Shape) (makes_one : Bool) (hd : Head) (vs : List Value) (o : LibOut) (s : State) → makes_one ≡ false → Now L n s → IsAnswer shape makes_one s.memory o → OutAt L n (a_value shape) (settle_call hd vs o s)
+  at_settle : (n : ℕ) (shape : Shape) (makes_one : Bool) (hd : Head) (vs : List Value) (o : LibOut) (s : State) → makes_one ≡ false → Now L n s → IsAnswer shape makes_one s.memory hd.site o → OutAt L n (a_value shape) (settle_call hd vs o s)
   at_settle n shape makes_one hd vs (trapped k a) s e h i = now_above L n s h
   at_settle n shape makes_one hd vs thrown s e h i = now_above L n s h
   at_settle n shape makes_one hd vs (faulted w) s e h i = now_above L n s h
   at_settle n shape makes_one hd vs (gives v m picks) s e h i = record {
-    now = apart_from_stacks L n (record s { memory = m }) s.input picks s.steps s.written (memory-now L n m s i.sound (i.many ∙ ap (λ b. grown b (length s.memory.conts)) e) i.later h);
+    now = apart_from_stacks L n (record s { memory = m }) s.input picks s.steps s.written (memory-now L n m s i.leaves.sound (i.many ∙ ap (λ b. grown b (length s.memory.conts)) e) i.later h);
     given = i.shaped;
     used = i.used;
   }

@@ -135,12 +135,12 @@ module _ (w : World) (g : Signature) (lib_keeps : KeepsGood g.shape g.makes w.li
   at_affect (moves_to it a) s i h = flow_of_stamp (Now L n) (Now L n) a (λ stamp s. Next (set_iterator_at (iter_of s it) stamp s)) s i.1.0 i.1.1 (λ x s low j. set_iterator-now L n (iter_of s it) x s low j) h
 
   -- the container that a call made
-  at_made : (hd : Head) (vs : List Value) (o : LibOut) (s : State) → g.makes hd.callee ≡ true → Now L n s → IsAnswer (g.shape hd.callee) (g.makes hd.callee) s.memory o →
+  at_made : (hd : Head) (vs : List Value) (o : LibOut) (s : State) → g.makes hd.callee ≡ true → Now L n s → IsAnswer (g.shape hd.callee) (g.makes hd.callee) s.memory hd.site o →
       FlowIn shape L n (Now (with_container L) n) (Now L n) (flow_of (settle_call hd vs o s) (λ v t. Next (new_container L.conts t)))
   at_made hd vs (trapped k a) s e h i = now_above L n s h
   at_made hd vs thrown s e h i = now_above L n s h
   at_made hd vs (faulted f) s e h i = now_above L n s h
-  at_made hd vs (gives v m picks) s e h i = new_container-now L n m picks s i.sound (i.many ∙ ap (λ b. grown b (length s.memory.conts)) e) i.later h
+  at_made hd vs (gives v m picks) s e h i = new_container-now L n m picks s i.leaves.sound (i.many ∙ ap (λ b. grown b (length s.memory.conts)) e) i.later h
   at_made hd vs unbuilt s e h i = now_above L n s h
 
   -- a call that makes a container

@@ -11,6 +11,7 @@ pub mod Sourced
 pub mod Changed
 pub mod After
 pub mod AfterEdit
+pub mod Vanishing
 pub mod Ending
 pub mod Writing
 pub mod Keeps

@@ -5,22 +5,22 @@ use Rattle.std.specs.Prelude.{ℤ, pos, nat_lt}
 use Rattle.std.proofs.Math.ListN.{length-set}
 use Rattle.sl_base.specs.declared.limits.TheConstants.{ELEMENTS}
 use Rattle.sl_syntax.specs.Typed.{Callee, row, operator, hidden, Operator, star, arrow_first, arrow_second, up, down, plus, minus, plus_assign, minus_assign, apart, compares}
-use Rattle.sl_syntax.specs.View.{vector_row, begin_row, push_back_row}
 use Rattle.sl_model.specs.Containers.{Memory}
 use Rattle.sl_model.specs.Values.{Value, Args, LibOut, trapped, thrown, faulted, gives, unbuilt}
 use Rattle.sl_model.specs.Situation.{Situation, own, own_size, place_of, number_of}
 use Rattle.sl_model.specs.Needs.{first_failure, all_failures, dereference_fails}
-use Rattle.sl_model.specs.Rows.{throws, edits, Row, inserts, grown_picks, insertion, make, begin, push_back, dereference, int_at, row_of_operator}
+use Rattle.sl_model.specs.Rows.{throws, edits, Row, inserts, grown_picks, insertion, make, begin, push_back, dereference, int_at, table, row_numbered, row_of_operator}
 use Rattle.sl_model.specs.Library.{carried_out, called_row, lib}
 use Rattle.sl_model.specs.Good.{IsSound}
-use Rattle.sl_model.specs.Shapes.{Shape, no_value, a_stamp, an_element, HasShape, shape_of_operator, lib_shape, lib_makes}
+use Rattle.sl_model.specs.Shapes.{Shape, no_value, a_stamp, an_element, HasShape, shape_of_operator, shape_of_row, row_makes, lib_shape, lib_makes}
 use Rattle.sl_model.proofs.Getting.{get_within}
 use Rattle.sl_model.proofs.Keeps.{InAnswer}
-use Rattle.sl_model.proofs.LibrarySound.{HasObject, row_by, situation, lib-sound}
+use Rattle.sl_model.proofs.LibrarySound.{HasObject, row_by, situation, AllRows, IfRow, row_in-holds, lib-leaves}
+use Rattle.sl_model.proofs.Vanishing.{Leaves}
 use Rattle.sl_model.proofs.Gifts.{IsUsed, grown, IsAnswer, KeepsGood}
 use Rattle.sl_model.proofs.GoodRange.{begin_used}
 
--- what a call gives, but for that the memory is sound
+-- what a call gives, but for what it leaves of the memory
 pub record Tells (shape : Shape) (makes_one : Bool) (m : Memory) (v : Value) (t : Memory) : Type 0 where
   pub many : length t.conts ≡ grown makes_one (length m.conts)
   pub later : m.fresh ≤ t.fresh
@@ -35,13 +35,15 @@ IsTold shape makes_one m thrown = Unit {0}
 IsTold shape makes_one m (faulted w) = Unit {0}
 IsTold shape makes_one m unbuilt = Unit {0}
 
--- together with a sound memory
-both_hold : (shape : Shape) (makes_one : Bool) (m : Memory) (o : LibOut) → InAnswer IsSound o → IsTold shape makes_one m o → IsAnswer shape makes_one m o
-both_hold shape makes_one m (gives v t picks) sound h = record { sound = sound; many = h.many; later = h.later; shaped = h.shaped; used = h.used }
-both_hold shape makes_one m (trapped k a) sound h = tt
-both_hold shape makes_one m thrown sound h = tt
-both_hold shape makes_one m (faulted w) sound h = tt
-both_hold shape makes_one m unbuilt sound h = tt
+-- together with what is left of the memory
+both_hold : (shape : Shape) (makes_one : Bool) (m : Memory) (site : ℕ) (o : LibOut) → InAnswer (Leaves m site) o
+    → IsTold shape makes_one m o → IsAnswer shape makes_one m site o
+both_hold shape makes_one m site (gives v t picks) leaves h =
+    record { leaves = leaves; many = h.many; later = h.later; shaped = h.shaped; used = h.used }
+both_hold shape makes_one m site (trapped k a) leaves h = tt
+both_hold shape makes_one m site thrown leaves h = tt
+both_hold shape makes_one m site (faulted w) leaves h = tt
+both_hold shape makes_one m site unbuilt leaves h = tt
 
 -- a row tells its shape and whether it makes a container, where its needs hold
 abbrev TellsRow : Shape → Bool → Row → Type 0
@@ -90,15 +92,18 @@ dereference-told s sound there none = record { many = refl; later = omega arith;
     by_use None = tt
     by_use (Some p) = tt
 
--- each row with a number
-numbered-told : (n : ℕ) (a : Args) (m : Memory) (picks : List ℕ) → IsSound m → IsTold (lib_shape (row n)) (lib_makes (row n)) m (lib (row n) a m picks)
-numbered-told n a m picks sound = by_tests (n == vector_row) (n == begin_row) (n == push_back_row)
-  where
-    by_tests : (x y z : Bool) → IsTold (if x then no_value else if y then a_stamp else no_value) x m (called_row (if x then Some make else if y then Some begin else if z then Some push_back else None) a m picks)
-    by_tests true y z = row-told no_value true make a m picks make-told sound
-    by_tests false true z = row-told a_stamp false begin a m picks begin-told sound
-    by_tests false false true = row-told no_value false push_back a m picks push_back-told sound
-    by_tests false false false = tt
+-- a row tells the shape and the making that it says
+abbrev TellsItself : Row → Type 0
+TellsItself r = TellsRow r.shape r.makes_one r
+
+-- each row of the table does
+table-told : AllRows TellsItself table
+table-told = (make-told, (begin-told, (push_back-told, tt)))
+
+-- a row, if it is there, on what it is called with
+option-told : (o : Option Row) (a : Args) (m : Memory) (picks : List ℕ) → IfRow TellsItself o → IsSound m → IsTold (shape_of_row o) (row_makes o) m (called_row o a m picks)
+option-told None a m picks tells sound = tt
+option-told (Some r) a m picks tells sound = row-told r.shape r.makes_one r a m picks tells sound
 
 -- each row of an operator
 operator-told : (o : Operator) (a : Args) (m : Memory) (picks : List ℕ) → IsSound m → IsTold (shape_of_operator o) false m (called_row (row_of_operator o) a m picks)
@@ -116,10 +121,11 @@ operator-told (compares c) a m picks sound = tt
 
 -- each call of the library
 lib-told : (c : Callee) (a : Args) (m : Memory) (picks : List ℕ) → IsSound m → IsTold (lib_shape c) (lib_makes c) m (lib c a m picks)
-lib-told (row n) a m picks sound = numbered-told n a m picks sound
+lib-told (row n) a m picks sound = option-told (row_numbered n) a m picks (row_in-holds TellsItself table n table-told) sound
 lib-told (operator o) a m picks sound = operator-told o a m picks sound
 lib-told (hidden o) a m picks sound = operator-told o a m picks sound
 
 -- the library keeps what holds of all states of a run
 pub lib-good : KeepsGood lib_shape lib_makes lib
-lib-good c a m picks sound used = both_hold (lib_shape c) (lib_makes c) m (lib c a m picks) (lib-sound c a m picks sound) (lib-told c a m picks sound)
+lib-good c a m picks sound used =
+    both_hold (lib_shape c) (lib_makes c) m a.site (lib c a m picks) (lib-leaves c a m picks sound) (lib-told c a m picks sound)

@@ -1,11 +1,13 @@
 //! Laws of the definitions that a reviewer would ask for.
 ghost use Rattle.std.specs.Prelude.{◌≡◌, ◌≢◌, ◌+◌, ◌<◌, ◌≤◌, ◌↔◌, IsTrue, ℕ, ℤ, List, [], ◌∷◌, length, slice_get};
-ghost use Rattle.sl_syntax.specs.Typed.{Typed};
+ghost use Rattle.sl_syntax.specs.Typed.{Callee, Typed};
 ghost use Rattle.sl_model.specs.Containers.{Cont, Memory, Dropped, size, stamps};
 ghost use Rattle.sl_model.specs.Edits.{Change, Edit, VectorInsert, kills, after};
 ghost use Rattle.sl_model.specs.Situation.{Situation, own_size};
 ghost use Rattle.sl_model.specs.Rows.{edits, push_back};
-ghost use Rattle.sl_model.specs.Good.{IsAt, IsGood, IsSound};
+ghost use Rattle.sl_model.specs.Values.{Args, Value, gives};
+ghost use Rattle.sl_model.specs.Library.{lib};
+ghost use Rattle.sl_model.specs.Good.{IsAt, IsGood, IsSound, NoneVanishes};
 ghost use Rattle.sl_model.specs.Scoped.{IsScoped};
 ghost use Rattle.sl_model.specs.Shapes.{lib_makes, lib_shape};
 ghost use Rattle.sl_model.specs.Ends.{OutOfSteps};
@@ -33,6 +35,12 @@ pub fn one_place()
 pub fn dropped_has_its_site()
     ensures { (ch : Change) (m : Memory) (j k s site : ℕ) (c : Cont) → slice_get m.conts j ≡ Some c →
         slice_get (stamps c) k ≡ Some s → IsTrue (ch.kill k) → Dropped (after ch m j c site) s site }
+{}
+
+/// What stood before a call of the library stands after it, or it was dropped at the call's site.
+pub fn none_vanishes()
+    ensures { (callee : Callee) (a : Args) (m later : Memory) (picks left : List ℕ) (v : Value) → IsSound m →
+        lib callee a m picks ≡ gives v later left → NoneVanishes m a.site later }
 {}
 
 /// A run that ends otherwise than by the end of its steps ends the same, and writes the same, with any number of steps more.
