@@ -11,13 +11,13 @@ use Rattle.sl_syntax.specs.Typed.{Head, Expr, Left, Cond, read, not_read, test, 
 use Rattle.sl_model.specs.Values.{Value, LibOut, trapped, thrown, faulted, gives, unbuilt}
 use Rattle.sl_model.specs.State.{State, iter_of, set_iterator_at, new_scalar, new_iterator, new_container}
 use Rattle.sl_model.specs.Eval.{Outs, AllGive, OneStops, World, eval, reach, eval_all, then_number, then_call, read_at, write_at, answered, settle_call, use_library, name_place}
-use Rattle.sl_model.specs.Exec.{Next, Meaning, flow_of, on_number, on_stamp, tested, printed, print_all, wrote, affect, declared, begun, ended}
+use Rattle.sl_model.specs.Exec.{Next, Meaning, flow_of, on_number, on_stamp, tested, printed, print_all, wrote, is_scalar_name, affect, declared, begun, ended}
 use Rattle.sl_model.specs.Shapes.{Shape, a_number, a_stamp, Gift, a_value, Signature, gift_of, gifts_of}
 use Rattle.sl_model.specs.Scoped.{one_scalar, one_container, one_iterator, InExpr, InLeft, InCond, InPrinted, InPrint, InEffect, InDeclaration, with_declaration, InFirst, with_first, InLast}
 use Rattle.sl_model.proofs.Levels.{Level, counts_of, Now, Above, apart_from_stacks, set_iterator-now, write-now, with_scalar, with_iterator, with_container, new_scalar-now, new_iterator-now, new_container-now, now_above}
 use Rattle.sl_model.proofs.Gifts.{KeepsGood, OwnKeepsGood, IsAnswer, grown, Gave, OutAt, OutsAt, gift_of_left, at_then_number, at_answer, at_read, gave_as}
 use Rattle.sl_model.proofs.GoodEval.{at_eval, at_reach, at_all}
-use Rattle.sl_model.proofs.GoodFlow.{FlowIn, flow_then, flow_value, flow_number, flow_stamp, flow_reads, Leads, Tests}
+use Rattle.sl_model.proofs.GoodFlow.{FlowIn, flow_then, flow_value, flow_number, flow_stamp, flow_either, flow_reads, Leads, Tests}
 
 -- the level after a declaration
 abbrev pub level_declared : Declaration → Level → Level
@@ -127,7 +127,8 @@ module _ (w : World) (g : Signature) (lib_keeps : KeepsGood g.shape g.makes w.li
   pub at_affect : (e : Effect) (s : State) → InEffect g (counts_of L.frame) e → Now L n s → FlowIn shape L n (Now L n) (Now L n) (affect w e s)
   at_affect (reads xs) s i h = flow_reads shape L n (Now L n) (Now L n) xs (λ b. Next) (λ b s j. j) s h
   at_affect (prints ps) s i h = at_print ps s i h
-  at_affect (evaluates a) s i h = flow_of_value (Now L n) (Now L n) a (λ v. Next) s i (λ v s j. j.now) h
+  at_affect (evaluates a) s i h = flow_either shape L n (Now L n) (Now L n) (is_scalar_name a) Next (λ s. flow_of (eval w a s) (λ v. Next))
+      (λ s j. j) (λ s j. flow_of_value (Now L n) (Now L n) a (λ v. Next) s i (λ v s k. k.now) j) s h
   at_affect (assigns l a) s i h = flow_of_number (Now L n) (Now L n) a (λ z s. flow_of (reach w l s) (λ at_l s. Next (write_at at_l z s))) s i.0
       (λ z s j. flow_of_left l (λ at_l s. Next (write_at at_l z s)) s i.1 (λ v s k. write-now L n v z s k.now) j) h
   at_affect (updates op ty left_ty at l a) s i h = flow_of_number (Now L n) (Now L n) a (λ y s. flow_of (reach w l s) (finish op ty left_ty at l y)) s i.0

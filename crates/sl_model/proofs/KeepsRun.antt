@@ -12,7 +12,7 @@ use Rattle.sl_model.specs.Values.{Value, nothing, number, iterator, pair, scalar
 use Rattle.sl_model.specs.State.{State, scalar_of, iter_of, cont_of, set_scalar_at, set_iterator_at, new_scalar, new_iterator, new_container}
 use Rattle.sl_model.specs.Ends.{OutOfSteps}
 use Rattle.sl_model.specs.Eval.{Out, Gives, Stops, World, eval, reach, eval_all, then_eval, then_number, then_call, read_at, write_at, use_library, answered, name_place}
-use Rattle.sl_model.specs.Exec.{Flow, Next, Broke, Continued, Returned, Over, Meaning, tick, and_then, flow_of, on_number, on_stamp, either_way, scoped, read_all, tested, printed, print_all, affect, declared, begun, ended, after_body, turns, loop, wrote, asks, hidden_at, over_range, range_start, exec, exec_all}
+use Rattle.sl_model.specs.Exec.{Flow, Next, Broke, Continued, Returned, Over, Meaning, tick, and_then, flow_of, on_number, on_stamp, either_way, scoped, read_all, tested, printed, print_all, is_scalar_name, affect, declared, begun, ended, after_body, turns, loop, wrote, asks, hidden_at, over_range, range_start, exec, exec_all}
 use Rattle.sl_model.proofs.Keeps.{InAnswer, InOut, keeps_eval, keeps_reach, keeps_all, keeps_call, keeps_then, keeps_then_number, keeps_answer, keeps_read, keeps_library, keeps_write, keeps_set}
 use Rattle.sl_syntax.specs.declared.operator.Comparison.TheVariants as c
 
@@ -151,7 +151,8 @@ module _ (I : Memory → Type 0) where
     in_affect : (e : Effect) → Keeps (affect w e)
     in_affect (reads xs) s h = in_reads xs (λ b. Next) (λ b s i. i) s h
     in_affect (prints ps) s h = in_print ps s h
-    in_affect (evaluates a) s h = in_value a (λ v. Next) (λ v s i. i) s h
+    in_affect (evaluates a) s h = in_either (is_scalar_name a) Next (λ s. flow_of (eval w a s) (λ v. Next))
+        (λ s i. i) (λ s i. in_value a (λ v. Next) (λ v s i. i) s i) s h
     in_affect (assigns l a) s h = in_value a (on_number (λ z s. flow_of (reach w l s) (λ at_l s. Next (write_at at_l z s)))) (in_number (λ z s. flow_of (reach w l s) (λ at_l s. Next (write_at at_l z s))) (in_assign l)) s h
     in_affect (updates op ty left_ty at l a) s h = in_value a (on_number (λ y s. flow_of (reach w l s) (finish op ty left_ty at l y))) (in_number (λ y s. flow_of (reach w l s) (finish op ty left_ty at l y)) (λ y s i. in_flow_of (reach w l s) (finish op ty left_ty at l y) (reaches l s i) (λ v s j.
         in_flow_of (then_number (read_at (name_place l) v s) (λ x s. answered at (operated op ty (converted ty x) y) s)) (on_number (λ z s. Next (write_at v (converted left_ty z) s)))

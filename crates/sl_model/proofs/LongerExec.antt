@@ -9,7 +9,7 @@ use Rattle.sl_model.specs.Values.{Value, nothing, number, iterator, pair, scalar
 use Rattle.sl_model.specs.Ends.{End, OutOfSteps}
 use Rattle.sl_model.specs.State.{State, scalar_of, cont_of, iter_of, set_scalar_at, set_iterator_at, new_scalar, new_iterator, new_container, leave}
 use Rattle.sl_model.specs.Eval.{Out, World, use_library, write_at, name_place}
-use Rattle.sl_model.specs.Exec.{Flow, Next, Broke, Continued, Returned, Over, Meaning, tick, and_then, flow_of, on_number, on_stamp, either_way, scoped, read_all, tested, wrote, printed, print_all, affect, declared, begun, ended, after_body, turns, loop, asks, hidden_at, over_range, range_start, exec, exec_all}
+use Rattle.sl_model.specs.Exec.{Flow, Next, Broke, Continued, Returned, Over, Meaning, tick, and_then, flow_of, on_number, on_stamp, either_way, scoped, read_all, tested, wrote, printed, print_all, is_scalar_name, affect, declared, begun, ended, after_body, turns, loop, asks, hidden_at, over_range, range_start, exec, exec_all}
 use Rattle.sl_model.proofs.Longer.{more, LaterOut, gives, stops, out, SameWorld, set_scalar_at-more, write_at-more, answered-later, read_at-later, use_library-later, then_eval-later, then_number-later, then_call-later, eval-later, reach-later, eval_all-later}
 
 -- where a statement goes, and where it goes with k steps more: to the same, or the run is out of steps
@@ -165,7 +165,8 @@ written-later {k} v z s = next_to (write_at v z s) (write_at v z (more k s)) (wr
 affect-later : {k : ℕ} (w : World) → SameWorld k w → (e : Effect) → SameFlow k (affect w e)
 affect-later w own (reads xs) s = read_all-later xs (λ b. Next) (λ b. Next) (λ b s. next s) s
 affect-later w own (prints ps) s = print_all-later w own ps s
-affect-later w own (evaluates a) s = flow_of-later (λ v. Next) (λ v. Next) (eval-later w own a s) (λ v s. next s)
+affect-later w own (evaluates a) s = either_way-same (is_scalar_name a) Next _ (λ s. next s)
+    (λ s. flow_of-later (λ v. Next) (λ v. Next) (eval-later w own a s) (λ v s. next s)) s
 affect-later w own (assigns l a) s = number-same _ (eval-later w own a s) (λ z s. flow_of-same _ (reach-later w own l s) (λ at_l. written-later at_l z))
 affect-later w own (updates op ty left_ty at l a) s = number-same _ (eval-later w own a s) (λ y s. flow_of-same _ (reach-later w own l s) (λ at_l s.
     number-same _ (then_number-later _ (read_at-later (name_place l) at_l s) (λ x. answered-later at (operated op ty (converted ty x) y)))

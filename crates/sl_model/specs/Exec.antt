@@ -1,8 +1,9 @@
 -- Statements: where one goes from a state.
 --
 -- Restates ISO/IEC 14882:2017, [stmt.stmt] with [stmt.block], [stmt.if], [stmt.while], [stmt.for], [stmt.ranged], [stmt.break],
--- [stmt.cont], [stmt.return] and [stmt.dcl]; [expr.ass], by which the right side comes first; [istream.formatted.arithmetic]
--- and [ostream.formatted] as far as numbers and texts go.
+-- [stmt.cont], [stmt.return] and [stmt.dcl]; [stmt.expr] with [expr], by which nothing is read where a discarded value is a
+-- variable's name; [expr.ass], by which the right side comes first; [istream.formatted.arithmetic] and [ostream.formatted] as far
+-- as numbers and texts go.
 -- Chosen here: each statement but a block takes a step when it starts, and each test of a loop takes one. Input is a list of
 -- ints, and a read fails at its end alone. A variable that couldn't be read keeps its number.
 use Rattle.std.specs.Prelude.{ℕ, zero, suc, ◌+◌, Bool, true, false, not, List, [], ◌∷◌, ◌++◌, length, ℤ, pos, Option, Some, None, unwrap_or, slice_index}
@@ -11,7 +12,7 @@ use Rattle.sl_base.specs.declared.scalar.Scalar.TheVariants as t
 use Rattle.sl_syntax.specs.declared.operator.Comparison.TheVariants as c
 use Rattle.sl_base.specs.declared.place.Place.{Place}
 use Rattle.sl_model.specs.Numbers.{is_zero, converted, operated}
-use Rattle.sl_syntax.specs.Typed.{Head, hidden, Operator, star, up, compares, Cond, read, not_read, test, always, Printed, text, endline, number as printed_number, Effect, reads, prints, evaluates, assigns, updates, moves_to, Declaration, unset_scalar, set_scalar, set_iterator, makes, First, no_first, declares_first, does_first, Stmt, block, declares, choice, choice_else, while, for, range_for, break, continue, gives_back, does, Stmts, no_more, followed}
+use Rattle.sl_syntax.specs.Typed.{Expr, held, scalar, Head, hidden, Operator, star, up, compares, Cond, read, not_read, test, always, Printed, text, endline, number as printed_number, Effect, reads, prints, evaluates, assigns, updates, moves_to, Declaration, unset_scalar, set_scalar, set_iterator, makes, First, no_first, declares_first, does_first, Stmt, block, declares, choice, choice_else, while, for, range_for, break, continue, gives_back, does, Stmts, no_more, followed}
 use Rattle.sl_model.specs.Containers.{begin_of, end_of}
 use Rattle.sl_model.specs.Values.{Value, nothing, number, iterator}
 use Rattle.sl_model.specs.Ends.{End, OutOfSteps}
@@ -97,11 +98,20 @@ abbrev pub print_all : World → List Printed → Meaning
 print_all w [] s = Next s
 print_all w (p ∷ ps) s = and_then (printed w p s) (print_all w ps)
 
+-- an expression is the name of a scalar alone
+abbrev pub is_scalar_name : Expr → Bool
+is_scalar_name (held (scalar x at)) = true
+is_scalar_name a = false
+
+-- a value is discarded: a name alone is not read, and every other expression is evaluated
+abbrev pub discarded : World → Expr → Meaning
+discarded w a = either_way (is_scalar_name a) Next (λ s. flow_of (eval w a s) (λ v. Next))
+
 -- an effect; the right side of an assignment comes first, then the place of the left, then its number
 abbrev pub affect : World → Effect → Meaning
 affect w (reads xs) s = read_all xs s (λ b. Next)
 affect w (prints ps) s = print_all w ps s
-affect w (evaluates a) s = flow_of (eval w a s) (λ v. Next)
+affect w (evaluates a) s = discarded w a s
 affect w (assigns l a) s = flow_of (eval w a s) (on_number (λ z s. flow_of (reach w l s) (λ at_l s. Next (write_at at_l z s))))
 affect w (updates op ty left_ty at l a) s = flow_of (eval w a s) (on_number (λ y s. flow_of (reach w l s) (λ at_l s.
     flow_of (then_number (read_at (name_place l) at_l s) (λ x s. answered at (operated op ty (converted ty x) y) s)) (on_number (λ z s.
