@@ -1,5 +1,6 @@
 -- One bit of a list of words.
-use Rattle.std.proofs.Common.{◌≡◌, ◌≢◌, ℕ, zero, suc, ◌*◌, ◌/◌, ◌%◌, ◌^◌, ◌<◌, ◌||◌, ◌==◌, true, false, List, length, set, get_or, replicate, get_or-set_same, get_or-set_other, refl, arith, ⊎_elim, w64, bit_or, ap, ◌&&◌, nat_lt, Bool}
+use Rattle.std.proofs.Common.{◌≡◌, ◌≢◌, ℕ, zero, suc, ◌*◌, ◌/◌, ◌%◌, ◌^◌, ◌<◌, ◌||◌, ◌==◌, true, false, List, length, set, get_or, replicate}
+use Rattle.std.proofs.Common.{get_or-set_same, get_or-set_other, refl, arith, ⊎_elim, w64, bit_or, ap, ◌&&◌, nat_lt, Bool}
 use Rattle.std.specs.Int.{bit_at}
 use Rattle.std.proofs.lemmas.Bool.{cases_eq, ltb-true, lt-ltb}
 use Rattle.std.proofs.lemmas.Bool.Decides.{nat_tests}

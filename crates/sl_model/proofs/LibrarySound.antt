@@ -150,12 +150,12 @@ inserts-fine : (class : Class) (s : Situation) (from : ℕ) (come : List (ℤ ×
     → from ≤ own_size s → IsFine class s (inserts s from come)
 inserts-fine class s from come there place =
     unless-fine class s (own_size s + length come) (edits (grown_picks (own s) (length come)) (insertion (own s) from come s.picks))
-      (λ few. record {
-        there = there;
-        fits = no_more_room from (own_size s) place;
-        few = more_or_less (own_size s + length come) few;
-        buries = λ k low high. absurd (omega arith);
-      })
+    (λ few. record {
+      there = there;
+      fits = no_more_room from (own_size s) place;
+      few = more_or_less (own_size s + length come) few;
+      buries = λ k low high. absurd (omega arith);
+    })
   where
     no_more_room : (a n : ℕ) → a ≤ n → a + 0 ≤ n
     no_more_room a n h = omega arith

@@ -23,17 +23,17 @@ pub after-none : (class : Class) (m : Memory) (j : ℕ) (c : Cont) (e : Edit) (s
     → Fits e (size c) → BuriesGone class c e → NoneVanishes m site (after (change_of class c e) m j c site)
 after-none class m j c e site sound there fits buries i k s h =
     ⊎_elim (λ (same : j ≡ i). in_own (subst (λ n. IsAt m n k s) (sym same) h))
-      (λ (other : j ≡ i → ⊥). inl (i, k, after-at-other class m j i k s c e site other h))
-      (cases_eq j i)
+    (λ (other : j ≡ i → ⊥). inl (i, k, after-at-other class m j i k s c e site other h))
+    (cases_eq j i)
   where
     outside : kills class (size c) c.room e k ≡ false → (k < e.from) ⊎ (e.from + e.gone ≤ k)
     outside alive =
         ⊎_elim (λ (low : k < e.from). inl low)
-          (λ (from : e.from ≤ k).
-            ⊎_elim (λ (inside : k < e.from + e.gone). absurd (both_ways (kills class (size c) c.room e k) alive (buries k from inside)))
-              (λ (behind : e.from + e.gone ≤ k). inr behind)
-              (cases_lt k (e.from + e.gone)))
-          (cases_lt k e.from)
+        (λ (from : e.from ≤ k).
+        ⊎_elim (λ (inside : k < e.from + e.gone). absurd (both_ways (kills class (size c) c.room e k) alive (buries k from inside)))
+        (λ (behind : e.from + e.gone ≤ k). inr behind)
+        (cases_lt k (e.from + e.gone)))
+        (cases_lt k e.from)
 
     by_kill : IsAt m j k s → (b : Bool) → kills class (size c) c.room e k ≡ b
         → StandsOrDropped site s (after (change_of class c e) m j c site)

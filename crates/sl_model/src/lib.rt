@@ -3,4 +3,6 @@
 
 mod laws;
 
-pub use laws::{dropped_has_its_site, longer_runs, none_vanishes, one_place, push_back_kills, runs_stay_good};
+pub use laws::{
+    dropped_has_its_site, longer_runs, none_vanishes, one_place, push_back_kills, runs_stay_good,
+};

@@ -60,9 +60,9 @@ name_in_for = alone None (
     declares (unset_scalar t.Int) ∷
     declares (set_scalar t.Int (literal t.Int (pos 0))) ∷
     for (does_first (evaluates (held (scalar 0 (at 4 8)))))
-        (test (comparison c.Less (at 4 13) (held (scalar 1 (at 4 11))) (literal t.Int (pos 2))))
-        (Some (evaluates (held (scalar 0 (at 4 18)))))
-        (does (evaluates (increment rise prefix t.Int (at 4 21) (scalar 1 (at 4 23))))) ∷
+    (test (comparison c.Less (at 4 13) (held (scalar 1 (at 4 11))) (literal t.Int (pos 2))))
+    (Some (evaluates (held (scalar 0 (at 4 18)))))
+    (does (evaluates (increment rise prefix t.Int (at 4 21) (scalar 1 (at 4 23))))) ∷
     []) (at 5 1) [] []
 
 -- nor is it read in the first and the last part of a `for`
