@@ -1,15 +1,18 @@
 -- The library keeps what holds of all states of a run: each row gives its shape and a stamp that was used, and it makes a
 -- container or leaves as many.
-use Rattle.std.proofs.Common.{◌≡◌, ℕ, ◌+◌, ◌≤◌, ◌==◌, Bool, true, false, List, [], ◌∷◌, ◌++◌, Option, Some, None, length, length-append, refl, arith, if◌then◌else◌}
+use Rattle.std.proofs.Common.{◌≡◌, ℕ, ◌+◌, ◌≤◌, ◌==◌, Bool, true, false, List, [], ◌∷◌, ◌++◌, Option, Some, None, length, length-append, refl, arith}
+use Rattle.std.proofs.Common.{if◌then◌else◌}
 use Rattle.std.specs.Prelude.{ℤ, pos, nat_lt}
 use Rattle.std.proofs.Math.ListN.{length-set}
 use Rattle.sl_base.specs.declared.limits.TheConstants.{ELEMENTS}
-use Rattle.sl_syntax.specs.Typed.{Callee, row, operator, hidden, Operator, star, arrow_first, arrow_second, up, down, plus, minus, plus_assign, minus_assign, apart, compares}
+use Rattle.sl_syntax.specs.Typed.{Callee, row, operator, hidden, Operator, star, arrow_first, arrow_second, up, down, plus, minus, plus_assign}
+use Rattle.sl_syntax.specs.Typed.{minus_assign, apart, compares}
 use Rattle.sl_model.specs.Containers.{Memory}
 use Rattle.sl_model.specs.Values.{Value, Args, LibOut, trapped, thrown, faulted, gives, unbuilt}
 use Rattle.sl_model.specs.Situation.{Situation, own, own_size, place_of, number_of}
 use Rattle.sl_model.specs.Needs.{first_failure, all_failures, dereference_fails}
-use Rattle.sl_model.specs.Rows.{throws, edits, Row, inserts, grown_picks, insertion, make, begin, push_back, dereference, int_at, table, row_numbered, row_of_operator}
+use Rattle.sl_model.specs.Rows.{throws, edits, Row, inserts, grown_picks, insertion, make, begin, push_back, dereference, int_at, table, row_numbered}
+use Rattle.sl_model.specs.Rows.{row_of_operator}
 use Rattle.sl_model.specs.Library.{carried_out, called_row, lib}
 use Rattle.sl_model.specs.Good.{IsSound}
 use Rattle.sl_model.specs.Shapes.{Shape, no_value, a_stamp, an_element, HasShape, shape_of_operator, shape_of_row, row_makes, lib_shape, lib_makes}
@@ -47,16 +50,20 @@ both_hold shape makes_one m site unbuilt leaves h = tt
 
 -- a row tells its shape and whether it makes a container, where its needs hold
 abbrev TellsRow : Shape → Bool → Row → Type 0
-TellsRow shape makes_one r = (s : Situation) → IsSound s.memory → HasObject r.object s → first_failure (all_failures r.needs s) ≡ None → IsTold shape makes_one s.memory (carried_out r s (r.effect s))
+TellsRow shape makes_one r = (s : Situation) → IsSound s.memory → HasObject r.object s → first_failure (all_failures r.needs s) ≡ None
+    → IsTold shape makes_one s.memory (carried_out r s (r.effect s))
 
 -- a row on what it is called with
-row-told : (shape : Shape) (makes_one : Bool) (r : Row) (a : Args) (m : Memory) (picks : List ℕ) → TellsRow shape makes_one r → IsSound m → IsTold shape makes_one m (called_row (Some r) a m picks)
-row-told shape makes_one r a m picks tells sound = row_by (IsTold shape makes_one m) r a m picks tt (λ j there. by_failure (situation a m picks j) there (first_failure (all_failures r.needs (situation a m picks j))) refl (sound_in j))
+row-told : (shape : Shape) (makes_one : Bool) (r : Row) (a : Args) (m : Memory) (picks : List ℕ) → TellsRow shape makes_one r → IsSound m
+    → IsTold shape makes_one m (called_row (Some r) a m picks)
+row-told shape makes_one r a m picks tells sound = row_by (IsTold shape makes_one m) r a m picks tt
+    (λ j there. by_failure (situation a m picks j) there (first_failure (all_failures r.needs (situation a m picks j))) refl (sound_in j))
   where
     sound_in : (j : ℕ) → IsSound (situation a m picks j).memory
     sound_in j = sound
 
-    by_failure : (s : Situation) → HasObject r.object s → (o : Option (ℕ × ℕ)) → first_failure (all_failures r.needs s) ≡ o → IsSound s.memory → IsTold shape makes_one s.memory (elim o as (λ _. LibOut) [ Some x ↦ trapped x.0 x.1 | None ↦ carried_out r s (r.effect s) ])
+    by_failure : (s : Situation) → HasObject r.object s → (o : Option (ℕ × ℕ)) → first_failure (all_failures r.needs s) ≡ o → IsSound s.memory
+        → IsTold shape makes_one s.memory (elim o as (λ _. LibOut) [ Some x ↦ trapped x.0 x.1 | None ↦ carried_out r s (r.effect s) ])
     by_failure s there (Some x) e sound = tt
     by_failure s there None e sound = tells s sound there e
 
@@ -66,13 +73,19 @@ make-told s sound there none = record { many = length-append s.memory.conts _; l
 
 -- begin()
 begin-told : TellsRow a_stamp false begin
-begin-told s sound there none = record { many = refl; later = omega arith; shaped = tt; used = begin_used s.memory s.object sound (get_within s.memory.conts s.object (own s) there) }
+begin-told s sound there none = record {
+  many = refl;
+  later = omega arith;
+  shaped = tt;
+  used = begin_used s.memory s.object sound (get_within s.memory.conts s.object (own s) there);
+}
 
 -- push_back(x), whatever comes into the vector
 inserts-told : (s : Situation) (from : ℕ) (come : List (ℤ × ℤ)) → IsTold no_value false s.memory (carried_out push_back s (inserts s from come))
 inserts-told s from come = by_test (nat_lt ELEMENTS (own_size s + length come))
   where
-    by_test : (b : Bool) → IsTold no_value false s.memory (carried_out push_back s (if b then throws else edits (grown_picks (own s) (length come)) (insertion (own s) from come s.picks)))
+    by_test : (b : Bool) → IsTold no_value false s.memory
+        (carried_out push_back s (if b then throws else edits (grown_picks (own s) (length come)) (insertion (own s) from come s.picks)))
     by_test true = tt
     by_test false = record { many = length-set s.memory.conts s.object _; later = omega arith; shaped = tt; used = tt }
 
@@ -82,7 +95,12 @@ push_back-told s sound there none = inserts-told s (own_size s) ((number_of s 1,
 
 -- *it
 dereference-told : TellsRow an_element false dereference
-dereference-told s sound there none = record { many = refl; later = omega arith; shaped = by_place (place_of s 1) none; used = by_use (place_of s 1) }
+dereference-told s sound there none = record {
+  many = refl;
+  later = omega arith;
+  shaped = by_place (place_of s 1) none;
+  used = by_use (place_of s 1);
+}
   where
     by_place : (o : Option (ℕ × ℕ)) → first_failure (dereference_fails s.memory o 1 ++ []) ≡ None → HasShape an_element (int_at o)
     by_place None e = absurd (cc)
@@ -101,12 +119,14 @@ table-told : AllRows TellsItself table
 table-told = (make-told, (begin-told, (push_back-told, tt)))
 
 -- a row, if it is there, on what it is called with
-option-told : (o : Option Row) (a : Args) (m : Memory) (picks : List ℕ) → IfRow TellsItself o → IsSound m → IsTold (shape_of_row o) (row_makes o) m (called_row o a m picks)
+option-told : (o : Option Row) (a : Args) (m : Memory) (picks : List ℕ) → IfRow TellsItself o → IsSound m
+    → IsTold (shape_of_row o) (row_makes o) m (called_row o a m picks)
 option-told None a m picks tells sound = tt
 option-told (Some r) a m picks tells sound = row-told r.shape r.makes_one r a m picks tells sound
 
 -- each row of an operator
-operator-told : (o : Operator) (a : Args) (m : Memory) (picks : List ℕ) → IsSound m → IsTold (shape_of_operator o) false m (called_row (row_of_operator o) a m picks)
+operator-told : (o : Operator) (a : Args) (m : Memory) (picks : List ℕ) → IsSound m
+    → IsTold (shape_of_operator o) false m (called_row (row_of_operator o) a m picks)
 operator-told star a m picks sound = row-told an_element false dereference a m picks dereference-told sound
 operator-told arrow_first a m picks sound = tt
 operator-told arrow_second a m picks sound = tt

@@ -1,6 +1,7 @@
 -- What a row has to be, and what a library has to be: each of its calls leaves a sound memory sound, and what stood before it
 -- stands after it or was dropped at its site. One condition on each row says it of the library.
-use Rattle.std.proofs.Common.{◌≡◌, ℕ, ◌+◌, ◌≤◌, ◌==◌, Bool, true, false, List, [], ◌∷◌, Option, Some, None, length, refl, ap, sym, ◌∙◌, arith, if◌then◌else◌, inl, subst}
+use Rattle.std.proofs.Common.{◌≡◌, ℕ, ◌+◌, ◌≤◌, ◌==◌, Bool, true, false, List, [], ◌∷◌, Option, Some, None, length, refl, ap, sym, ◌∙◌, arith}
+use Rattle.std.proofs.Common.{if◌then◌else◌, inl, subst}
 use Rattle.std.specs.Prelude.{ℤ, pos, nat_lt}
 use Rattle.std.specs.List.{slice_get}
 use Rattle.std.proofs.lemmas.Option.{get_or_from_slice_get}
@@ -8,13 +9,15 @@ use Rattle.std.proofs.lemmas.Bool.{ltb-false}
 use Rattle.sl_base.specs.declared.form.Form.{Form}
 use Rattle.sl_base.specs.declared.form.Form.TheVariants as f
 use Rattle.sl_base.specs.declared.limits.TheConstants.{ELEMENTS}
-use Rattle.sl_syntax.specs.Typed.{Callee, row, operator, hidden, Operator, star, arrow_first, arrow_second, up, down, plus, minus, plus_assign, minus_assign, apart, compares}
+use Rattle.sl_syntax.specs.Typed.{Callee, row, operator, hidden, Operator, star, arrow_first, arrow_second, up, down, plus, minus, plus_assign}
+use Rattle.sl_syntax.specs.Typed.{minus_assign, apart, compares}
 use Rattle.sl_model.specs.Containers.{Cont, Memory, cont_at}
 use Rattle.sl_model.specs.Edits.{Class, Edit, Fits}
 use Rattle.sl_model.specs.Values.{Value, Args, Lib, LibOut, trapped, thrown, faulted, gives, unbuilt}
 use Rattle.sl_model.specs.Situation.{Situation, own, own_size, number_of}
 use Rattle.sl_model.specs.Needs.{first_failure, all_failures}
-use Rattle.sl_model.specs.Rows.{Effect, throws, keeps, makes, edits, Row, unless_too_many, inserts, grown_picks, insertion, make, begin, push_back, dereference, table, row_in, row_of_operator, row_of}
+use Rattle.sl_model.specs.Rows.{Effect, throws, keeps, makes, edits, Row, unless_too_many, inserts, grown_picks, insertion, make, begin, push_back}
+use Rattle.sl_model.specs.Rows.{dereference, table, row_in, row_of_operator, row_of}
 use Rattle.sl_model.specs.Library.{same_form, are_of, of_form, object_in, carried_out, row_out, on_object, called_row, lib}
 use Rattle.sl_model.specs.Good.{IsSound}
 use Rattle.sl_model.proofs.Making.{made-sound, made-at}
@@ -83,7 +86,8 @@ object_there : (m : Memory) (form : Form) (o : Option ℕ) (j : ℕ) → object_
 object_there m form None j h = absurd (cc)
 object_there m form (Some i) j h = by_cont (slice_get m.conts i) refl h
   where
-    by_form : (c : Cont) (b : Bool) → slice_get m.conts i ≡ Some c → (if b then Some i else None) ≡ Some j → slice_get m.conts j ≡ Some (cont_at m j)
+    by_form : (c : Cont) (b : Bool) → slice_get m.conts i ≡ Some c → (if b then Some i else None) ≡ Some j
+        → slice_get m.conts j ≡ Some (cont_at m j)
     by_form c true e g =
         let q : i ≡ j = cc in
         let t : slice_get m.conts j ≡ Some c = ap (slice_get m.conts) (sym q) ∙ e in
@@ -99,7 +103,8 @@ abbrev pub situation : Args → Memory → List ℕ → ℕ → Situation
 situation a m picks j = record { memory = m; object = j; values = a.values; picks = picks; site = a.site }
 
 -- what holds of an unbuilt call, and of each call of a row on an object that is there, holds of a row on what it is called with
-pub row_by : (P : LibOut → Type 0) (r : Row) (a : Args) (m : Memory) (picks : List ℕ) → P unbuilt → ((j : ℕ) → HasObject r.object (situation a m picks j) → P (row_out r (situation a m picks j))) → P (called_row (Some r) a m picks)
+pub row_by : (P : LibOut → Type 0) (r : Row) (a : Args) (m : Memory) (picks : List ℕ) → P unbuilt
+    → ((j : ℕ) → HasObject r.object (situation a m picks j) → P (row_out r (situation a m picks j))) → P (called_row (Some r) a m picks)
 row_by P r a m picks none each = by_object (object_in m r.object a.object) refl
   where
     has_object : (o : Option Form) (j : ℕ) → object_in m o a.object ≡ Some j → HasObject o (situation a m picks j)

@@ -48,13 +48,16 @@ pub exec-sound : (w : World) → KeepsMemory w.lib → OwnKeepSound w → (a : S
 exec-sound w lib_keeps own_keeps a s h = in_exec IsSound w (leaves-sound w.lib lib_keeps) own_keeps write-sound end_from-sound a s h
 
 -- over a library that keeps memory, each call of a text's own function does
-pub call-sound : (l : Lib) → KeepsMemory l → (n : ℕ) (p : Typed) (f : ℕ) (at : Place) (vs : List Value) (s : State) → IsSound s.memory → InOut IsSound (call_of l n p f at vs s)
+pub call-sound : (l : Lib) → KeepsMemory l → (n : ℕ) (p : Typed) (f : ℕ) (at : Place) (vs : List Value) (s : State) → IsSound s.memory
+    → InOut IsSound (call_of l n p f at vs s)
 call-sound l lib_keeps n p f at vs s h = in_call IsSound l (leaves-sound l lib_keeps) write-sound end_from-sound n p f at vs s h
 
 -- over a library that keeps memory, a run ends in a sound memory
-pub run_over-sound : (l : Lib) → KeepsMemory l → (p : Typed) (input : List ℤ) (picks : List ℕ) (steps : ℕ) → InOut IsSound (call_of l CALLS p p.main first_place [] (empty_state input picks steps))
+pub run_over-sound : (l : Lib) → KeepsMemory l → (p : Typed) (input : List ℤ) (picks : List ℕ) (steps : ℕ)
+    → InOut IsSound (call_of l CALLS p p.main first_place [] (empty_state input picks steps))
 run_over-sound l lib_keeps p input picks steps = call-sound l lib_keeps CALLS p p.main first_place [] (empty_state input picks steps) empty-sound
 
 -- a run ends in a sound memory
-pub run-sound : (p : Typed) (input : List ℤ) (picks : List ℕ) (steps : ℕ) → InOut IsSound (call_of lib CALLS p p.main first_place [] (empty_state input picks steps))
+pub run-sound : (p : Typed) (input : List ℤ) (picks : List ℕ) (steps : ℕ)
+    → InOut IsSound (call_of lib CALLS p p.main first_place [] (empty_state input picks steps))
 run-sound p input picks steps = run_over-sound lib lib-leaves p input picks steps

@@ -10,9 +10,12 @@ use Rattle.sl_base.specs.declared.scalar.Scalar.{Scalar}
 use Rattle.sl_syntax.specs.declared.operator.Arithmetic.TheVariants as o
 use Rattle.sl_base.specs.declared.place.Place.{Place}
 use Rattle.sl_model.specs.Numbers.{is_zero, truth, converted, Answer, value, fault, operated, compared}
-use Rattle.sl_syntax.specs.Typed.{Head, Step, rise, fall, Fix, prefix, postfix, Expr, literal, held, iterator as iterator_held, convert, negate, logical_not, logical_and, logical_or, arithmetic, comparison, increment, move, call, own_call, first, second, container, reference, Left, scalar, element, Operands, none, with}
+use Rattle.sl_syntax.specs.Typed.{Head, Step, rise, fall, Fix, prefix, postfix, Expr, literal, held, iterator as iterator_held, convert, negate}
+use Rattle.sl_syntax.specs.Typed.{logical_not, logical_and, logical_or, arithmetic, comparison, increment, move, call, own_call, first, second}
+use Rattle.sl_syntax.specs.Typed.{container, reference, Left, scalar, element, Operands, none, with}
 use Rattle.sl_model.specs.Containers.{element as element_of, write_element}
-use Rattle.sl_model.specs.Values.{Value, number, iterator, pair, scalar_at, container_at, element_at, LibOut, Lib, trapped, thrown, faulted, gives, unbuilt}
+use Rattle.sl_model.specs.Values.{Value, number, iterator, pair, scalar_at, container_at, element_at, LibOut, Lib, trapped, thrown, faulted, gives}
+use Rattle.sl_model.specs.Values.{unbuilt}
 use Rattle.sl_model.specs.Ends.{End, Trapped, Language, Thrown, NoMeaning, trap_of}
 use Rattle.sl_model.specs.State.{State, scalar_of, cont_of, iter_of, scalar_value, set_scalar_at, set_iterator_at, stamp_of}
 

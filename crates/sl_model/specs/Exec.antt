@@ -6,18 +6,23 @@
 -- as numbers and texts go.
 -- Chosen here: each statement but a block takes a step when it starts, and each test of a loop takes one. Input is a list of
 -- ints, and a read fails at its end alone. A variable that couldn't be read keeps its number.
-use Rattle.std.specs.Prelude.{ℕ, zero, suc, ◌+◌, Bool, true, false, not, List, [], ◌∷◌, ◌++◌, length, ℤ, pos, Option, Some, None, unwrap_or, slice_index}
+use Rattle.std.specs.Prelude.{ℕ, zero, suc, ◌+◌, Bool, true, false, not, List, [], ◌∷◌, ◌++◌, length, ℤ, pos, Option, Some, None, unwrap_or}
+use Rattle.std.specs.Prelude.{slice_index}
 use Rattle.std.specs.Fmt.{signed_decimal}
 use Rattle.sl_base.specs.declared.scalar.Scalar.TheVariants as t
 use Rattle.sl_syntax.specs.declared.operator.Comparison.TheVariants as c
 use Rattle.sl_base.specs.declared.place.Place.{Place}
 use Rattle.sl_model.specs.Numbers.{is_zero, converted, operated}
-use Rattle.sl_syntax.specs.Typed.{Expr, held, scalar, Head, hidden, Operator, star, up, compares, Cond, read, not_read, test, always, Printed, text, endline, number as printed_number, Effect, reads, prints, evaluates, assigns, updates, moves_to, Declaration, unset_scalar, set_scalar, set_iterator, makes, First, no_first, declares_first, does_first, Stmt, block, declares, choice, choice_else, while, for, range_for, break, continue, gives_back, does, Stmts, no_more, followed}
+use Rattle.sl_syntax.specs.Typed.{Expr, held, scalar, Head, hidden, Operator, star, up, compares, Cond, read, not_read, test, always, Printed, text}
+use Rattle.sl_syntax.specs.Typed.{endline, number as printed_number, Effect, reads, prints, evaluates, assigns, updates, moves_to, Declaration}
+use Rattle.sl_syntax.specs.Typed.{unset_scalar, set_scalar, set_iterator, makes, First, no_first, declares_first, does_first, Stmt, block, declares}
+use Rattle.sl_syntax.specs.Typed.{choice, choice_else, while, for, range_for, break, continue, gives_back, does, Stmts, no_more, followed}
 use Rattle.sl_model.specs.Containers.{begin_of, end_of}
 use Rattle.sl_model.specs.Values.{Value, nothing, number, iterator}
 use Rattle.sl_model.specs.Ends.{End, OutOfSteps}
 use Rattle.sl_model.specs.State.{State, scalar_of, cont_of, iter_of, set_scalar_at, set_iterator_at, new_scalar, new_iterator, new_container, leave}
-use Rattle.sl_model.specs.Eval.{Out, Gives, Stops, World, then_eval, then_number, then_call, eval, reach, eval_all, use_library, read_at, write_at, answered, name_place}
+use Rattle.sl_model.specs.Eval.{Out, Gives, Stops, World, then_eval, then_number, then_call, eval, reach, eval_all, use_library, read_at, write_at}
+use Rattle.sl_model.specs.Eval.{answered, name_place}
 
 -- where a statement goes
 pub data Flow : Type 0 where

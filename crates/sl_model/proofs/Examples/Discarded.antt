@@ -3,7 +3,8 @@ use Rattle.std.specs.Prelude.{◌≡◌, refl, [], ◌∷◌, Some, None, pos, c
 use Rattle.sl_base.specs.declared.scalar.Scalar.TheVariants as t
 use Rattle.sl_syntax.specs.declared.operator.Arithmetic.TheVariants as o
 use Rattle.sl_syntax.specs.declared.operator.Comparison.TheVariants as c
-use Rattle.sl_syntax.specs.Typed.{rise, prefix, literal, held, arithmetic, comparison, increment, scalar, test, evaluates, unset_scalar, set_scalar, declares, does, does_first, for, Typed}
+use Rattle.sl_syntax.specs.Typed.{rise, prefix, literal, held, arithmetic, comparison, increment, scalar, test, evaluates, unset_scalar, set_scalar}
+use Rattle.sl_syntax.specs.Typed.{declares, does, does_first, for, Typed}
 use Rattle.sl_model.specs.Ends.{Done, Language, Trapped}
 use Rattle.sl_model.specs.Run.{run}
 use Rattle.sl_model.proofs.Examples.Short.{at, vector, push, start, deref, alone, finish, trap}
