@@ -107,8 +107,9 @@ module _ (ch : Change) (m : Memory) (j : ℕ) (c : Cont) (site : ℕ)
 
   -- nothing stands in the changed container and in another one
   not_both : (i p h s : ℕ) → j ≢ i → slice_get (stamps (changed m.fresh ch c c)) p ≡ Some s → IsAt m i h s → ⊥
-  not_both i p h s apart a b = let r =
-      changed_low m.fresh ch c orderly p s (sound.used i h s b) a in apart (sound.once j r.0 i h s (own_at r.0 s r.1) b).0
+  not_both i p h s apart a b =
+      let r = changed_low m.fresh ch c orderly p s (sound.used i h s b) a in
+      apart (sound.once j r.0 i h s (own_at r.0 s r.1) b).0
 
   -- nothing stands twice after the change
   once_after : (i k n h s : ℕ) → AfterAt ch m j c i k s → AfterAt ch m j c n h s → (i ≡ n) × (k ≡ h)

@@ -80,8 +80,7 @@ module _ (L : Level) (n : ℕ) (scalars_below : AreBelow L.frame.scalars L.scala
           scalars = let p : L.scalars ≤ length s.scalars = h.above.scalars in
               let q : length s.scalars + 1 ≤ length (new_scalar ty (Some z) s).scalars = a.scalars in omega arith;
           iters = h.above.iters;
-          conts =
-              h.above.conts;
+          conts = h.above.conts;
           later = a.later;
         };
         counts = counts_scalar (level_of s) ∙ ap one_scalar h.counts;
@@ -144,8 +143,8 @@ module _ (L : Level) (n : ℕ) (scalars_below : AreBelow L.frame.scalars L.scala
         sound = h.above.good.sound;
         scalars = h.above.good.scalars;
         iters = h.above.good.iters;
-        conts = below_one_more s.frame.conts l (length s.memory.conts) h.above.good.conts (let p : L.conts ≤ length s.memory.conts =
-            h.above.conts in let q : l < L.conts = conts_below x l there in omega arith);
+        conts = below_one_more s.frame.conts l (length s.memory.conts) h.above.good.conts
+            (let p : L.conts ≤ length s.memory.conts = h.above.conts in let q : l < L.conts = conts_below x l there in omega arith);
         apart = named_apart L.frame (xs ++ x ∷ []) (s.frame.conts ++ l ∷ []) named apart conts_apart;
         held = h.above.good.held;
       };

@@ -19,8 +19,9 @@ SameIn m n = (i : ℕ) (c : Cont) → slice_get m.conts i ≡ Some c → (d : Co
 
 -- what stands in a memory stands in one with the same stamps
 pub same_at : (m n : Memory) → SameIn m n → (j k s : ℕ) → IsAt m j k s → IsAt n j k s
-same_at m n same j k s h = let r =
-    same j h.cont h.there in record { cont = r.0; there = r.1; stands = ap (λ (l : List ℕ). slice_get l k) (sym r.2.0) ∙ h.stands }
+same_at m n same j k s h =
+    let r = same j h.cont h.there in
+    record { cont = r.0; there = r.1; stands = ap (λ (l : List ℕ). slice_get l k) (sym r.2.0) ∙ h.stands }
 
 -- a memory with the stamps of a sound one, and as many elements, is sound
 pub same_sound : (conts : List Cont) (m : Memory) → SameIn (record m { conts = conts }) m → IsSound m → IsSound (record m { conts = conts })

@@ -104,7 +104,8 @@ settle_call h vs unbuilt s = Stops (NoMeaning h.place) s
 
 -- a call of the library on operands
 abbrev pub use_library : Lib → Head → List Value → State → Out
-use_library lib h vs s = settle_call h vs (lib h.callee (record { site = h.site; object = option_map (cont_of s) h.object; values = vs }) s.memory s.picks) s
+use_library lib h vs s =
+    settle_call h vs (lib h.callee (record { site = h.site; object = option_map (cont_of s) h.object; values = vs }) s.memory s.picks) s
 
 -- one up or one down
 abbrev pub by_one : Step → ℤ
@@ -118,7 +119,8 @@ chosen postfix old new = old
 
 -- the number at a place goes up or down by one
 abbrev pub increased : Step → Fix → Scalar → Place → Value → ℤ → State → Out
-increased d x ty at l old s = then_number (answered at (operated o.Add ty old (by_one d)) s) (λ new s. Gives (chosen x (number old) (number new)) (write_at l new s))
+increased d x ty at l old s = then_number (answered at (operated o.Add ty old (by_one d)) s)
+    (λ new s. Gives (chosen x (number old) (number new)) (write_at l new s))
 
 -- an iterator variable takes the stamp that a call gave
 abbrev pub moved_to : Fix → ℕ → ℕ → Value → State → Out

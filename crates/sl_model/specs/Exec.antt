@@ -79,7 +79,10 @@ scoped site start (Over e s) = Over e s
 -- variables are read in turn until the input is at its end; then goes on with whether all were
 abbrev pub read_all : List ℕ → State → (Bool → Meaning) → Flow
 read_all [] s go = go true s
-read_all (x ∷ xs) s go = elim s.input as (λ _. Flow) [ [] ↦ go false s | z ∷ rest ↦ read_all xs (set_scalar_at (scalar_of s x) z (record s { input = rest })) go ]
+read_all (x ∷ xs) s go = elim s.input as (λ _. Flow) [
+  | [] ↦ go false s
+  | z ∷ rest ↦ read_all xs (set_scalar_at (scalar_of s x) z (record s { input = rest })) go
+]
 
 -- a condition, and what follows its answer
 abbrev pub tested : World → Cond → State → (Bool → Meaning) → Flow
@@ -152,7 +155,8 @@ after_body (Over e s) go = Over e s
 -- at most n turns of a loop; each test takes a step, so n steps and one are enough
 abbrev pub turns : ℕ → (State → (Bool → Meaning) → Flow) → Meaning → Meaning → Meaning
 turns zero check body last s = Over OutOfSteps s
-turns (suc n) check body last s = tick (λ s. check s (λ b. either_way b (λ s. after_body (body s) (λ s. and_then (last s) (turns n check body last))) Next)) s
+turns (suc n) check body last s =
+    tick (λ s. check s (λ b. either_way b (λ s. after_body (body s) (λ s. and_then (last s) (turns n check body last))) Next)) s
 
 -- a loop in a state
 abbrev pub loop : (State → (Bool → Meaning) → Flow) → Meaning → Meaning → Meaning
@@ -170,8 +174,10 @@ hidden_at s at = iterator (slice_index s.iters at)
 -- the element is read into the variable, the body runs, and the first iterator goes up
 abbrev pub over_range : World → Place → ℕ → ℕ → ℕ → ℕ → Meaning → Meaning
 over_range w at name b e x body = loop
-    (λ s go. flow_of (use_library w.lib (asks (compares c.NotEqual) at name) (hidden_at s b ∷ hidden_at s e ∷ []) s) (on_number (λ z. go (not (is_zero z)))))
-    (λ s. flow_of (then_eval (use_library w.lib (asks star at name) (hidden_at s b ∷ []) s) (read_at at)) (on_number (λ z s. body (set_scalar_at x z s))))
+    (λ s go.
+    flow_of (use_library w.lib (asks (compares c.NotEqual) at name) (hidden_at s b ∷ hidden_at s e ∷ []) s) (on_number (λ z. go (not (is_zero z)))))
+    (λ s.
+    flow_of (then_eval (use_library w.lib (asks star at name) (hidden_at s b ∷ []) s) (read_at at)) (on_number (λ z s. body (set_scalar_at x z s))))
     (λ s. flow_of (use_library w.lib (asks up at name) (hidden_at s b ∷ []) s) (on_stamp (λ stamp s. Next (set_iterator_at b stamp s))))
 
 -- the state in which the loop of a range-for over a container's location begins

@@ -180,7 +180,8 @@ abbrev mutual
   InStmt g shape c (choice k a) = InCond g c k × (IsPart a × InStmt g shape c a)
   InStmt g shape c (choice_else k a b) = InCond g c k × ((IsPart a × InStmt g shape c a) × (IsPart b × InStmt g shape c b))
   InStmt g shape c (while k a) = InCond g c k × (IsPart a × InStmt g shape c a)
-  InStmt g shape c (for head k last a) = InFirst g c head × (InCond g (with_first head c) k × (InLast g (with_first head c) last × (IsPart a × InStmt g shape (with_first head c) a)))
+  InStmt g shape c (for head k last a) = InFirst g c head × (InCond g (with_first head c) k
+      × (InLast g (with_first head c) last × (IsPart a × InStmt g shape (with_first head c) a)))
   InStmt g shape c (range_for x at name a) = (x < c.conts) × (AsksWell g × (IsPart a × InStmt g shape (with_range c) a))
   InStmt g shape c break = Unit {0}
   InStmt g shape c continue = Unit {0}

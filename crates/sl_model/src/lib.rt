@@ -1,4 +1,5 @@
-// What a run of a C++17 text with standard containers is. The definitions are in `specs/`, and some laws about them here.
+// What a run of a C++17 text with standard containers is. The definitions are in `specs/`, and some laws about them
+// here.
 #![tactic(auto)]
 
 mod laws;

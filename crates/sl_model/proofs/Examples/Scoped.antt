@@ -17,8 +17,10 @@ use Rattle.sl_model.proofs.Examples.Runs.{growth}
 -- a text of one function
 one_function : (p : Typed) (h : Function) → p.functions ≡ h ∷ [] → IsScopedFunction (signature_of lib_shape lib_makes p) h → (i : ℕ) (k : Function)
     → slice_get p.functions i ≡ Some k → IsScopedFunction (signature_of lib_shape lib_makes p) k
-one_function p h e scoped zero k g = let q : Some h ≡ Some k = sym (ap (λ l. slice_get l 0) e) ∙ g in let r : h ≡ k =
-    cc in subst (λ (x : Function). IsScopedFunction (signature_of lib_shape lib_makes p) x) r scoped
+one_function p h e scoped zero k g =
+    let q : Some h ≡ Some k = sym (ap (λ l. slice_get l 0) e) ∙ g in
+    let r : h ≡ k = cc in
+    subst (λ (x : Function). IsScopedFunction (signature_of lib_shape lib_makes p) x) r scoped
 one_function p h e scoped (suc i) k g = absurd (let q : None ≡ Some k = sym (ap (λ l. slice_get l (suc i)) e) ∙ g in cc)
 
 growth_is_scoped : IsScoped lib_shape lib_makes growth
