@@ -1,6 +1,6 @@
 -- The library keeps what holds of all states of a run: each row gives its shape and a stamp that was used, and it makes a
 -- container or leaves as many.
-use Rattle.std.proofs.Common.{◌≡◌, ℕ, ◌+◌, ◌≤◌, ◌==◌, Bool, true, false, List, [], ◌∷◌, ◌++◌, Option, Some, None, length, length-append, refl, arith}
+use Rattle.std.proofs.Common.{◌≡◌, ℕ, ◌+◌, ◌≤◌, Bool, true, false, List, [], ◌∷◌, ◌++◌, Option, Some, None, length, length-append, refl, arith}
 use Rattle.std.proofs.Common.{if◌then◌else◌}
 use Rattle.std.specs.Prelude.{ℤ, pos, nat_lt}
 use Rattle.std.proofs.Math.ListN.{length-set}

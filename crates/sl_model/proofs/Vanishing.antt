@@ -1,6 +1,6 @@
 -- No stamp vanishes: what stood in a container stands after an edit of it, or it was dropped at the edit's site, where the edit's
 -- class invalidates each element that goes.
-use Rattle.std.proofs.Common.{◌≡◌, ℕ, ◌+◌, ◌<◌, ◌≤◌, Bool, true, false, Some, refl, sym, arith, ◌⊎◌, inl, inr, ⊎_elim, subst}
+use Rattle.std.proofs.Common.{◌≡◌, ℕ, ◌+◌, ◌<◌, ◌≤◌, Bool, true, false, Some, refl, sym, ◌⊎◌, inl, inr, ⊎_elim, subst}
 use Rattle.std.specs.List.{slice_get}
 use Rattle.std.proofs.lemmas.Bool.{cases_eq, cases_lt, both_ways}
 use Rattle.sl_model.specs.Containers.{Cont, Memory, size}

@@ -5,7 +5,7 @@
 -- [iterator.requirements.general].
 -- Chosen here: types are told apart as far as their values are, so all types of numbers have one shape. For a call of the
 -- library, the shape goes by what is called, and so does whether it makes a container.
-use Rattle.std.specs.Prelude.{◌≡◌, ℕ, ◌==◌, Bool, false, List, [], ◌∷◌, ◌++◌, Option, Some, None, slice_get, if◌then◌else◌}
+use Rattle.std.specs.Prelude.{◌≡◌, ℕ, Bool, false, List, [], ◌∷◌, ◌++◌, Option, Some, None, slice_get}
 use Rattle.sl_syntax.specs.Typed.{Operator, star, arrow_first, arrow_second, up, down, plus, minus, plus_assign, minus_assign, apart, compares}
 use Rattle.sl_syntax.specs.Typed.{Callee, row, operator, hidden, Expr, iterator as iterator_held, move, call, own_call, first, container, reference}
 use Rattle.sl_syntax.specs.Typed.{Operands, none, with, Kind, by_value, by_reference, a_container, an_iterator, Function, Typed}

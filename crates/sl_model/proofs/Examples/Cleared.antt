@@ -1,6 +1,6 @@
 -- What a row has to be, by example: `clear` by a class that invalidates nothing is no row of a library, and by the class that
 -- invalidates all it is.
-use Rattle.std.proofs.Common.{◌≡◌, ℕ, ◌+◌, [], ◌∷◌, Some, refl, arith}
+use Rattle.std.proofs.Common.{◌≡◌, [], ◌∷◌, Some, refl, arith}
 use Rattle.std.specs.Prelude.{true, false, codes}
 use Rattle.sl_base.specs.declared.form.Form.TheVariants as f
 use Rattle.sl_model.specs.Edits.{Class, Nothing, AllAndEnd}
