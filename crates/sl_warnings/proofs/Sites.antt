@@ -1,5 +1,6 @@
 -- Sites in ascending order, and the sites of a set.
-use Rattle.std.proofs.Common.{arith, ◌≡◌, ◌≢◌, ℕ, zero, suc, ◌+◌, ◌-◌, ◌<◌, ◌≤◌, ◌||◌, ◌==◌, Bool, true, false, cond, List, [], ◌∷◌, ◌++◌, append_assoc, filter, refl, sym, ap, subst, ◌∙◌, ⊎_elim}
+use Rattle.std.proofs.Common.{arith, ◌≡◌, ◌≢◌, ℕ, zero, suc, ◌+◌, ◌-◌, ◌<◌, ◌≤◌, ◌||◌, ◌==◌, Bool, true, false, cond, List, [], ◌∷◌, ◌++◌}
+use Rattle.std.proofs.Common.{append_assoc, filter, refl, sym, ap, subst, ◌∙◌, ⊎_elim}
 use Rattle.std.specs.Prelude.{Contains, if◌then◌else◌}
 use Rattle.std.specs.Ordering.{nat_cmp}
 use Rattle.std.specs.Cmp.{nat_cmp_is, ranked}
@@ -101,7 +102,8 @@ by_answer true P f g = f refl
 by_answer false P f g = g refl
 
 -- the numbers that pass either of two tests
-joined-filter : (q r : ℕ → Bool) (end n i : ℕ) (p : ℕ → Bool) → i + n ≡ end → Gains p q r i end → joined (filter p (numbers 0 end)) (filter q (numbers i n)) ≡ filter r (numbers 0 end)
+joined-filter : (q r : ℕ → Bool) (end n i : ℕ) (p : ℕ → Bool) → i + n ≡ end → Gains p q r i end
+    → joined (filter p (numbers 0 end)) (filter q (numbers i n)) ≡ filter r (numbers 0 end)
 joined-filter q r end zero i p e g = filter-alike p r 0 end (λ s low high. sym (g.below s (omega arith)))
 joined-filter q r end (suc n) i p e g =
     let tail = filter q (numbers (i + 1) n) in
@@ -140,7 +142,8 @@ inserted-old y s (x ∷ xs) h =
 inserted-new : (y : ℕ) (xs : List ℕ) → Contains (inserted y xs) y
 inserted-new y [] = Contains-head y []
 inserted-new y (x ∷ xs) = by_order (Contains (inserted y (x ∷ xs)) y) (nat_cmp x y)
-    (λ less. subst (λ l. Contains l y) (sym (inserted-less y x xs (ranked x y Less (sym less)))) (Contains-cons x y (inserted y xs) (inserted-new y xs)))
+    (λ less. subst (λ l. Contains l y) (sym (inserted-less y x xs (ranked x y Less (sym less))))
+    (Contains-cons x y (inserted y xs) (inserted-new y xs)))
     (λ same.
     let e : x ≡ y = ranked x y Equal (sym same) in
     subst (λ l. Contains l y) (sym (inserted-equal y x xs e)) (subst (λ z. Contains (z ∷ xs) y) (sym e) (Contains-head y xs)))
@@ -204,7 +207,8 @@ unfolding sites_from
 sites_from-end k i h = ap (λ n. filter (has k) (numbers i n)) (let e : SITES - i ≡ 0 = omega arith in e)
 
 -- one site more, where the set has it
-pub sites_from-step : (k : Kills) (i : ℕ) (before all : List ℕ) → i < SITES → before ++ sites_from k i ≡ all → (before ++ (if has k i then i ∷ [] else [])) ++ sites_from k (i + 1) ≡ all
+pub sites_from-step : (k : Kills) (i : ℕ) (before all : List ℕ) → i < SITES → before ++ sites_from k i ≡ all
+    → (before ++ (if has k i then i ∷ [] else [])) ++ sites_from k (i + 1) ≡ all
 sites_from-step k i before all lt e =
     let rest = sites_from k (i + 1) in
     append_assoc before (if has k i then i ∷ [] else []) rest
@@ -223,11 +227,13 @@ filter-none p i zero h = refl
 filter-none p i (suc n) h = rw (h i (omega arith), filter-none p (i + 1) n (λ s low. h s (omega arith))) refl
 
 -- the numbers that pass, and one behind all of them
-filter-last : (p q : ℕ → Bool) (x i n : ℕ) → q x ≡ true → ((s : ℕ) → s ≢ x → q s ≡ p s) → ((s : ℕ) → x ≤ s → p s ≡ false) → i ≤ x → x < i + n → filter q (numbers i n) ≡ filter p (numbers i n) ++ x ∷ []
+filter-last : (p q : ℕ → Bool) (x i n : ℕ) → q x ≡ true → ((s : ℕ) → s ≢ x → q s ≡ p s) → ((s : ℕ) → x ≤ s → p s ≡ false) → i ≤ x → x < i + n
+    → filter q (numbers i n) ≡ filter p (numbers i n) ++ x ∷ []
 filter-last p q x i zero same others above low high = absurd (omega arith)
 filter-last p q x i (suc n) same others above low high = ⊎_elim
     (λ (here : i ≡ x).
-    let no_q : filter q (numbers (i + 1) n) ≡ [] = filter-none q (i + 1) n (λ s from. others s (let e : s ≢ x = omega arith in e) ∙ above s (omega arith)) in
+    let no_q : filter q (numbers (i + 1) n) ≡ [] =
+    filter-none q (i + 1) n (λ s from. others s (let e : s ≢ x = omega arith in e) ∙ above s (omega arith)) in
     let no_p : filter p (numbers (i + 1) n) ≡ [] = filter-none p (i + 1) n (λ s from. above s (omega arith)) in
     let passes : q i ≡ true = ap q here ∙ same in
     let fails : p i ≡ false = above i (omega arith) in
@@ -241,7 +247,8 @@ filter-last p q x i (suc n) same others above low high = ⊎_elim
     (cases_eq i x)
 
 -- the sites of a set, and one behind all of them
-pub sites_in-last : (k more : Kills) (x : ℕ) → has more x ≡ true → ((s : ℕ) → s ≢ x → has more s ≡ has k s) → ((s : ℕ) → x ≤ s → has k s ≡ false) → sites_in more ≡ sites_in k ++ x ∷ []
+pub sites_in-last : (k more : Kills) (x : ℕ) → has more x ≡ true → ((s : ℕ) → s ≢ x → has more s ≡ has k s) → ((s : ℕ) → x ≤ s → has k s ≡ false)
+    → sites_in more ≡ sites_in k ++ x ∷ []
 unfolding sites_in
 sites_in-last k more x same others above = filter-last (has k) (has more) x 0 SITES same others above (omega arith) (has-site more x same)
 

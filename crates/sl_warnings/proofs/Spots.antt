@@ -13,12 +13,13 @@ use Rattle.sl_base.specs.declared.place.Place.{Place}
 use Rattle.sl_model.specs.Covers.{Warning}
 use Rattle.sl_warnings.specs.declared.spot.Spot.{Spot}
 use Rattle.sl_warnings.specs.Reports.{warning_cmp, IsAscending}
-use Rattle.sl_warnings.specs.Views.{spot_cmp, spot_of}
+use Rattle.sl_warnings.specs.Means.Kept.{spot_cmp, spot_of}
 
 pub spot_cmp_total : IsTotalOrder spot_cmp
 spot_cmp_total =
     then_total (on_total (λ (s : Spot). s.line) nat_cmp_total)
-    (then_total (on_total (λ (s : Spot). s.col) nat_cmp_total) (then_total (on_total (λ (s : Spot). s.kind) nat_cmp_total) (on_total (λ (s : Spot). s.argument) nat_cmp_total)))
+    (then_total (on_total (λ (s : Spot). s.col) nat_cmp_total)
+    (then_total (on_total (λ (s : Spot). s.kind) nat_cmp_total) (on_total (λ (s : Spot). s.argument) nat_cmp_total)))
 
 pub warning_cmp_total : IsTotalOrder warning_cmp
 warning_cmp_total = on_total spot_of spot_cmp_total
@@ -67,7 +68,8 @@ same_spot v w h =
       argument = ranked v.argument w.argument Equal (sym (then-second (nat_cmp v.kind w.kind) _ last));
     }
 
-spots_after : (w : Warning) (ws : List Warning) → AllByRecursion (λ v. warning_cmp w v ≡ Less) ws → AllByRecursion (λ s. spot_cmp (spot_of w) s ≡ Less) (map spot_of ws)
+spots_after : (w : Warning) (ws : List Warning) → AllByRecursion (λ v. warning_cmp w v ≡ Less) ws
+    → AllByRecursion (λ s. spot_cmp (spot_of w) s ≡ Less) (map spot_of ws)
 spots_after w [] h = tt
 spots_after w (v ∷ vs) h = (h.0, spots_after w vs h.1)
 
