@@ -11,6 +11,7 @@ usage, from any folder:
   tools/believed.py              crate by crate the files, and for each definition how many lines it has
   tools/believed.py --markdown   the same as it stands in docs/PROVED.md
   tools/believed.py --check      whether docs/PROVED.md has that list
+  tools/believed.py --write      puts it there
 
 The status is 1 where a definition of a folder specs/Means is among them, which only follows the code, or where docs/PROVED.md has
 another list; and 2 where a name leads nowhere.
@@ -308,33 +309,55 @@ def markdown(closure, traits):
     return "\n".join(lines)
 
 
-def is_on_page(text):
+def page_with(text):
+    """The page as it is, and as it is with this list."""
     page = PAGE.read_text(encoding="utf-8")
-    return f"{BEGIN}\n{text}\n{END}\n" in page
+    before, begin, rest = page.partition(f"{BEGIN}\n")
+    _, end, behind = rest.partition(f"{END}\n")
+    if not begin or not end:
+        raise NotFound(f"the place of the list in {PAGE.name}")
+    return page, f"{before}{begin}{text}\n{end}{behind}"
+
+
+def rests_on_means(closure):
+    """The files of the folders specs/Means that definitions are found in."""
+    paths = {closure.specs[it.module].path for it in closure.found}
+    return sorted(str(it.relative_to(TOP)) for it in paths if "Means" in it.parts)
+
+
+def tell(what):
+    print(f"tools/believed.py: {what}", file=sys.stderr)
+
+
+def run(command):
+    closure, traits = believed()
+    status = 0
+    if not command:
+        plain(closure, traits)
+    elif command == "--markdown":
+        print(markdown(closure, traits))
+    else:
+        page, wanted = page_with(markdown(closure, traits))
+        if command == "--write":
+            PAGE.write_text(wanted, encoding="utf-8")
+        elif page != wanted:
+            tell(f"{PAGE.name} has another list: tools/believed.py --write puts the right one there")
+            status = 1
+    for path in rests_on_means(closure):
+        tell(f"the main theorem rests on {path}")
+        status = 1
+    return status
 
 
 def main(words):
-    if words not in ([], ["--markdown"], ["--check"]):
+    if len(words) > 1 or words[:1] not in ([], ["--markdown"], ["--check"], ["--write"]):
         print(__doc__, file=sys.stderr)
         return 2
     try:
-        closure, traits = believed()
+        return run(words[0] if words else "")
     except NotFound as name:
-        print(f"tools/believed.py: {name} stands nowhere", file=sys.stderr)
+        tell(f"{name} stands nowhere")
         return 2
-    status = 0
-    if not words:
-        plain(closure, traits)
-    elif words == ["--markdown"]:
-        print(markdown(closure, traits))
-    elif not is_on_page(markdown(closure, traits)):
-        print("tools/believed.py: docs/PROVED.md has another list: put that of --markdown in its place", file=sys.stderr)
-        status = 1
-    for path in sorted({closure.specs[it.module].path for it in closure.found}):
-        if "Means" in path.parts:
-            print(f"tools/believed.py: the main theorem rests on {path.relative_to(TOP)}", file=sys.stderr)
-            status = 1
-    return status
 
 
 if __name__ == "__main__":
