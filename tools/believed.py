@@ -160,7 +160,10 @@ class Closure:
     def imported(self, names, word):
         """What a word stands for by the names that a text imports."""
         if word in names.imported:
-            return self.lookup(*names.imported[word])
+            found = self.lookup(*names.imported[word])
+            if not found:
+                raise NotFound(".".join(names.imported[word]))
+            return found
         first, _, rest = word.partition(".")
         if rest and first in names.modules:
             return self.lookup(names.modules[first], rest.split(".")[0])
