@@ -6,7 +6,7 @@ use Rattle.sl_base.specs.declared.token.Token.{Token}
 use Rattle.sl_syntax.specs.declared.tree.function.ResultType.{ResultType}
 use Rattle.sl_syntax.specs.declared.tree.function.ResultType.TheVariants as z
 use Rattle.sl_syntax.specs.Depth.{function_height, depth}
-use Rattle.sl_syntax.specs.Kinds.{kind_of}
+use Rattle.sl_syntax.specs.TokenKinds.{kind_of}
 use Rattle.sl_syntax.specs.Placed.{Placed}
 use Rattle.sl_syntax.specs.Shaped.{Each, IsFunction, AreSome, Shaped}
 use Rattle.sl_syntax.specs.Tree.{Function, Program}

@@ -5,7 +5,7 @@ use Rattle.sl_base.specs.declared.mark.Mark.TheVariants as m
 use Rattle.sl_base.specs.declared.place.Place.{Place}
 use Rattle.sl_base.specs.declared.scalar.Scalar.{Scalar}
 use Rattle.sl_base.specs.declared.token.Token.{Token}
-use Rattle.sl_syntax.specs.declared.kind.Kind.TheVariants as k
+use Rattle.sl_syntax.specs.declared.token_kind.TokenKind.TheVariants as k
 use Rattle.sl_syntax.specs.declared.tree.identifier.Identifier.{Identifier}
 use Rattle.sl_syntax.specs.Depth.{height, option_height, effect_height, cond_height, stmt_height}
 use Rattle.sl_syntax.specs.Shaped.{IfThere, ends_open, IsExpr, IsEffect, IsCond, IsFirst, IsStmt}

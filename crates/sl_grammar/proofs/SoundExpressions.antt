@@ -5,8 +5,8 @@ use Rattle.std.proofs.lemmas.Bool.{ltb-true, ltb-false}
 use Rattle.sl_base.specs.declared.mark.Mark.TheVariants as m
 use Rattle.sl_base.specs.declared.token.Token.{Token}
 use Rattle.sl_base.specs.declared.word.Word.TheVariants as w
-use Rattle.sl_syntax.specs.declared.kind.Kind.{Kind}
-use Rattle.sl_syntax.specs.declared.kind.Kind.TheVariants as k
+use Rattle.sl_syntax.specs.declared.token_kind.TokenKind.{TokenKind}
+use Rattle.sl_syntax.specs.declared.token_kind.TokenKind.TheVariants as k
 use Rattle.sl_syntax.specs.declared.operator.BinaryOperator.{BinaryOperator}
 use Rattle.sl_syntax.specs.declared.operator.PostfixOperator.{PostfixOperator}
 use Rattle.sl_syntax.specs.declared.operator.PostfixOperator.TheVariants as postfix
@@ -132,7 +132,7 @@ module _ (inner smaller : ℕ → Reader (Tall Expr)) (room : ℕ) (f : Finds in
         goes = omega (arith, goes-low (kind_at (drop 1 us)));
       })
 
-  piece-by : (kind : Kind) (y : Took Expr) → Part written IsExpr height room ts left us → left.1 < room → goes_on kind ≤ level left.0
+  piece-by : (kind : TokenKind) (y : Took Expr) → Part written IsExpr height room ts left us → left.1 < room → goes_on kind ≤ level left.0
       → kind_at us ≡ kind → piece_by inner smaller room left kind us ≡ Ok y → Longer (goes_on kind) y
   piece-by (k.Mark m.PlusPlus) y first below goes e h = postfix-longer postfix.Increment y first below goes e h
   piece-by (k.Mark m.MinusMinus) y first below goes e h = postfix-longer postfix.Decrement y first below goes e h

@@ -9,8 +9,8 @@ use Rattle.sl_base.specs.declared.scalar.Scalar.TheVariants as c
 use Rattle.sl_base.specs.declared.token.Token.{Token}
 use Rattle.sl_base.specs.declared.word.Word.{Word}
 use Rattle.sl_base.specs.declared.word.Word.TheVariants as w
-use Rattle.sl_syntax.specs.declared.kind.Kind.{Kind}
-use Rattle.sl_syntax.specs.declared.kind.Kind.TheVariants as k
+use Rattle.sl_syntax.specs.declared.token_kind.TokenKind.{TokenKind}
+use Rattle.sl_syntax.specs.declared.token_kind.TokenKind.TheVariants as k
 use Rattle.sl_syntax.specs.declared.tree.identifier.Identifier.{Identifier}
 use Rattle.sl_syntax.specs.Depth.{height, option_height, effect_height, cond_height, first_height}
 use Rattle.sl_syntax.specs.Shaped.{IsExpr, IfThere, IsEffect, IsCond, IsFirst}
@@ -39,7 +39,7 @@ abbrev pub type_word : Option Scalar → Word
 type_word None = w.Key (codes "auto")
 type_word (Some scalar) = scalar_word scalar
 
-abbrev pub type_kind : Option Scalar → Kind
+abbrev pub type_kind : Option Scalar → TokenKind
 type_kind None = k.Auto
 type_kind (Some scalar) = k.Scalar scalar
 
@@ -190,7 +190,7 @@ module _ (inner : Reader (Tall Stmt)) (room : ℕ) (f : Finds inner room) where
       for_behind-found ts x.1 (Some (t.first_effect x.0.0), x.0.1) y
       (record { spelled = opened ⨾ found.spelled; fits = found.fits; size = found.size; low = found.low }) h1)
 
-  for-by : (kind : Kind) (ts us : List Token) (y : Took Stmt) → Spelled (opened_written (here ts)) ts us → kind_at us ≡ kind
+  for-by : (kind : TokenKind) (ts us : List Token) (y : Took Stmt) → Spelled (opened_written (here ts)) ts us → kind_at us ≡ kind
       → for_by inner room (here ts) kind us ≡ Ok y → FoundStmt (room + 1) ts y.0 y.1
   for-by (k.Scalar scalar) ts us y opened e h = declared-found (Some scalar) ts us y opened e h
   for-by k.Auto ts us y opened e h = declared-found None ts us y opened e h

@@ -5,8 +5,8 @@ use Rattle.std.proofs.lemmas.Bool.{ltb-true, ltb-false}
 use Rattle.sl_base.specs.declared.mark.Mark.TheVariants as m
 use Rattle.sl_base.specs.declared.token.Token.{Token}
 use Rattle.sl_base.specs.declared.word.Word.TheVariants as w
-use Rattle.sl_syntax.specs.declared.kind.Kind.{Kind}
-use Rattle.sl_syntax.specs.declared.kind.Kind.TheVariants as k
+use Rattle.sl_syntax.specs.declared.token_kind.TokenKind.{TokenKind}
+use Rattle.sl_syntax.specs.declared.token_kind.TokenKind.TheVariants as k
 use Rattle.sl_syntax.specs.declared.operator.BinaryOperator.{BinaryOperator}
 use Rattle.sl_syntax.specs.declared.operator.Selector.TheVariants as selector
 use Rattle.sl_syntax.specs.Depth.{height}
@@ -103,7 +103,7 @@ module _ (inner smaller : ℕ → Reader (Tall Expr)) (room : ℕ) (f : Finds in
       ⨠ at_once (s.named some_name ∷ []) (drop 1 us) n (identifier_fault (drop 1 us) n h1)))
       (λ x name h1. no_fault _ n P h1)
 
-  piece-by : (kind : Kind) (n : ℕ) → Part written IsExpr height room ts left us → left.1 < room → goes_on kind ≤ level left.0
+  piece-by : (kind : TokenKind) (n : ℕ) → Part written IsExpr height room ts left us → left.1 < room → goes_on kind ≤ level left.0
       → kind_at us ≡ kind → piece_by inner smaller room left kind us ≡ Err (Grammar n) → Further (goes_on kind) n
   piece-by (k.Mark m.PlusPlus) n first below goes e h = no_fault _ n (Further 8 n) h
   piece-by (k.Mark m.MinusMinus) n first below goes e h = no_fault _ n (Further 8 n) h

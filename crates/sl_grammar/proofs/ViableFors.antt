@@ -7,8 +7,8 @@ use Rattle.sl_base.specs.declared.place.Place.{Place}
 use Rattle.sl_base.specs.declared.scalar.Scalar.{Scalar}
 use Rattle.sl_base.specs.declared.token.Token.{Token}
 use Rattle.sl_base.specs.declared.word.Word.TheVariants as w
-use Rattle.sl_syntax.specs.declared.kind.Kind.{Kind}
-use Rattle.sl_syntax.specs.declared.kind.Kind.TheVariants as k
+use Rattle.sl_syntax.specs.declared.token_kind.TokenKind.{TokenKind}
+use Rattle.sl_syntax.specs.declared.token_kind.TokenKind.TheVariants as k
 use Rattle.sl_syntax.specs.declared.tree.identifier.Identifier.{Identifier}
 use Rattle.sl_syntax.specs.Depth.{cond_height, effect_height, first_height, height, option_height, stmt_height}
 use Rattle.sl_syntax.specs.Shaped.{IfThere, IsCond, IsEffect, IsExpr, IsFirst, IsStmt}
@@ -204,7 +204,7 @@ module _ (inner : Reader (Tall Stmt)) (room : ℕ) (f : Finds inner room) (high 
       for_behind-begun ts x.1 (Some (t.first_effect x.0.0), x.0.1) n
       (record { spelled = opened ⨾ found.spelled; fits = found.fits; size = found.size; low = found.low }) h1)
 
-  for-by : (kind : Kind) (ts us : List Token) (n : ℕ) → Spelled (opened_written (here ts)) ts us → kind_at us ≡ kind
+  for-by : (kind : TokenKind) (ts us : List Token) (n : ℕ) → Spelled (opened_written (here ts)) ts us → kind_at us ≡ kind
       → for_by inner room (here ts) kind us ≡ Err (Grammar n) → Viable (LowStmt (room + 1)) stmt_written ts n
   for-by (k.Scalar scalar) ts us n opened e h = declared-begun (Some scalar) ts us n opened e h
   for-by k.Auto ts us n opened e h = declared-begun None ts us n opened e h

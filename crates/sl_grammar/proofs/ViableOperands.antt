@@ -5,8 +5,8 @@ use Rattle.std.proofs.lemmas.Bool.{ltb-true}
 use Rattle.sl_base.specs.declared.mark.Mark.TheVariants as m
 use Rattle.sl_base.specs.declared.token.Token.{Token}
 use Rattle.sl_base.specs.declared.word.Word.TheVariants as w
-use Rattle.sl_syntax.specs.declared.kind.Kind.{Kind}
-use Rattle.sl_syntax.specs.declared.kind.Kind.TheVariants as k
+use Rattle.sl_syntax.specs.declared.token_kind.TokenKind.{TokenKind}
+use Rattle.sl_syntax.specs.declared.token_kind.TokenKind.TheVariants as k
 use Rattle.sl_syntax.specs.declared.operator.PrefixOperator.{PrefixOperator}
 use Rattle.sl_syntax.specs.declared.operator.PrefixOperator.TheVariants as prefix
 use Rattle.sl_syntax.specs.Depth.{height}
@@ -149,7 +149,7 @@ module _ (inner smaller : ℕ → Reader (Tall Expr)) (room : ℕ) (f : Finds in
       (λ x read h2. no_fault _ n P h2))
       (λ _ e1. viable some_expr (tt, omega arith, omega arith) (at_once (written some_expr) ts n e1))
 
-  operand-by : (kind : Kind) (ts : List Token) (n : ℕ) → kind_at ts ≡ kind → operand_by inner smaller room kind ts ≡ Err (Grammar n)
+  operand-by : (kind : TokenKind) (ts : List Token) (n : ℕ) → kind_at ts ≡ kind → operand_by inner smaller room kind ts ≡ Err (Grammar n)
       → Viable (Tight room 7) written ts n
   operand-by k.Number ts n e h = no_fault _ n (Viable (Tight room 7) written ts n) h
   operand-by (k.Truth v) ts n e h = no_fault _ n (Viable (Tight room 7) written ts n) h

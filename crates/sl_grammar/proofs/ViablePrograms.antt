@@ -4,8 +4,8 @@ use Rattle.sl_base.specs.declared.limits.TheConstants.{TREE_DEPTH}
 use Rattle.sl_base.specs.declared.mark.Mark.TheVariants as m
 use Rattle.sl_base.specs.declared.place.Place.{Place}
 use Rattle.sl_base.specs.declared.token.Token.{Token}
-use Rattle.sl_syntax.specs.declared.kind.Kind.{Kind}
-use Rattle.sl_syntax.specs.declared.kind.Kind.TheVariants as k
+use Rattle.sl_syntax.specs.declared.token_kind.TokenKind.{TokenKind}
+use Rattle.sl_syntax.specs.declared.token_kind.TokenKind.TheVariants as k
 use Rattle.sl_syntax.specs.declared.tree.function.Param.{Param}
 use Rattle.sl_syntax.specs.declared.tree.function.ResultType.{ResultType}
 use Rattle.sl_syntax.specs.declared.tree.function.ResultType.TheVariants as z
@@ -78,7 +78,7 @@ function-begun result ts n e h =
     (head ⨠ (given.spelled ⨠ (mark_plain m.RightParenthesis ps.1 v closed ⨠ begun b))))
     (λ b body h5. no_fault _ n P h5)))))
 
-function-by : (kind : Kind) (ts : List Token) (n : ℕ) → kind_at ts ≡ kind → function_by kind ts ≡ Err (Grammar n)
+function-by : (kind : TokenKind) (ts : List Token) (n : ℕ) → kind_at ts ≡ kind → function_by kind ts ≡ Err (Grammar n)
     → Viable LowFunction function_written ts n
 function-by k.Void ts n e h = function-begun z.Void ts n e h
 function-by (k.Scalar scalar) ts n e h = function-begun (z.Scalar scalar) ts n e h

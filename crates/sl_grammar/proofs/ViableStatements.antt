@@ -7,8 +7,8 @@ use Rattle.sl_base.specs.declared.place.Place.{Place}
 use Rattle.sl_base.specs.declared.token.Token.{Token}
 use Rattle.sl_base.specs.declared.word.Word.{Word}
 use Rattle.sl_base.specs.declared.word.Word.TheVariants as w
-use Rattle.sl_syntax.specs.declared.kind.Kind.{Kind}
-use Rattle.sl_syntax.specs.declared.kind.Kind.TheVariants as k
+use Rattle.sl_syntax.specs.declared.token_kind.TokenKind.{TokenKind}
+use Rattle.sl_syntax.specs.declared.token_kind.TokenKind.TheVariants as k
 use Rattle.sl_syntax.specs.Depth.{stmt_height}
 use Rattle.sl_syntax.specs.Shaped.{IsStmt, ends_open}
 use Rattle.sl_syntax.specs.Tree as t
@@ -168,7 +168,7 @@ module _ (inner : Reader (Tall Stmt)) (room : ℕ) (f : Finds inner room) (g : F
       faulted (mark m.Semicolon (drop 1 ts)) _ n P h (λ h1. go (first ⨠ at_once _ (drop 1 ts) n (mark_fault m.Semicolon (drop 1 ts) n h1)))
       (λ u close h1. no_fault _ n P h1)
 
-  stmt-by : (kind : Kind) (ts : List Token) (n : ℕ) → kind_at ts ≡ kind → stmt_by inner room kind ts ≡ Err (Grammar n)
+  stmt-by : (kind : TokenKind) (ts : List Token) (n : ℕ) → kind_at ts ≡ kind → stmt_by inner room kind ts ≡ Err (Grammar n)
       → Viable (LowStmt (room + 1)) stmt_written ts n
   stmt-by (k.Mark m.LeftBrace) ts n e h = block-begun ts n h
   stmt-by k.If ts n e h = choice-begun ts n e h

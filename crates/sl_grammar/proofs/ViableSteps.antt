@@ -5,8 +5,8 @@ use Rattle.std.proofs.lemmas.List.{append-nil, map-append}
 use Rattle.sl_base.specs.declared.mark.Mark.{Mark}
 use Rattle.sl_base.specs.declared.token.Token.{Token}
 use Rattle.sl_base.specs.declared.word.Word.{Word}
-use Rattle.sl_syntax.specs.declared.kind.Kind.{Kind}
-use Rattle.sl_syntax.specs.declared.kind.Kind.TheVariants as k
+use Rattle.sl_syntax.specs.declared.token_kind.TokenKind.{TokenKind}
+use Rattle.sl_syntax.specs.declared.token_kind.TokenKind.TheVariants as k
 use Rattle.sl_syntax.specs.declared.tree.identifier.Identifier.{Identifier}
 use Rattle.sl_syntax.specs.Begins.{words_in}
 use Rattle.sl_syntax.specs.Blank.{nowhere}
@@ -152,7 +152,7 @@ pub mark_fault : (x : Mark) (ts : List Token) (n : ℕ) → mark x ts ≡ Err (G
 unfolding mark
 mark_fault x ts n h = tested (is_mark x (kind_at ts)) _ (length ts) n (length ts ≡ n) h (λ _ h1. no_fault _ n (length ts ≡ n) h1) (λ _ e. e)
 
-name_fault : (kind : Kind) (ts : List Token) (n : ℕ) → identifier_by kind ts ≡ Err (Grammar n) → length ts ≡ n
+name_fault : (kind : TokenKind) (ts : List Token) (n : ℕ) → identifier_by kind ts ≡ Err (Grammar n) → length ts ≡ n
 name_fault k.Name ts n h = absurd cc
 name_fault _ ts n h = cc
 
@@ -160,7 +160,7 @@ pub identifier_fault : (ts : List Token) (n : ℕ) → identifier ts ≡ Err (Gr
 unfolding identifier
 identifier_fault ts n h = name_fault (kind_at ts) ts n h
 
-lib_fault : (kind : Kind) (ts : List Token) (n : ℕ) → library_by kind ts ≡ Err (Grammar n) → length ts ≡ n
+lib_fault : (kind : TokenKind) (ts : List Token) (n : ℕ) → library_by kind ts ≡ Err (Grammar n) → length ts ≡ n
 lib_fault k.Library ts n h = absurd cc
 lib_fault _ ts n h = cc
 
@@ -178,7 +178,7 @@ abbrev pub Low : {A : Type 0} → (A → Type 0) → (A → ℕ) → ℕ → Lis
 Low Fits height room items = Each Fits items × (highest height items ≤ room)
 
 -- where one item stops at a fault, items begin
-module _ {A : Type 0} (written : A → List Written) (Fits : A → Type 0) (height : A → ℕ) (room : ℕ) (goes : Kind → Bool) (item : Reader (Tall A))
+module _ {A : Type 0} (written : A → List Written) (Fits : A → Type 0) (height : A → ℕ) (room : ℕ) (goes : TokenKind → Bool) (item : Reader (Tall A))
     (f : Parts written Fits height room item)
     (stops : (ts : List Token) (n : ℕ) → item ts ≡ Err (Grammar n) → Viable (Low Fits height room) (flat_map written) ts n) where
   repeat-viable : (turns : ℕ) (done : Tall (List A)) (ts : List Token) (n : ℕ) → repeat goes item turns done ts ≡ Err (Grammar n)
@@ -204,7 +204,7 @@ module _ {A : Type 0} (written : A → List Written) (Fits : A → Type 0) (heig
       → Viable (Low Fits height room) (flat_map written) ts n
   row-viable done ts n h = repeat-viable (length ts) done ts n h
 
-module _ {A : Type 0} (written : A → List Written) (Fits : A → Type 0) (height : A → ℕ) (room : ℕ) (goes : Kind → Bool) (item : Reader (Tall A))
+module _ {A : Type 0} (written : A → List Written) (Fits : A → Type 0) (height : A → ℕ) (room : ℕ) (goes : TokenKind → Bool) (item : Reader (Tall A))
     (f : Parts written Fits height room item) (stops : Stops written Fits height room item) where
   alone-viable : (ts : List Token) (n : ℕ) → item ts ≡ Err (Grammar n) → Viable (Low Fits height room) (flat_map written) ts n
   alone-viable ts n h =

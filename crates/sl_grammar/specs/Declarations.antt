@@ -5,8 +5,8 @@ use Rattle.sl_base.specs.declared.mark.Mark.TheVariants as m
 use Rattle.sl_base.specs.declared.place.Place.{Place}
 use Rattle.sl_base.specs.declared.scalar.Scalar.{Scalar}
 use Rattle.sl_base.specs.declared.scalar.Scalar.TheVariants as c
-use Rattle.sl_syntax.specs.declared.kind.Kind.{Kind}
-use Rattle.sl_syntax.specs.declared.kind.Kind.TheVariants as k
+use Rattle.sl_syntax.specs.declared.token_kind.TokenKind.{TokenKind}
+use Rattle.sl_syntax.specs.declared.token_kind.TokenKind.TheVariants as k
 use Rattle.sl_syntax.specs.declared.tree.declaration.ContainerType.{ContainerType}
 use Rattle.sl_syntax.specs.declared.tree.function.Param.{Param}
 use Rattle.sl_syntax.specs.declared.tree.function.Param.TheVariants as r
@@ -16,7 +16,7 @@ use Rattle.sl_syntax.specs.Written.{is_map}
 use Rattle.sl_grammar.specs.Expressions.{expr, list, list_before}
 use Rattle.sl_grammar.specs.Steps.{Reader, Tall, ◌>>=◌, ◌>>◌, pure, refuse, only, skip, kind_at, here, is_mark, mark, identifier, all_behind}
 
-abbrev pub int_by : Kind → Reader (Unit {0})
+abbrev pub int_by : TokenKind → Reader (Unit {0})
 int_by (k.Scalar c.Int) = skip
 int_by _ = refuse
 
@@ -75,7 +75,7 @@ module _ (room : ℕ) where
     mark m.RightBrace
     pure (t.braces equal xs.0, xs.1)
 
-  abbrev pub behind_equal_by : Kind → Reader (Tall Initializer)
+  abbrev pub behind_equal_by : TokenKind → Reader (Tall Initializer)
   behind_equal_by k.Name = identifier >>= (λ x. pure (t.copies x, 0))
   behind_equal_by (k.Mark m.LeftBrace) = skip >> braces true
   behind_equal_by _ = refuse
@@ -87,7 +87,7 @@ module _ (room : ℕ) where
     mark m.RightParenthesis
     pure (t.arguments xs.0, xs.1)
 
-  abbrev pub initializer_by : Kind → Reader (Tall Initializer)
+  abbrev pub initializer_by : TokenKind → Reader (Tall Initializer)
   initializer_by (k.Mark m.Equal) = skip >> (λ ts. behind_equal_by (kind_at ts) ts)
   initializer_by (k.Mark m.LeftBrace) = skip >> braces false
   initializer_by (k.Mark m.LeftParenthesis) = constructed
@@ -122,7 +122,7 @@ container_param form = do
   x ← identifier
   pure (r.Container type x, 2)
 
-abbrev pub container_by : Kind → Reader ContainerType
+abbrev pub container_by : TokenKind → Reader ContainerType
 container_by (k.Container form) = container_type form
 container_by _ = refuse
 
@@ -134,7 +134,7 @@ const_param = λ ts. (do
   x ← identifier
   pure (r.ConstContainer (here ts) type x, 2)) ts
 
-abbrev pub param_by : Kind → Reader (Tall Param)
+abbrev pub param_by : TokenKind → Reader (Tall Param)
 param_by (k.Scalar scalar) = λ ts. (skip >> scalar_param (here ts) scalar) ts
 param_by (k.Container form) = container_param form
 param_by k.Const = const_param

@@ -2,8 +2,8 @@
 use Rattle.std.specs.Prelude.{ℕ, ◌+◌, ◌&&◌, max, nat_lt, drop, Bool, true, false, List, [], ◌∷◌, Option, Some, None, if◌then◌else◌, Ok}
 use Rattle.sl_base.specs.declared.mark.Mark.TheVariants as m
 use Rattle.sl_base.specs.declared.token.Token.{Token}
-use Rattle.sl_syntax.specs.declared.kind.Kind.{Kind}
-use Rattle.sl_syntax.specs.declared.kind.Kind.TheVariants as k
+use Rattle.sl_syntax.specs.declared.token_kind.TokenKind.{TokenKind}
+use Rattle.sl_syntax.specs.declared.token_kind.TokenKind.TheVariants as k
 use Rattle.sl_syntax.specs.declared.operator.Arithmetic.TheVariants as a
 use Rattle.sl_syntax.specs.declared.operator.Assignment.{Assignment}
 use Rattle.sl_syntax.specs.declared.operator.Assignment.TheVariants as g
@@ -29,12 +29,12 @@ read room = λ ts. only (nat_lt 0 room) (do
   pure (record { place = here ts; variables = xs.0 }, 1)) ts
 
 -- the word is `std::cin`
-abbrev pub is_input : Kind → Bool
+abbrev pub is_input : TokenKind → Bool
 is_input k.Input = true
 is_input _ = false
 
 module _ (room : ℕ) where
-  abbrev pub out_by : Kind → Reader (Tall Out)
+  abbrev pub out_by : TokenKind → Reader (Tall Out)
   out_by k.Text = λ ts. Ok ((t.text (here ts) (text_at ts), 0), drop 1 ts)
   out_by k.EndLine = λ ts. Ok ((t.end_line (here ts), 0), drop 1 ts)
   out_by _ = expr room 5 >>= (λ x. pure (t.value x.0, x.1))
@@ -53,7 +53,7 @@ module _ (room : ℕ) where
     pure (t.prints (here ts) xs.0, xs.1 + 1)) ts
 
   -- the operator of an assignment that a word is
-  abbrev pub assignment_of : Kind → Option Assignment
+  abbrev pub assignment_of : TokenKind → Option Assignment
   assignment_of (k.Mark m.Equal) = Some g.Set
   assignment_of (k.Mark m.PlusEqual) = Some (g.Update a.Add)
   assignment_of (k.Mark m.MinusEqual) = Some (g.Update a.Subtract)
@@ -73,7 +73,7 @@ module _ (room : ℕ) where
   unfoldable pub assigned : Tall Expr → Reader (Tall Effect)
   assigned left = λ ts. assigned_by left (assignment_of (kind_at ts)) ts
 
-  abbrev pub effect_by : Kind → Reader (Tall Effect)
+  abbrev pub effect_by : TokenKind → Reader (Tall Effect)
   effect_by k.Input = read room >>= (λ r. pure (t.reads r.0, r.1))
   effect_by k.Output = print
   effect_by _ = expr (room + 1) 1 >>= assigned
@@ -93,7 +93,7 @@ module _ (room : ℕ) where
     mark m.RightParenthesis
     pure (t.tests_no_read (here ts) r.0, 2)) ts
 
-  abbrev pub cond_by : Kind → Reader (Tall Cond)
+  abbrev pub cond_by : TokenKind → Reader (Tall Cond)
   cond_by k.Input = read room >>= (λ r. pure (t.tests_read r.0, r.1))
   cond_by _ = λ ts.
       if nat_lt 1 room && begins_no_read ts then no_read ts

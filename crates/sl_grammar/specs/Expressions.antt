@@ -3,8 +3,8 @@ use Rattle.std.specs.Prelude.{ℕ, zero, suc, ◌+◌, ◌-◌, max, nat_lt, dro
 use Rattle.sl_base.specs.declared.mark.Mark.{Mark}
 use Rattle.sl_base.specs.declared.mark.Mark.TheVariants as m
 use Rattle.sl_base.specs.declared.place.Place.{Place}
-use Rattle.sl_syntax.specs.declared.kind.Kind.{Kind}
-use Rattle.sl_syntax.specs.declared.kind.Kind.TheVariants as k
+use Rattle.sl_syntax.specs.declared.token_kind.TokenKind.{TokenKind}
+use Rattle.sl_syntax.specs.declared.token_kind.TokenKind.TheVariants as k
 use Rattle.sl_syntax.specs.declared.operator.Arithmetic.TheVariants as a
 use Rattle.sl_syntax.specs.declared.operator.BinaryOperator.{BinaryOperator}
 use Rattle.sl_syntax.specs.declared.operator.BinaryOperator.TheVariants as b
@@ -21,7 +21,7 @@ use Rattle.sl_syntax.specs.Tree.{Expr, Exprs, exprs_from}
 use Rattle.sl_grammar.specs.Steps.{Reader, Tall, ◌>>=◌, ◌>>◌, pure, refuse, refusal, only, skip, kind_at, here, is_mark, mark, identifier, library, number_at, all_behind}
 
 -- the operator that a word is between two operands
-abbrev pub infix_of : Kind → Option BinaryOperator
+abbrev pub infix_of : TokenKind → Option BinaryOperator
 infix_of (k.Mark m.OrOr) = Some b.Or
 infix_of (k.Mark m.AndAnd) = Some b.And
 infix_of (k.Mark m.EqualEqual) = Some (b.Comparison c.Equal)
@@ -43,7 +43,7 @@ binds_or other (Some op) = binary_level op
 binds_or other None = other
 
 -- how tightly a piece behind an operand binds that begins with this word, and 0 where none does
-abbrev pub piece_level : Kind → ℕ
+abbrev pub piece_level : TokenKind → ℕ
 piece_level (k.Mark m.PlusPlus) = 8
 piece_level (k.Mark m.MinusMinus) = 8
 piece_level (k.Mark m.LeftBracket) = 8
@@ -52,7 +52,7 @@ piece_level (k.Mark m.Arrow) = 8
 piece_level _ = 0
 
 -- how tightly a word that goes on with an expression binds, and 0 where it doesn't
-abbrev pub goes_on : Kind → ℕ
+abbrev pub goes_on : TokenKind → ℕ
 goes_on kind = binds_or (piece_level kind) (infix_of kind)
 
 -- A list of expressions that is at most so high: the first is read by `one`. Where others follow, the list is a node, and they are read by `more`.
@@ -111,7 +111,7 @@ module _ (inner smaller : ℕ → Reader (Tall Expr)) (room : ℕ) where
     x ← inner 7
     pure (t.prefix op (here ts) x.0, x.1 + 1)) ts
 
-  abbrev pub operand_by : Kind → Reader (Tall Expr)
+  abbrev pub operand_by : TokenKind → Reader (Tall Expr)
   operand_by k.Number = λ ts. Ok ((t.number (here ts) (number_at ts), 0), drop 1 ts)
   operand_by (k.Truth v) = λ ts. Ok ((t.truth (here ts) v, 0), drop 1 ts)
   operand_by k.Name = named
@@ -156,7 +156,7 @@ module _ (inner smaller : ℕ → Reader (Tall Expr)) (room : ℕ) where
   abbrev pub postfixed : Tall Expr → PostfixOperator → Reader (Tall Expr)
   postfixed left op = λ ts. Ok ((t.postfix left.0 op (here ts), left.1 + 1), drop 1 ts)
 
-  abbrev pub piece_by : Tall Expr → Kind → Reader (Tall Expr)
+  abbrev pub piece_by : Tall Expr → TokenKind → Reader (Tall Expr)
   piece_by left (k.Mark m.PlusPlus) = postfixed left q.Increment
   piece_by left (k.Mark m.MinusMinus) = postfixed left q.Decrement
   piece_by left (k.Mark m.LeftBracket) = indexed left

@@ -5,8 +5,8 @@ use Rattle.sl_base.specs.declared.mark.Mark.TheVariants as m
 use Rattle.sl_base.specs.declared.place.Place.{Place}
 use Rattle.sl_base.specs.declared.scalar.Scalar.{Scalar}
 use Rattle.sl_base.specs.declared.scalar.Scalar.TheVariants as c
-use Rattle.sl_syntax.specs.declared.kind.Kind.{Kind}
-use Rattle.sl_syntax.specs.declared.kind.Kind.TheVariants as k
+use Rattle.sl_syntax.specs.declared.token_kind.TokenKind.{TokenKind}
+use Rattle.sl_syntax.specs.declared.token_kind.TokenKind.TheVariants as k
 use Rattle.sl_syntax.specs.declared.tree.function.ResultType.{ResultType}
 use Rattle.sl_syntax.specs.declared.tree.function.ResultType.TheVariants as z
 use Rattle.sl_syntax.specs.declared.tree.identifier.Identifier.{Identifier}
@@ -17,20 +17,20 @@ use Rattle.sl_grammar.specs.Effects.{effect, cond}
 use Rattle.sl_grammar.specs.Expressions.{expr}
 use Rattle.sl_grammar.specs.Steps.{Reader, Tall, and_then, ◌>>=◌, ◌>>◌, pure, refuse, only, skip, kind_at, here, is_mark, mark, identifier, all_behind}
 
-abbrev pub is_else : Kind → Bool
+abbrev pub is_else : TokenKind → Bool
 is_else k.Else = true
 is_else _ = false
 
-abbrev pub is_end : Kind → Bool
+abbrev pub is_end : TokenKind → Bool
 is_end k.End = true
 is_end _ = false
 
 -- another item of the block follows
-abbrev pub is_item : Kind → Bool
+abbrev pub is_item : TokenKind → Bool
 is_item kind = not (is_mark m.RightBrace kind)
 
 -- another function follows
-abbrev pub is_more : Kind → Bool
+abbrev pub is_more : TokenKind → Bool
 is_more kind = not (is_end kind)
 
 -- A type that a `for` declares its variable of, where None is `auto`: it may be that of a range-for's.
@@ -56,7 +56,7 @@ module _ (room : ℕ) where
     mark m.Semicolon
     pure (t.declares d.0, d.1 + 1)
 
-  abbrev pub item_by : Reader (Tall Stmt) → Kind → Reader (Tall Item)
+  abbrev pub item_by : Reader (Tall Stmt) → TokenKind → Reader (Tall Item)
   item_by stmt (k.Scalar s) = only (nat_lt 1 room) (declared (scalar_declaration (room - 2) s))
   item_by stmt k.Auto = only (nat_lt 1 room) (declared (auto_declaration (room - 2)))
   item_by stmt (k.Container f) = only (nat_lt 1 room) (declared (container_declaration (room - 2) f))
@@ -152,7 +152,7 @@ module _ (inner : Reader (Tall Stmt)) (room : ℕ) where
     x ← identifier
     variable_behind place (here ts) type x) ts
 
-  abbrev pub for_by : Place → Kind → Reader (Tall Stmt)
+  abbrev pub for_by : Place → TokenKind → Reader (Tall Stmt)
   for_by place (k.Scalar s) = declared_first place (Some s)
   for_by place k.Auto = declared_first place None
   for_by place (k.Mark m.Semicolon) = for_behind place (None, 0)
@@ -190,7 +190,7 @@ module _ (inner : Reader (Tall Stmt)) (room : ℕ) where
     mark m.Semicolon
     pure (stmt (here ts), 1)) ts
 
-  abbrev pub stmt_by : Kind → Reader (Tall Stmt)
+  abbrev pub stmt_by : TokenKind → Reader (Tall Stmt)
   stmt_by (k.Mark m.LeftBrace) = block
   stmt_by k.If = choice
   stmt_by k.While = loop
@@ -215,7 +215,7 @@ function_behind result = λ ts. (do
   b ← braced (stmt (TREE_DEPTH - 2)) (TREE_DEPTH - 2)
   pure (record { place = here ts; result = result; name = f; params = ps.0; opens = b.0.0; items = b.0.1; closes = b.0.2 }, max ps.1 b.1 + 1)) ts
 
-abbrev pub function_by : Kind → Reader (Tall Function)
+abbrev pub function_by : TokenKind → Reader (Tall Function)
 function_by k.Void = function_behind z.Void
 function_by (k.Scalar s) = function_behind (z.Scalar s)
 function_by _ = refuse

@@ -9,10 +9,10 @@ use Rattle.sl_base.specs.declared.place.Place.{Place}
 use Rattle.sl_base.specs.declared.token.Token.{Token}
 use Rattle.sl_base.specs.declared.word.Word.{Word}
 use Rattle.sl_base.specs.declared.word.Word.TheVariants as w
-use Rattle.sl_syntax.specs.declared.kind.Kind.{Kind}
-use Rattle.sl_syntax.specs.declared.kind.Kind.TheVariants as k
+use Rattle.sl_syntax.specs.declared.token_kind.TokenKind.{TokenKind}
+use Rattle.sl_syntax.specs.declared.token_kind.TokenKind.TheVariants as k
 use Rattle.sl_syntax.specs.declared.tree.identifier.Identifier.{Identifier}
-use Rattle.sl_syntax.specs.Kinds.{kind_of}
+use Rattle.sl_syntax.specs.TokenKinds.{kind_of}
 use Rattle.sl_grammar.specs.declared.fault.Fault.{Fault}
 use Rattle.sl_grammar.specs.declared.fault.Fault.TheVariants.{Memory, Grammar}
 
@@ -56,7 +56,7 @@ abbrev pub skip : Reader (Unit {0})
 skip = λ ts. Ok (tt, drop 1 ts)
 
 -- what the next word is to the grammar
-abbrev pub kind_at : List Token → Kind
+abbrev pub kind_at : List Token → TokenKind
 kind_at [] = k.End
 kind_at (t ∷ ts) = kind_of t.word
 
@@ -78,7 +78,7 @@ abbrev pub text_in : Word → List ℕ
 text_in (w.Text bytes) = bytes
 text_in _ = []
 
-abbrev pub is_mark : Mark → Kind → Bool
+abbrev pub is_mark : Mark → TokenKind → Bool
 is_mark m (k.Mark x) = sameb the_type x m
 is_mark m _ = false
 
@@ -91,7 +91,7 @@ abbrev pub identifier_at : List Token → Identifier
 identifier_at [] = record { name = []; place = here [] }
 identifier_at (t ∷ ts) = record { name = name_in t.word; place = t.place }
 
-abbrev pub identifier_by : Kind → Reader Identifier
+abbrev pub identifier_by : TokenKind → Reader Identifier
 identifier_by k.Name = λ ts. Ok (identifier_at ts, drop 1 ts)
 identifier_by _ = refuse
 
@@ -99,7 +99,7 @@ unfoldable pub identifier : Reader Identifier
 identifier = λ ts. identifier_by (kind_at ts) ts
 
 -- a function of the library
-abbrev pub library_by : Kind → Reader Identifier
+abbrev pub library_by : TokenKind → Reader Identifier
 library_by k.Library = λ ts. Ok (identifier_at ts, drop 1 ts)
 library_by _ = refuse
 
@@ -115,14 +115,14 @@ text_at [] = []
 text_at (t ∷ ts) = text_in t.word
 
 -- Reads items while the next word goes on, behind those that are done; with them their greatest height. The number bounds the turns.
-unfoldable pub repeat : {A : Type 0} → (Kind → Bool) → Reader (Tall A) → ℕ → Tall (List A) → Reader (Tall (List A))
+unfoldable pub repeat : {A : Type 0} → (TokenKind → Bool) → Reader (Tall A) → ℕ → Tall (List A) → Reader (Tall (List A))
 repeat goes item zero done = λ ts. if goes (kind_at ts) then Err (refusal ts) else Ok (done, ts)
 repeat goes item (suc n) done = λ ts.
     if goes (kind_at ts) then (item >>= (λ x. repeat goes item n (done.0 ++ x.0 ∷ [], max done.1 x.1))) ts
     else Ok (done, ts)
 
 -- each turn takes a token, so there are no more turns than tokens
-abbrev pub all_behind : {A : Type 0} → (Kind → Bool) → Reader (Tall A) → Tall (List A) → Reader (Tall (List A))
+abbrev pub all_behind : {A : Type 0} → (TokenKind → Bool) → Reader (Tall A) → Tall (List A) → Reader (Tall (List A))
 all_behind goes item done = λ ts. repeat goes item (length ts) done ts
 
 -- What a function that reads ensures: the reader's outcome, seen by view, unless memory ran out.

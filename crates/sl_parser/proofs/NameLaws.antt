@@ -5,19 +5,19 @@ use Rattle.sl_base.specs.declared.token.Token.{Token}
 use Rattle.sl_base.specs.declared.word.Word.TheVariants as w
 use Rattle.sl_base.specs.declared.word.Word.{Word}
 use Rattle.sl_base.specs.declared.place.Place.{Place}
-use Rattle.sl_syntax.specs.declared.kind.Kind.{Kind}
-use Rattle.sl_syntax.specs.declared.kind.Kind.TheVariants as k
+use Rattle.sl_syntax.specs.declared.token_kind.TokenKind.{TokenKind}
+use Rattle.sl_syntax.specs.declared.token_kind.TokenKind.TheVariants as k
 use Rattle.sl_syntax.specs.declared.tree.identifier.Identifier.{Identifier}
-use Rattle.sl_syntax.specs.Kinds.{kind_of, kind_in, kind_or, keys, libs}
+use Rattle.sl_syntax.specs.TokenKinds.{kind_of, kind_in, kind_or, keys, libs}
 use Rattle.sl_syntax.specs.Shaped.{Each}
 use Rattle.sl_grammar.specs.Steps.{Outcome, refusal, name_in, identifier_at, identifier, identifier_by, library, library_by as library_of_kind}
 use Rattle.sl_parser.specs.Names.{named_at, named_by, library_at, library_by, library_named}
 
 -- what holds of each row's kind and of the other holds of the kind that is found
-kind-in : (P : Kind → Type 0) (rows : List (List ℕ × Kind)) (instead : Kind) (bytes : List ℕ) → P instead → Each (λ (r : List ℕ × Kind). P r.1) rows → P (kind_in rows instead bytes)
+kind-in : (P : TokenKind → Type 0) (rows : List (List ℕ × TokenKind)) (instead : TokenKind) (bytes : List ℕ) → P instead → Each (λ (r : List ℕ × TokenKind). P r.1) rows → P (kind_in rows instead bytes)
 kind-in P [] instead bytes i each = i
 kind-in P (r ∷ rows) instead bytes i each =
-    elim (bytes_eq r.0 bytes) as (λ b. P (kind_or instead (option_map (λ (m : List ℕ × Kind). m.1) (cond b (Some r) (find (λ (m : List ℕ × Kind). bytes_eq m.0 bytes) rows))))) [
+    elim (bytes_eq r.0 bytes) as (λ b. P (kind_or instead (option_map (λ (m : List ℕ × TokenKind). m.1) (cond b (Some r) (find (λ (m : List ℕ × TokenKind). bytes_eq m.0 bytes) rows))))) [
       | true ↦ each.0
       | false ↦ kind-in P rows instead bytes i each.1
     ]
@@ -28,7 +28,7 @@ taken None ts = Err (refusal ts)
 taken (Some x) ts = Ok (x, drop 1 ts)
 
 -- no lib and no key is a name
-abbrev IsNoName : Kind → Type 0
+abbrev IsNoName : TokenKind → Type 0
 IsNoName kind = (ts : List Token) → identifier_by kind ts ≡ Err (refusal ts)
 
 by_word : (x : Word) (place : Place) (ts : List Token) → (name_in x ≡ (identifier_at ts).name) → (place ≡ (identifier_at ts).place) → identifier_by (kind_of x) ts ≡ taken (named_by place x) ts
@@ -50,7 +50,7 @@ library-word : (x : Word) (place : Place) (ts : List Token) → (name_in x ≡ (
 library-word (w.Name n) place ts e f = refl
 library-word (w.Lib n) place ts e f = library-kind (kind_of (w.Lib n)) n place ts e f
   where
-    library-kind : (kind : Kind) (n : List ℕ) (place : Place) (ts : List Token) → (n ≡ (identifier_at ts).name) → (place ≡ (identifier_at ts).place) → library_of_kind kind ts ≡ taken (library_named place n kind) ts
+    library-kind : (kind : TokenKind) (n : List ℕ) (place : Place) (ts : List Token) → (n ≡ (identifier_at ts).name) → (place ≡ (identifier_at ts).place) → library_of_kind kind ts ≡ taken (library_named place n kind) ts
     library-kind k.Library n place ts e f = rw (e, f) refl
     library-kind _ n place ts e f = refl
 library-word (w.Key n) place ts e f = kind-in (λ kind. library_of_kind kind ts ≡ Err (refusal ts)) keys k.Other n refl

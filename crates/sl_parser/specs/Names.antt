@@ -4,10 +4,10 @@ use Rattle.sl_base.specs.declared.place.Place.{Place}
 use Rattle.sl_base.specs.declared.token.Token.{Token}
 use Rattle.sl_base.specs.declared.word.Word.{Word}
 use Rattle.sl_base.specs.declared.word.Word.TheVariants as w
-use Rattle.sl_syntax.specs.declared.kind.Kind.{Kind}
-use Rattle.sl_syntax.specs.declared.kind.Kind.TheVariants as k
+use Rattle.sl_syntax.specs.declared.token_kind.TokenKind.{TokenKind}
+use Rattle.sl_syntax.specs.declared.token_kind.TokenKind.TheVariants as k
 use Rattle.sl_syntax.specs.declared.tree.identifier.Identifier.{Identifier}
-use Rattle.sl_syntax.specs.Kinds.{kind_of}
+use Rattle.sl_syntax.specs.TokenKinds.{kind_of}
 
 abbrev pub named_by : Place → Word → Option Identifier
 named_by place (w.Name name) = Some (record { name = name; place = place })
@@ -17,7 +17,7 @@ abbrev pub named_at : List Token → Option Identifier
 named_at [] = None
 named_at (t ∷ ts) = named_by t.place t.word
 
-abbrev pub library_named : Place → List ℕ → Kind → Option Identifier
+abbrev pub library_named : Place → List ℕ → TokenKind → Option Identifier
 library_named place name k.Library = Some (record { name = name; place = place })
 library_named place name _ = None
 

@@ -6,7 +6,7 @@ ghost use Rattle.sl_parser.specs.Reader as spec;
 use crate::tokens::Tokens;
 use sl_base::{Form, Mark, Scalar};
 use sl_grammar::Fault;
-use sl_syntax::{ContainerType, Kind};
+use sl_syntax::{ContainerType, TokenKind};
 
 /// The type of a container of this form, at its first token.
 #[tactic(auto, unfolding(crate::specs::Reader::container_type))]
@@ -40,7 +40,7 @@ fn int(tokens: &mut Tokens<'_>) -> Result<(), Fault>
     ensures { Reads (λ x. x) (spec.int tokens.old) result tokens.new }
 {
     match tokens.kind() {
-        Kind::Scalar(Scalar::Int) => {
+        TokenKind::Scalar(Scalar::Int) => {
             tokens.skip();
             Ok(())
         }

@@ -12,7 +12,7 @@ use crate::expression::list::{list, list_before};
 use crate::tokens::Tokens;
 use sl_base::{Form, Mark, Scalar};
 use sl_grammar::Fault;
-use sl_syntax::{Declaration, Expr, Initializer, Kind};
+use sl_syntax::{Declaration, Expr, Initializer, TokenKind};
 use std::alloc::Global;
 
 /// The declaration of a variable of this type, and its height.
@@ -120,15 +120,15 @@ fn initializer(
     ensures low { IfOk result (λ x. x.1 ≤ room) }
 {
     match tokens.kind() {
-        Kind::Mark(Mark::Equal) => {
+        TokenKind::Mark(Mark::Equal) => {
             tokens.skip();
             behind_equal(alloc, tokens, room)
         }
-        Kind::Mark(Mark::LeftBrace) => {
+        TokenKind::Mark(Mark::LeftBrace) => {
             tokens.skip();
             braces(alloc, tokens, room, false)
         }
-        Kind::Mark(Mark::LeftParenthesis) => constructed(alloc, tokens, room),
+        TokenKind::Mark(Mark::LeftParenthesis) => constructed(alloc, tokens, room),
         _ => Ok((Initializer::Absent, 0)),
     }
 }
@@ -144,11 +144,11 @@ fn behind_equal(
     ensures low { IfOk result (λ x. x.1 ≤ room) }
 {
     match tokens.kind() {
-        Kind::Name => {
+        TokenKind::Name => {
             let name = tokens.identifier()?;
             Ok((Initializer::Copy(name), 0))
         }
-        Kind::Mark(Mark::LeftBrace) => {
+        TokenKind::Mark(Mark::LeftBrace) => {
             tokens.skip();
             braces(alloc, tokens, room, true)
         }

@@ -1,7 +1,7 @@
 //! Effects, which are reads, prints, assignments and values, and conditions.
 ghost use Rattle.std.specs.Prelude.{◌≡◌, ◌≤◌, ◌<◌, IfOk};
 ghost use Rattle.sl_base.specs.declared.limits.TheConstants.{TREE_DEPTH};
-ghost use Rattle.sl_syntax.specs.declared.kind.Kind.TheVariants.{End};
+ghost use Rattle.sl_syntax.specs.declared.token_kind.TokenKind.TheVariants.{End};
 ghost use Rattle.sl_grammar.specs.Steps.{Reads, is_mark};
 ghost use Rattle.sl_grammar.specs.Effects as steps;
 ghost use Rattle.sl_parser.specs.EffectViews.{tall_cond, tall_effect};
@@ -17,7 +17,7 @@ use crate::expression::expr;
 use crate::tokens::Tokens;
 use sl_base::Mark;
 use sl_grammar::Fault;
-use sl_syntax::{Arithmetic, Assignment, Cond, Effect, Expr, Kind};
+use sl_syntax::{Arithmetic, Assignment, Cond, Effect, Expr, TokenKind};
 use std::alloc::Global;
 
 /// What is done for its effect, and its height, which the room bounds.
@@ -28,11 +28,11 @@ pub fn effect(alloc: Global, tokens: &mut Tokens<'_>, room: usize) -> Result<(Ef
     ensures low { IfOk result (λ x. x.1 ≤ room) }
 {
     match tokens.kind() {
-        Kind::Input => {
+        TokenKind::Input => {
             let (read, height) = read(alloc, tokens, room)?;
             Ok((Effect::Read(read), height))
         }
-        Kind::Output => {
+        TokenKind::Output => {
             let (print, height) = print(alloc, tokens, room)?;
             Ok((Effect::Print(print), height))
         }
@@ -79,16 +79,16 @@ fn assigned(
 }
 
 // The operator of an assignment that a word is.
-fn assignment_of(kind: Kind) -> Option<Assignment>
+fn assignment_of(kind: TokenKind) -> Option<Assignment>
     ensures { result ≡ steps.assignment_of 0 kind }
 {
     match kind {
-        Kind::Mark(Mark::Equal) => Some(Assignment::Set),
-        Kind::Mark(Mark::PlusEqual) => Some(Assignment::Update(Arithmetic::Add)),
-        Kind::Mark(Mark::MinusEqual) => Some(Assignment::Update(Arithmetic::Subtract)),
-        Kind::Mark(Mark::StarEqual) => Some(Assignment::Update(Arithmetic::Multiply)),
-        Kind::Mark(Mark::SlashEqual) => Some(Assignment::Update(Arithmetic::Divide)),
-        Kind::Mark(Mark::PercentEqual) => Some(Assignment::Update(Arithmetic::Remainder)),
+        TokenKind::Mark(Mark::Equal) => Some(Assignment::Set),
+        TokenKind::Mark(Mark::PlusEqual) => Some(Assignment::Update(Arithmetic::Add)),
+        TokenKind::Mark(Mark::MinusEqual) => Some(Assignment::Update(Arithmetic::Subtract)),
+        TokenKind::Mark(Mark::StarEqual) => Some(Assignment::Update(Arithmetic::Multiply)),
+        TokenKind::Mark(Mark::SlashEqual) => Some(Assignment::Update(Arithmetic::Divide)),
+        TokenKind::Mark(Mark::PercentEqual) => Some(Assignment::Update(Arithmetic::Remainder)),
         _ => None,
     }
 }
@@ -101,7 +101,7 @@ pub fn cond(alloc: Global, tokens: &mut Tokens<'_>, room: usize) -> Result<(Cond
     ensures low { IfOk result (λ x. x.1 ≤ room) }
 {
     match tokens.kind() {
-        Kind::Input => {
+        TokenKind::Input => {
             let (read, height) = read(alloc, tokens, room)?;
             Ok((Cond::Read(read), height))
         }
@@ -131,21 +131,21 @@ fn begins_no_read(tokens: &Tokens<'_>) -> bool
         && is_input(tokens.kind_behind(2))
 }
 
-fn is_mark(mark: Mark, kind: Kind) -> bool
+fn is_mark(mark: Mark, kind: TokenKind) -> bool
     ensures { result ≡ is_mark mark kind }
 {
     match kind {
-        Kind::Mark(next) => next == mark,
+        TokenKind::Mark(next) => next == mark,
         _ => false,
     }
 }
 
 // The word is `std::cin`.
-fn is_input(kind: Kind) -> bool
+fn is_input(kind: TokenKind) -> bool
     ensures { result ≡ steps.is_input kind }
 {
     match kind {
-        Kind::Input => true,
+        TokenKind::Input => true,
         _ => false,
     }
 }

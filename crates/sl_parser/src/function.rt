@@ -13,7 +13,7 @@ use crate::tokens::Tokens;
 use sl_base::Mark;
 use sl_base::limits::TREE_DEPTH;
 use sl_grammar::Fault;
-use sl_syntax::{Function, Kind, ResultType};
+use sl_syntax::{Function, TokenKind, ResultType};
 use std::alloc::Global;
 
 /// The functions up to the last token, at least one, and the height of the highest.
@@ -55,11 +55,11 @@ fn others(
 }
 
 // No word is left.
-fn is_end(kind: Kind) -> bool
+fn is_end(kind: TokenKind) -> bool
     ensures { result ≡ steps.is_end kind }
 {
     match kind {
-        Kind::End => true,
+        TokenKind::End => true,
         _ => false,
     }
 }
@@ -70,8 +70,8 @@ fn function(alloc: Global, tokens: &mut Tokens<'_>) -> Result<(Function, usize),
     ensures low { IfOk result (λ x. x.1 ≤ TREE_DEPTH) }
 {
     match tokens.kind() {
-        Kind::Void => function_behind(alloc, tokens, ResultType::Void),
-        Kind::Scalar(scalar) => function_behind(alloc, tokens, ResultType::Scalar(scalar)),
+        TokenKind::Void => function_behind(alloc, tokens, ResultType::Void),
+        TokenKind::Scalar(scalar) => function_behind(alloc, tokens, ResultType::Scalar(scalar)),
         _ => Err(tokens.refuse()),
     }
 }

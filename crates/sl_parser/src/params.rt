@@ -10,7 +10,7 @@ use crate::container::container_type;
 use crate::tokens::Tokens;
 use sl_base::{Form, Mark, Place, Scalar};
 use sl_grammar::Fault;
-use sl_syntax::{ContainerType, Kind, Param};
+use sl_syntax::{ContainerType, TokenKind, Param};
 use std::alloc::Global;
 
 /// The parameters before a `)`, and their greatest height.
@@ -68,13 +68,13 @@ fn param(tokens: &mut Tokens<'_>) -> Result<(Param, usize), Fault>
     ensures low { IfOk result (λ x. x.1 ≤ 2) }
 {
     match tokens.kind() {
-        Kind::Scalar(scalar) => {
+        TokenKind::Scalar(scalar) => {
             let place = tokens.place();
             tokens.skip();
             scalar_param(tokens, place, scalar)
         }
-        Kind::Container(form) => container_param(tokens, form),
-        Kind::Const => const_param(tokens),
+        TokenKind::Container(form) => container_param(tokens, form),
+        TokenKind::Const => const_param(tokens),
         _ => Err(tokens.refuse()),
     }
 }
@@ -150,7 +150,7 @@ fn container(tokens: &mut Tokens<'_>) -> Result<ContainerType, Fault>
     ensures { Reads (λ x. x) (container_by (kind_at tokens.old) tokens.old) result tokens.new }
 {
     match tokens.kind() {
-        Kind::Container(form) => container_type(tokens, form),
+        TokenKind::Container(form) => container_type(tokens, form),
         _ => Err(tokens.refuse()),
     }
 }

@@ -2,12 +2,12 @@
 ghost use Rattle.std.specs.Prelude.{◌≡◌, length, drop, IfOk};
 ghost use Rattle.sl_grammar.specs.Steps as spec;
 ghost use Rattle.sl_grammar.specs.Steps.{Reads};
-ghost use Rattle.sl_syntax.specs.Kinds.{kind_of};
+ghost use Rattle.sl_syntax.specs.TokenKinds.{kind_of};
 ghost use Rattle.sl_parser.specs.Names.{named_at, named_by, library_at, library_by, library_named};
 
 use sl_base::{Items, Mark, Name, Place, Token, Word};
 use sl_grammar::Fault;
-use sl_syntax::{Identifier, Kind};
+use sl_syntax::{Identifier, TokenKind};
 use std::alloc::{AllocError, Global};
 use std::marker::Model;
 
@@ -41,22 +41,22 @@ impl<'a> Tokens<'a> {
     }
 
     /// What the next word is to the grammar.
-    pub fn kind(&self) -> Kind
+    pub fn kind(&self) -> TokenKind
         ensures { result ≡ spec.kind_at self.now }
     {
         match self.rest {
-            [token, ..] => Kind::of(&token.word),
-            [] => Kind::End,
+            [token, ..] => TokenKind::of(&token.word),
+            [] => TokenKind::End,
         }
     }
 
     /// What the word behind so many others is to the grammar.
-    pub fn kind_behind(&self, count: usize) -> Kind
+    pub fn kind_behind(&self, count: usize) -> TokenKind
         ensures { result ≡ spec.kind_at (drop count self.now) }
     {
         match self.rest.get(count) {
-            Some(token) => Kind::of(&token.word),
-            None => Kind::End,
+            Some(token) => TokenKind::of(&token.word),
+            None => TokenKind::End,
         }
     }
 
@@ -90,7 +90,7 @@ impl<'a> Tokens<'a> {
         ensures { result ≡ spec.is_mark mark (spec.kind_at self.now) }
     {
         match self.kind() {
-            Kind::Mark(next) => next == mark,
+            TokenKind::Mark(next) => next == mark,
             _ => false,
         }
     }
@@ -192,16 +192,16 @@ fn library_of(token: &Token) -> Option<Identifier>
     ensures { result ≡ library_by token.now.place token.now.word }
 {
     match &token.word {
-        Word::Lib(name) => library_named(token.place, name, Kind::of(&token.word)),
+        Word::Lib(name) => library_named(token.place, name, TokenKind::of(&token.word)),
         _ => None,
     }
 }
 
-fn library_named(place: Place, name: &Name, kind: Kind) -> Option<Identifier>
+fn library_named(place: Place, name: &Name, kind: TokenKind) -> Option<Identifier>
     ensures { result ≡ library_named place name.now kind }
 {
     match kind {
-        Kind::Library => Some(Identifier {
+        TokenKind::Library => Some(Identifier {
             name: Name::new(name.as_slice()),
             place,
         }),

@@ -11,7 +11,7 @@ use crate::expression::expr;
 use crate::tokens::Tokens;
 use sl_base::Mark;
 use sl_grammar::Fault;
-use sl_syntax::{Kind, Out, Print};
+use sl_syntax::{TokenKind, Out, Print};
 use std::alloc::Global;
 
 /// `std::cout << x << y`, and its height.
@@ -77,13 +77,13 @@ fn out(alloc: Global, tokens: &mut Tokens<'_>, room: usize) -> Result<(Out, usiz
     ensures low { IfOk result (λ x. x.1 < room) }
 {
     match tokens.kind() {
-        Kind::Text => {
+        TokenKind::Text => {
             let place = tokens.place();
             let text = tokens.text(alloc)?;
             tokens.skip();
             Ok((Out::Text { place, text }, 0))
         }
-        Kind::EndLine => {
+        TokenKind::EndLine => {
             let place = tokens.place();
             tokens.skip();
             Ok((Out::EndLine { place }, 0))

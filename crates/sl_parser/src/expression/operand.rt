@@ -10,7 +10,7 @@ use crate::expression::nested::Nested;
 use crate::tokens::Tokens;
 use sl_base::Mark;
 use sl_grammar::Fault;
-use sl_syntax::{Expr, Identifier, Kind, PrefixOperator};
+use sl_syntax::{Expr, Identifier, TokenKind, PrefixOperator};
 use std::alloc::Global;
 
 impl<F: Fn(Global, &mut Tokens<'_>, usize, u8) -> Result<(Expr, usize), Fault>> Nested<F> {
@@ -22,11 +22,11 @@ impl<F: Fn(Global, &mut Tokens<'_>, usize, u8) -> Result<(Expr, usize), Fault>> 
         ensures low { IfOk result (λ x. x.1 ≤ self.now.room) }
     {
         match tokens.kind() {
-            Kind::Number => Ok((number(tokens), 0)),
-            Kind::Truth(value) => Ok((truth(tokens, value), 0)),
-            Kind::Name => self.named(tokens),
-            Kind::Library => self.library_call(tokens),
-            Kind::Mark(mark) => self.marked(tokens, mark),
+            TokenKind::Number => Ok((number(tokens), 0)),
+            TokenKind::Truth(value) => Ok((truth(tokens, value), 0)),
+            TokenKind::Name => self.named(tokens),
+            TokenKind::Library => self.library_call(tokens),
+            TokenKind::Mark(mark) => self.marked(tokens, mark),
             _ => Err(tokens.refuse()),
         }
     }
@@ -34,7 +34,7 @@ impl<F: Fn(Global, &mut Tokens<'_>, usize, u8) -> Result<(Expr, usize), Fault>> 
     // An expression that begins with this mark.
     fn marked(&self, tokens: &mut Tokens<'_>, mark: Mark) -> Result<(Expr, usize), Fault>
         requires { Nests self.now.room (F.pre self.now.inner) (F.post self.now.inner) }
-        ensures reads { Reads tall_expr (operand_by (spec.expr self.now.room) (spec.expr (self.now.room - 1)) self.now.room (Kind.Mark mark) tokens.old) result tokens.new }
+        ensures reads { Reads tall_expr (operand_by (spec.expr self.now.room) (spec.expr (self.now.room - 1)) self.now.room (TokenKind.Mark mark) tokens.old) result tokens.new }
         ensures low { IfOk result (λ x. x.1 ≤ self.now.room) }
     {
         match mark {

@@ -11,7 +11,7 @@ use crate::tokens::Tokens;
 use sl_base::{Mark, Place};
 use sl_grammar::Fault;
 use sl_syntax::{
-    Arithmetic, BinaryOperator, Comparison, Expr, Identifier, Kind, PostfixOperator, Selector,
+    Arithmetic, BinaryOperator, Comparison, Expr, Identifier, TokenKind, PostfixOperator, Selector,
 };
 use std::alloc::Global;
 
@@ -31,17 +31,17 @@ fn binary_level(operator: BinaryOperator) -> u8
 }
 
 // The operator that a word is between two operands.
-fn infix_of(kind: Kind) -> Option<BinaryOperator>
+fn infix_of(kind: TokenKind) -> Option<BinaryOperator>
     ensures { result ≡ steps.infix_of kind }
 {
     match kind {
-        Kind::Mark(mark) => infix_mark(mark),
+        TokenKind::Mark(mark) => infix_mark(mark),
         _ => None,
     }
 }
 
 fn infix_mark(mark: Mark) -> Option<BinaryOperator>
-    ensures { result ≡ steps.infix_of (Kind.Mark mark) }
+    ensures { result ≡ steps.infix_of (TokenKind.Mark mark) }
 {
     match mark {
         Mark::OrOr => Some(BinaryOperator::Or),
@@ -62,11 +62,11 @@ fn infix_mark(mark: Mark) -> Option<BinaryOperator>
 }
 
 // How tightly a piece behind an operand binds that begins with this word, and 0 where none does.
-fn piece_level(kind: Kind) -> u8
+fn piece_level(kind: TokenKind) -> u8
     ensures value { result ≡ steps.piece_level kind }
 {
     match kind {
-        Kind::Mark(
+        TokenKind::Mark(
             Mark::PlusPlus | Mark::MinusMinus | Mark::LeftBracket | Mark::Dot | Mark::Arrow,
         ) => 8,
         _ => 0,
@@ -74,7 +74,7 @@ fn piece_level(kind: Kind) -> u8
 }
 
 // How tightly a word that goes on with an expression binds, and 0 where it does not.
-fn goes_on(kind: Kind) -> u8
+fn goes_on(kind: TokenKind) -> u8
     ensures { result ≡ steps.goes_on kind }
 {
     match infix_of(kind) {
@@ -179,15 +179,15 @@ impl<F: Fn(Global, &mut Tokens<'_>, usize, u8) -> Result<(Expr, usize), Fault>> 
         ensures low { IfOk result (λ x. x.1 ≤ self.now.room) }
     {
         match tokens.kind() {
-            Kind::Mark(Mark::PlusPlus) => self.postfixed(tokens, left, PostfixOperator::Increment),
-            Kind::Mark(Mark::MinusMinus) => self.postfixed(
+            TokenKind::Mark(Mark::PlusPlus) => self.postfixed(tokens, left, PostfixOperator::Increment),
+            TokenKind::Mark(Mark::MinusMinus) => self.postfixed(
                 tokens,
                 left,
                 PostfixOperator::Decrement,
             ),
-            Kind::Mark(Mark::LeftBracket) => self.indexed(tokens, left),
-            Kind::Mark(Mark::Dot) => self.dotted(tokens, left),
-            Kind::Mark(Mark::Arrow) => self.pointed(tokens, left),
+            TokenKind::Mark(Mark::LeftBracket) => self.indexed(tokens, left),
+            TokenKind::Mark(Mark::Dot) => self.dotted(tokens, left),
+            TokenKind::Mark(Mark::Arrow) => self.pointed(tokens, left),
             _ => Err(tokens.refuse()),
         }
     }

@@ -1,7 +1,7 @@
 //! Blocks and their items.
 ghost use Rattle.std.specs.Prelude.{◌≡◌, ◌≤◌, ◌<◌, ◌+◌, ◌-◌, [], length, IfOk};
 ghost use Rattle.sl_base.specs.declared.limits.TheConstants.{TREE_DEPTH};
-ghost use Rattle.sl_syntax.specs.declared.kind.Kind.TheVariants as k;
+ghost use Rattle.sl_syntax.specs.declared.token_kind.TokenKind.TheVariants as k;
 ghost use Rattle.sl_grammar.specs.Steps.{Reads};
 ghost use Rattle.sl_grammar.specs.Statements.{block, is_item, item_by};
 ghost use Rattle.sl_parser.specs.Reader as spec;
@@ -12,7 +12,7 @@ use crate::statement::within::Within;
 use crate::tokens::Tokens;
 use sl_base::{Form, Mark, Scalar};
 use sl_grammar::Fault;
-use sl_syntax::{Block, Item, Kind, Stmt};
+use sl_syntax::{Block, Item, TokenKind, Stmt};
 use std::alloc::Global;
 
 impl<F: Fn(Global, &mut Tokens<'_>, usize) -> Result<(Stmt, usize), Fault>> Within<F> {
@@ -82,9 +82,9 @@ impl<F: Fn(Global, &mut Tokens<'_>, usize) -> Result<(Stmt, usize), Fault>> With
         ensures low { IfOk result (λ x. x.1 ≤ self.now.room) }
     {
         match tokens.kind() {
-            Kind::Scalar(scalar) => self.scalar_item(tokens, scalar),
-            Kind::Auto => self.auto_item(tokens),
-            Kind::Container(form) => self.container_item(tokens, form),
+            TokenKind::Scalar(scalar) => self.scalar_item(tokens, scalar),
+            TokenKind::Auto => self.auto_item(tokens),
+            TokenKind::Container(form) => self.container_item(tokens, form),
             _ => self.stmt_item(tokens),
         }
     }

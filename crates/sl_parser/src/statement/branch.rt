@@ -12,14 +12,14 @@ use crate::statement::within::Within;
 use crate::tokens::Tokens;
 use sl_base::{Mark, Place};
 use sl_grammar::Fault;
-use sl_syntax::{Cond, Kind, Stmt};
+use sl_syntax::{Cond, TokenKind, Stmt};
 use std::alloc::Global;
 
-fn is_else(kind: Kind) -> bool
+fn is_else(kind: TokenKind) -> bool
     ensures { result ≡ steps.is_else kind }
 {
     match kind {
-        Kind::Else => true,
+        TokenKind::Else => true,
         _ => false,
     }
 }

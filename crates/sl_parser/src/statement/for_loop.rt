@@ -13,7 +13,7 @@ use crate::statement::within::Within;
 use crate::tokens::Tokens;
 use sl_base::{Mark, Place, Scalar};
 use sl_grammar::Fault;
-use sl_syntax::{Cond, Effect, Expr, First, Identifier, Kind, Stmt};
+use sl_syntax::{Cond, Effect, Expr, First, Identifier, TokenKind, Stmt};
 use std::alloc::Global;
 
 // Whether the variable may be that of a `for` over a container. Without a scalar its type is `auto`.
@@ -65,9 +65,9 @@ impl<F: Fn(Global, &mut Tokens<'_>, usize) -> Result<(Stmt, usize), Fault>> With
         tokens.skip();
         tokens.mark(Mark::LeftParenthesis)?;
         match tokens.kind() {
-            Kind::Scalar(scalar) => self.declared_first(tokens, place, Some(scalar)),
-            Kind::Auto => self.declared_first(tokens, place, None),
-            Kind::Mark(Mark::Semicolon) => self.for_behind(tokens, place, (None, 0)),
+            TokenKind::Scalar(scalar) => self.declared_first(tokens, place, Some(scalar)),
+            TokenKind::Auto => self.declared_first(tokens, place, None),
+            TokenKind::Mark(Mark::Semicolon) => self.for_behind(tokens, place, (None, 0)),
             _ => self.effect_first(tokens, place),
         }
     }
@@ -76,7 +76,7 @@ impl<F: Fn(Global, &mut Tokens<'_>, usize) -> Result<(Stmt, usize), Fault>> With
     fn effect_first(&self, tokens: &mut Tokens<'_>, place: Place) -> Result<(Stmt, usize), Fault>
         requires reader { Holds self.now.room (F.pre self.now.inner) (F.post self.now.inner) }
         requires small { self.now.room < TREE_DEPTH }
-        ensures reads { Reads tall_stmt (steps.for_by (spec.stmt self.now.room) self.now.room place Kind.Other tokens.old) result tokens.new }
+        ensures reads { Reads tall_stmt (steps.for_by (spec.stmt self.now.room) self.now.room place TokenKind.Other tokens.old) result tokens.new }
         ensures low { IfOk result (λ x. x.1 ≤ self.now.room + 1) }
     {
         let (effect, height) = effect(self.alloc, tokens, self.room)?;

@@ -2,14 +2,14 @@ ghost use Rattle.std.specs.Prelude.{◌≡◌, ◌≤◌, ◌<◌, ◌+◌, IfOk
 ghost use Rattle.sl_base.specs.declared.limits.TheConstants.{TREE_DEPTH};
 ghost use Rattle.sl_grammar.specs.Steps.{Reads, kind_at};
 ghost use Rattle.sl_grammar.specs.Statements.{stmt_by};
-ghost use Rattle.sl_syntax.specs.declared.kind.Kind.TheVariants as k;
+ghost use Rattle.sl_syntax.specs.declared.token_kind.TokenKind.TheVariants as k;
 ghost use Rattle.sl_parser.specs.Reader as spec;
 ghost use Rattle.sl_parser.specs.StatementViews.{Holds, tall_stmt};
 
 use crate::tokens::Tokens;
 use sl_base::Mark;
 use sl_grammar::Fault;
-use sl_syntax::{Kind, Stmt};
+use sl_syntax::{TokenKind, Stmt};
 use std::alloc::Global;
 
 /// Reads a statement that may hold others. `inner` reads those, so that each rule is proved by itself.
@@ -39,13 +39,13 @@ impl<F: Fn(Global, &mut Tokens<'_>, usize) -> Result<(Stmt, usize), Fault>> With
         ensures low { IfOk result (λ x. x.1 ≤ self.now.room + 1) }
     {
         match tokens.kind() {
-            Kind::Mark(mark) => self.marked(tokens, mark),
-            Kind::If => self.choice(tokens),
-            Kind::While => self.while_loop(tokens),
-            Kind::For => self.for_loop(tokens),
-            Kind::Break => self.break_stmt(tokens),
-            Kind::Continue => self.continue_stmt(tokens),
-            Kind::Return => self.return_stmt(tokens),
+            TokenKind::Mark(mark) => self.marked(tokens, mark),
+            TokenKind::If => self.choice(tokens),
+            TokenKind::While => self.while_loop(tokens),
+            TokenKind::For => self.for_loop(tokens),
+            TokenKind::Break => self.break_stmt(tokens),
+            TokenKind::Continue => self.continue_stmt(tokens),
+            TokenKind::Return => self.return_stmt(tokens),
             _ => self.effect_stmt(tokens),
         }
     }

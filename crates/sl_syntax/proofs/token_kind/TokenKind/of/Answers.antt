@@ -1,5 +1,5 @@
 use Rattle.std.proofs.Common.{refl}
-use Rattle.sl_syntax.proofs.kind.Kind.of.Goals as goal
+use Rattle.sl_syntax.proofs.token_kind.TokenKind.of.Goals as goal
 
 pub returns-in-Lib : goal.returns-in-Lib
 returns-in-Lib c = rw (c.find_kind.ensures, c.as_slice.ensures.value, c.in-Lib.is) refl
