@@ -13,7 +13,7 @@ use crate::tokens::Tokens;
 use sl_base::Mark;
 use sl_base::limits::TREE_DEPTH;
 use sl_grammar::Fault;
-use sl_syntax::{Function, TokenKind, ResultType};
+use sl_syntax::{Function, ResultType, TokenKind};
 use std::alloc::Global;
 
 /// The functions up to the last token, at least one, and the height of the highest.

@@ -10,7 +10,7 @@ use crate::container::container_type;
 use crate::tokens::Tokens;
 use sl_base::{Form, Mark, Place, Scalar};
 use sl_grammar::Fault;
-use sl_syntax::{ContainerType, TokenKind, Param};
+use sl_syntax::{ContainerType, Param, TokenKind};
 use std::alloc::Global;
 
 /// The parameters before a `)`, and their greatest height.

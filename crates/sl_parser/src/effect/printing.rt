@@ -11,7 +11,7 @@ use crate::expression::expr;
 use crate::tokens::Tokens;
 use sl_base::Mark;
 use sl_grammar::Fault;
-use sl_syntax::{TokenKind, Out, Print};
+use sl_syntax::{Out, Print, TokenKind};
 use std::alloc::Global;
 
 /// `std::cout << x << y`, and its height.

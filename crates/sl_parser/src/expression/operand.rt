@@ -10,7 +10,7 @@ use crate::expression::nested::Nested;
 use crate::tokens::Tokens;
 use sl_base::Mark;
 use sl_grammar::Fault;
-use sl_syntax::{Expr, Identifier, TokenKind, PrefixOperator};
+use sl_syntax::{Expr, Identifier, PrefixOperator, TokenKind};
 use std::alloc::Global;
 
 impl<F: Fn(Global, &mut Tokens<'_>, usize, u8) -> Result<(Expr, usize), Fault>> Nested<F> {

@@ -11,7 +11,7 @@ use crate::tokens::Tokens;
 use sl_base::{Mark, Place};
 use sl_grammar::Fault;
 use sl_syntax::{
-    Arithmetic, BinaryOperator, Comparison, Expr, Identifier, TokenKind, PostfixOperator, Selector,
+    Arithmetic, BinaryOperator, Comparison, Expr, Identifier, PostfixOperator, Selector, TokenKind,
 };
 use std::alloc::Global;
 
@@ -179,7 +179,11 @@ impl<F: Fn(Global, &mut Tokens<'_>, usize, u8) -> Result<(Expr, usize), Fault>> 
         ensures low { IfOk result (λ x. x.1 ≤ self.now.room) }
     {
         match tokens.kind() {
-            TokenKind::Mark(Mark::PlusPlus) => self.postfixed(tokens, left, PostfixOperator::Increment),
+            TokenKind::Mark(Mark::PlusPlus) => self.postfixed(
+                tokens,
+                left,
+                PostfixOperator::Increment,
+            ),
             TokenKind::Mark(Mark::MinusMinus) => self.postfixed(
                 tokens,
                 left,

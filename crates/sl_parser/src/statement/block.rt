@@ -12,7 +12,7 @@ use crate::statement::within::Within;
 use crate::tokens::Tokens;
 use sl_base::{Form, Mark, Scalar};
 use sl_grammar::Fault;
-use sl_syntax::{Block, Item, TokenKind, Stmt};
+use sl_syntax::{Block, Item, Stmt, TokenKind};
 use std::alloc::Global;
 
 impl<F: Fn(Global, &mut Tokens<'_>, usize) -> Result<(Stmt, usize), Fault>> Within<F> {

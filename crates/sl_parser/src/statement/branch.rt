@@ -12,7 +12,7 @@ use crate::statement::within::Within;
 use crate::tokens::Tokens;
 use sl_base::{Mark, Place};
 use sl_grammar::Fault;
-use sl_syntax::{Cond, TokenKind, Stmt};
+use sl_syntax::{Cond, Stmt, TokenKind};
 use std::alloc::Global;
 
 fn is_else(kind: TokenKind) -> bool

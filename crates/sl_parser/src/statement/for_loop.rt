@@ -13,7 +13,7 @@ use crate::statement::within::Within;
 use crate::tokens::Tokens;
 use sl_base::{Mark, Place, Scalar};
 use sl_grammar::Fault;
-use sl_syntax::{Cond, Effect, Expr, First, Identifier, TokenKind, Stmt};
+use sl_syntax::{Cond, Effect, Expr, First, Identifier, Stmt, TokenKind};
 use std::alloc::Global;
 
 // Whether the variable may be that of a `for` over a container. Without a scalar its type is `auto`.

@@ -9,7 +9,7 @@ ghost use Rattle.sl_parser.specs.StatementViews.{Holds, tall_stmt};
 use crate::tokens::Tokens;
 use sl_base::Mark;
 use sl_grammar::Fault;
-use sl_syntax::{TokenKind, Stmt};
+use sl_syntax::{Stmt, TokenKind};
 use std::alloc::Global;
 
 /// Reads a statement that may hold others. `inner` reads those, so that each rule is proved by itself.
