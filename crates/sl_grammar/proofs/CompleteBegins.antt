@@ -13,9 +13,9 @@ use Rattle.sl_syntax.specs.Tree as t
 use Rattle.sl_syntax.specs.Tree.{Cond, Declaration, Stmt, Item}
 use Rattle.sl_syntax.specs.Written.{Written, cond_written, declaration_written, container_written, effect_written, stmt_written, item_written, from_place}
 use Rattle.sl_syntax.specs.Written as v
-use Rattle.sl_grammar.specs.Effects.{effect}
-use Rattle.sl_grammar.specs.Statements.{is_else, is_item, declared, item_by, for_behind, for_by, effect_stmt, stmt_by}
-use Rattle.sl_grammar.specs.Steps.{Reader, Tall, ◌>>=◌, pure, only, kind_at, is_mark}
+use Rattle.sl_grammar.specs.Means.Effects.{effect}
+use Rattle.sl_grammar.specs.Means.Statements.{is_else, is_item, declared, item_by, for_behind, for_by, effect_stmt, stmt_by}
+use Rattle.sl_grammar.specs.Means.Steps.{Reader, Tall, ◌>>=◌, pure, only, kind_at, is_mark}
 use Rattle.sl_grammar.proofs.CompleteDeclarations.{reader_of, type-kind}
 use Rattle.sl_grammar.proofs.CompleteEffects.{EndsEffect, begins_effect, begins-effect, effect-begins, effect-some}
 use Rattle.sl_grammar.proofs.CompleteKinds.{expr-begins, scalar-kind}

@@ -21,9 +21,9 @@ use Rattle.sl_syntax.specs.Shaped.{binary_level, IsExpr}
 use Rattle.sl_syntax.specs.Tree as t
 use Rattle.sl_syntax.specs.Tree.{Expr}
 use Rattle.sl_syntax.specs.Written.{binary_mark, prefix_mark, assignment_mark, truth_word, scalar_word, form_word, written}
-use Rattle.sl_grammar.specs.Effects.{assignment_of}
-use Rattle.sl_grammar.specs.Expressions.{infix_of, goes_on}
-use Rattle.sl_grammar.specs.Steps.{kind_at, is_mark}
+use Rattle.sl_grammar.specs.Means.Effects.{assignment_of}
+use Rattle.sl_grammar.specs.Means.Expressions.{infix_of, goes_on}
+use Rattle.sl_grammar.specs.Means.Steps.{kind_at, is_mark}
 use Rattle.sl_grammar.proofs.Spelling.{Spelled, split, at_word}
 
 pub truth-kind : (v : Bool) → kind_of (truth_word v) ≡ k.Truth v

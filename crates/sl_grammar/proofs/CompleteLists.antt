@@ -10,8 +10,8 @@ use Rattle.sl_syntax.specs.Shaped.{IsExpr, AreExprs, Each}
 use Rattle.sl_syntax.specs.Tree as t
 use Rattle.sl_syntax.specs.Tree.{Expr, Exprs, exprs_from}
 use Rattle.sl_syntax.specs.Written.{written, list_written, rest_written}
-use Rattle.sl_grammar.specs.Expressions.{comma_expr, list_behind, list, list_before}
-use Rattle.sl_grammar.specs.Steps.{Reader, Tall, kind_at, is_mark, all_behind, mark}
+use Rattle.sl_grammar.specs.Means.Expressions.{comma_expr, list_behind, list, list_before}
+use Rattle.sl_grammar.specs.Means.Steps.{Reader, Tall, kind_at, is_mark, all_behind, mark}
 use Rattle.sl_grammar.proofs.CompleteKinds.{Ends, begins_expr, expr-begins}
 use Rattle.sl_grammar.proofs.CompleteSteps.{Turn, row, all-row}
 use Rattle.sl_grammar.proofs.KindLaws.{not_mark}

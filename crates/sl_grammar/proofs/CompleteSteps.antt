@@ -5,7 +5,7 @@ use Rattle.sl_syntax.specs.declared.token_kind.TokenKind.{TokenKind}
 use Rattle.sl_syntax.specs.Depth.{highest}
 use Rattle.sl_syntax.specs.Shaped.{Each}
 use Rattle.sl_syntax.specs.Written.{Written}
-use Rattle.sl_grammar.specs.Steps.{Outcome, Reader, Tall, kind_at, repeat, all_behind}
+use Rattle.sl_grammar.specs.Means.Steps.{Outcome, Reader, Tall, kind_at, repeat, all_behind}
 use Rattle.sl_grammar.proofs.Spelling.{Spelled, split, spells-length}
 
 -- one turn of a repetition reads this item

@@ -15,7 +15,7 @@ use Rattle.sl_syntax.specs.declared.token_kind.TokenKind.TheVariants as k
 use Rattle.sl_syntax.specs.TokenKinds.{keys, libs, kind_or, kind_in, kind_of}
 use Rattle.sl_syntax.specs.Shaped.{Each}
 use Rattle.sl_syntax.specs.Written.{truth_word, scalar_word, form_word}
-use Rattle.sl_grammar.specs.Steps.{is_mark, name_in, number_in, text_in}
+use Rattle.sl_grammar.specs.Means.Steps.{is_mark, number_in, text_in}
 
 pub some_one : {A : Type 0} {a b : A} → Some a ≡ Some b → a ≡ b
 some_one h = cc
@@ -102,10 +102,6 @@ of_table k.Number = false
 of_table k.Text = false
 of_table _ = true
 
-abbrev no_library : TokenKind → Bool
-no_library k.Library = false
-no_library _ = true
-
 -- a test that all kinds of a table pass
 abbrev all_pass : (TokenKind → Bool) → List (List ℕ × TokenKind) → Bool
 all_pass test [] = true
@@ -128,14 +124,6 @@ lib_passes test bytes other all = in_rows (λ _ kind. test kind ≡ true) bytes 
 apart : (test : TokenKind → Bool) (a b : TokenKind) → test a ≡ true → test b ≡ false → a ≡ b → ⊥
 apart test a b yes_a no_b e = false≢true (sym no_b ∙ ap test (sym e) ∙ yes_a)
 
-pub name_word : (y : Word) → kind_of y ≡ k.Name → y ≡ w.Name (name_in y)
-name_word (w.Name name) h = refl
-name_word (w.Lib name) h = absurd (apart of_table _ _ (lib_passes of_table name refl refl) refl h)
-name_word (w.Key name) h = absurd (apart of_table _ _ (key_passes of_table name refl refl) refl h)
-name_word (w.Number n) h = absurd cc
-name_word (w.Text bytes) h = absurd cc
-name_word (w.Mark m) h = absurd cc
-
 pub number_word : (y : Word) → kind_of y ≡ k.Number → y ≡ w.Number (number_in y)
 number_word (w.Name name) h = absurd cc
 number_word (w.Lib name) h = absurd (apart of_table _ _ (lib_passes of_table name refl refl) refl h)
@@ -151,15 +139,6 @@ text_word (w.Key name) h = absurd (apart of_table _ _ (key_passes of_table name 
 text_word (w.Number n) h = absurd cc
 text_word (w.Text bytes) h = refl
 text_word (w.Mark m) h = absurd cc
-
--- a function of the library is a lib that the grammar doesn't name
-pub library_word : (y : Word) → kind_of y ≡ k.Library → (y ≡ w.Lib (name_in y)) × (kind_of (w.Lib (name_in y)) ≡ k.Library)
-library_word (w.Name name) h = absurd cc
-library_word (w.Lib name) h = (refl, h)
-library_word (w.Key name) h = absurd (apart no_library _ _ (key_passes no_library name refl refl) refl h)
-library_word (w.Number n) h = absurd cc
-library_word (w.Text bytes) h = absurd cc
-library_word (w.Mark m) h = absurd cc
 
 abbrev no_end : TokenKind → Bool
 no_end k.End = false

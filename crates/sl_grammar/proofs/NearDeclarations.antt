@@ -8,9 +8,9 @@ use Rattle.sl_base.specs.declared.scalar.Scalar.TheVariants as c
 use Rattle.sl_syntax.specs.declared.token_kind.TokenKind.{TokenKind}
 use Rattle.sl_syntax.specs.declared.token_kind.TokenKind.TheVariants as k
 use Rattle.sl_syntax.specs.Written.{is_map}
-use Rattle.sl_grammar.specs.Declarations.{int_by, int, elements_by, container_type, optional_value, scalar_declaration, auto_declaration, braces, behind_equal_by, constructed, initializer_by, initializer, container_declaration, scalar_param, container_param, container_by, const_param, param_by, param, comma_param, params}
-use Rattle.sl_grammar.specs.Expressions.{expr}
-use Rattle.sl_grammar.specs.Steps.{is_mark}
+use Rattle.sl_grammar.specs.Means.Declarations.{int_by, int, elements_by, container_type, optional_value, scalar_declaration, auto_declaration, braces, behind_equal_by, constructed, initializer_by, initializer, container_declaration, scalar_param, container_param, container_by, const_param, param_by, param, comma_param, params}
+use Rattle.sl_grammar.specs.Means.Expressions.{expr}
+use Rattle.sl_grammar.specs.Means.Steps.{is_mark}
 use Rattle.sl_grammar.proofs.NearExpressions.{list-near, list_before-near, expr-near}
 use Rattle.sl_grammar.proofs.NearSteps.{Twins, Level, Any, plain, tall, yields, refuses, loose, skipped, chosen, by_test, under, mark-near, identifier-near, repeat-near}
 

@@ -13,9 +13,9 @@ use Rattle.sl_syntax.specs.declared.operator.Assignment.{Assignment}
 use Rattle.sl_syntax.specs.TokenKinds.{kind_of}
 use Rattle.sl_syntax.specs.Tree as t
 use Rattle.sl_syntax.specs.Tree.{Expr, Cond}
-use Rattle.sl_grammar.specs.Effects.{shifted_name, read, out_by, shifted_out, print, assignment_of, assigned_by, assigned, effect_by, effect, begins_no_read, no_read, cond_by, cond}
-use Rattle.sl_grammar.specs.Expressions.{expr}
-use Rattle.sl_grammar.specs.Steps.{Reader, Tall, and_then, ◌>>=◌, ◌>>◌, pure, is_mark, mark}
+use Rattle.sl_grammar.specs.Means.Effects.{shifted_name, read, out_by, shifted_out, print, assignment_of, assigned_by, assigned, effect_by, effect, begins_no_read, no_read, cond_by, cond}
+use Rattle.sl_grammar.specs.Means.Expressions.{expr}
+use Rattle.sl_grammar.specs.Means.Steps.{Reader, Tall, and_then, ◌>>=◌, ◌>>◌, pure, is_mark, mark}
 use Rattle.sl_grammar.proofs.NearExpressions.{expr-near, expr-behind-not, expr-behind-parenthesis}
 use Rattle.sl_grammar.proofs.NearSteps.{left_over, left-within, bind-left, Same, step, end, cut, Agree, past, Twins, Level, plain, tall, yields, loose, skipped, chosen, under, mark-near, identifier-near, repeat-near}
 

@@ -17,8 +17,8 @@ use Rattle.sl_syntax.specs.Shaped.{binary_level}
 use Rattle.sl_syntax.specs.TokenKinds.{kind_of}
 use Rattle.sl_syntax.specs.Tree as t
 use Rattle.sl_syntax.specs.Tree.{Expr}
-use Rattle.sl_grammar.specs.Expressions.{infix_of, goes_on, comma_expr, list_behind, list, list_before, arguments, name_or_call, named, library_call, parentheses, prefixed, operand_by, operand, indexed, member_by, dotted, pointed, postfixed, piece_by, piece, combined, operation_by, operation, climb, from_operand, expr}
-use Rattle.sl_grammar.specs.Steps.{Reader, Tall, and_then, ◌>>◌, pure, is_mark, mark}
+use Rattle.sl_grammar.specs.Means.Expressions.{infix_of, goes_on, comma_expr, list_behind, list, list_before, arguments, name_or_call, named, library_call, parentheses, prefixed, operand_by, operand, indexed, member_by, dotted, pointed, postfixed, piece_by, piece, combined, operation_by, operation, climb, from_operand, expr}
+use Rattle.sl_grammar.specs.Means.Steps.{Reader, Tall, and_then, ◌>>◌, pure, is_mark, mark}
 use Rattle.sl_grammar.proofs.NearSteps.{left_over, left-within, bind-left, Near, Twins, Level, plain, tall, yields, refuses, loose, skipped, taken, chosen, known, by_test, under, mark-near, identifier-near, library-near, repeat-near}
 
 module _ {b : ℕ} where

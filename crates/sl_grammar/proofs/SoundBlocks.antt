@@ -13,10 +13,10 @@ use Rattle.sl_syntax.specs.Tree as t
 use Rattle.sl_syntax.specs.Tree.{Declaration, Cond, Stmt, Item, Items}
 use Rattle.sl_syntax.specs.Written as s
 use Rattle.sl_syntax.specs.Written.{Written, declaration_written, cond_written, tested, stmt_written, item_written}
-use Rattle.sl_grammar.specs.Declarations.{scalar_declaration, auto_declaration, container_declaration}
-use Rattle.sl_grammar.specs.Effects as effects
-use Rattle.sl_grammar.specs.Statements.{is_else, is_item, declared, item_by, item, braced, condition}
-use Rattle.sl_grammar.specs.Steps.{Reader, Tall, kind_at, mark, all_behind}
+use Rattle.sl_grammar.specs.Means.Declarations.{scalar_declaration, auto_declaration, container_declaration}
+use Rattle.sl_grammar.specs.Means.Effects as effects
+use Rattle.sl_grammar.specs.Means.Statements.{is_else, is_item, declared, item_by, item, braced, condition}
+use Rattle.sl_grammar.specs.Means.Steps.{Reader, Tall, kind_at, mark, all_behind}
 use Rattle.sl_grammar.proofs.Rows.{items-written, items-height, are_items}
 use Rattle.sl_grammar.proofs.SoundDeclarations.{scalar-part, auto-part, container-part}
 use Rattle.sl_grammar.proofs.SoundEffects.{cond-part}

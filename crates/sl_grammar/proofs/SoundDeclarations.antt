@@ -20,9 +20,9 @@ use Rattle.sl_syntax.specs.Tree as t
 use Rattle.sl_syntax.specs.Tree.{Expr, Exprs, Initializer, Declaration}
 use Rattle.sl_syntax.specs.Written as s
 use Rattle.sl_syntax.specs.Written.{Written, at, plain, is_map, scalar_word, form_word, elements_written, container_written, written, list_written, initializer_written, value_written, declaration_written, option_written, param_written, params_written}
-use Rattle.sl_grammar.specs.Declarations.{int_by, int, elements_by, container_type, optional_value, scalar_declaration, auto_declaration, braces, behind_equal_by, constructed, initializer_by, initializer, container_declaration, scalar_param, container_param, container_by, const_param, param_by, param, comma_param, params}
-use Rattle.sl_grammar.specs.Expressions.{expr, list, list_before}
-use Rattle.sl_grammar.specs.Steps.{kind_at, here, is_mark, mark, identifier}
+use Rattle.sl_grammar.specs.Means.Declarations.{int_by, int, elements_by, container_type, optional_value, scalar_declaration, auto_declaration, braces, behind_equal_by, constructed, initializer_by, initializer, container_declaration, scalar_param, container_param, container_by, const_param, param_by, param, comma_param, params}
+use Rattle.sl_grammar.specs.Means.Expressions.{expr, list, list_before}
+use Rattle.sl_grammar.specs.Means.Steps.{kind_at, here, is_mark, mark, identifier}
 use Rattle.sl_grammar.proofs.Rows.{Anything, comma_param_written}
 use Rattle.sl_grammar.proofs.SoundExpressions.{sound, whole-part}
 use Rattle.sl_grammar.proofs.SoundLists.{list-part, list-before-part}

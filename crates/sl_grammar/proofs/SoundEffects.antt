@@ -15,10 +15,10 @@ use Rattle.sl_syntax.specs.Depth.{height, out_height, effect_height, cond_height
 use Rattle.sl_syntax.specs.Shaped.{IsExpr, IsRead, IsOut, IsEffect, IsCond}
 use Rattle.sl_syntax.specs.Tree.{Expr, Out, Effect, Cond}
 use Rattle.sl_syntax.specs.Written.{assignment_mark, written, out_written, read_written, effect_written, cond_written}
-use Rattle.sl_grammar.specs.Effects.{shifted_name, read, is_input, out_by, shifted_out, print, assignment_of, assigned_by, assigned, effect_by, effect, begins_no_read, no_read, cond_by}
-use Rattle.sl_grammar.specs.Effects as effects
-use Rattle.sl_grammar.specs.Expressions.{expr}
-use Rattle.sl_grammar.specs.Steps.{Tall, kind_at, is_mark, mark, identifier, all_behind}
+use Rattle.sl_grammar.specs.Means.Effects.{shifted_name, read, is_input, out_by, shifted_out, print, assignment_of, assigned_by, assigned, effect_by, effect, begins_no_read, no_read, cond_by}
+use Rattle.sl_grammar.specs.Means.Effects as effects
+use Rattle.sl_grammar.specs.Means.Expressions.{expr}
+use Rattle.sl_grammar.specs.Means.Steps.{Tall, kind_at, is_mark, mark, identifier, all_behind}
 use Rattle.sl_grammar.proofs.KindLaws.{is_mark_kind, some_one, both}
 use Rattle.sl_grammar.proofs.Rows.{Anything, name_written, flat, shifted_written}
 use Rattle.sl_grammar.proofs.SoundExpressions.{sound, whole-part}

@@ -18,8 +18,8 @@ use Rattle.sl_syntax.specs.Shaped.{binary_level, level, IsExpr, AreExprs}
 use Rattle.sl_syntax.specs.Tree.{Expr, Exprs}
 use Rattle.sl_syntax.specs.Written as s
 use Rattle.sl_syntax.specs.Written.{Written, binary_mark, prefix_mark, written, list_written}
-use Rattle.sl_grammar.specs.Expressions.{infix_of, binds_or, piece_level, goes_on, list_before, arguments, named, library_call, parentheses, prefixed, operand_by, operand}
-use Rattle.sl_grammar.specs.Steps.{Reader, Tall, kind_at, is_mark, mark, identifier, library}
+use Rattle.sl_grammar.specs.Means.Expressions.{infix_of, binds_or, piece_level, goes_on, list_before, arguments, named, library_call, parentheses, prefixed, operand_by, operand}
+use Rattle.sl_grammar.specs.Means.Steps.{Reader, Tall, kind_at, is_mark, mark, identifier, library}
 use Rattle.sl_grammar.proofs.KindLaws.{some_one}
 use Rattle.sl_grammar.proofs.SoundLists.{list-before-part}
 use Rattle.sl_grammar.proofs.SoundSteps.{Took, bound, chosen, guarded, answered, one_word, one_number, mark_plain, identifier_took, library_took, Part, Parts}
@@ -130,15 +130,15 @@ module _ (inner smaller : ℕ → Reader (Tall Expr)) (room : ℕ) (f : Finds in
         goes = omega (arith, goes-low (kind_at x.1));
       })))
 
-  library-left : (ts : List Token) (y : Took Expr) → library_call inner smaller room ts ≡ Ok y → Left room 7 ts y.0 y.1
+  library-left : (ts : List Token) (y : Took Expr) → kind_at ts ≡ k.Library → library_call inner smaller room ts ≡ Ok y → Left room 7 ts y.0 y.1
   unfolding library_call
-  library-left ts y h =
+  library-left ts y e h =
       let P : Took Expr → Type 0 = λ z. Left room 7 ts z.0 z.1 in
       guarded (nat_lt 0 room) _ _ y P h (λ high h1.
       bound (library ts) _ y P h1 (λ x name h2.
       bound (arguments inner smaller room x.1) _ y P h2 (λ xs read h3.
       let above : 0 < room = ltb-true 0 room high in
-      let first = library_took ts x name in
+      let first = library_took ts x e name in
       let found = arguments-part above x.1 xs read in
       answered _ y P h3 (record {
         part = record {
@@ -204,7 +204,7 @@ module _ (inner smaller : ℕ → Reader (Tall Expr)) (room : ℕ) (f : Finds in
     goes = omega (arith, goes-low (kind_at (drop 1 ts)));
   })
   operand-by k.Name ts y e h = named-left ts y h
-  operand-by k.Library ts y e h = library-left ts y h
+  operand-by k.Library ts y e h = library-left ts y e h
   operand-by (k.Mark m.LeftParenthesis) ts y e h = parentheses-left ts y e h
   operand-by (k.Mark m.Not) ts y e h = prefixed-left prefix.Not ts y e h
   operand-by (k.Mark m.Minus) ts y e h = prefixed-left prefix.Negate ts y e h

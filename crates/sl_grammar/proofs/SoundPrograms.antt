@@ -14,9 +14,9 @@ use Rattle.sl_syntax.specs.Placed.{Spells, Placed}
 use Rattle.sl_syntax.specs.Shaped.{IsFunction, Shaped}
 use Rattle.sl_syntax.specs.Tree.{Function, Program}
 use Rattle.sl_syntax.specs.Written.{result_word, function_written, program_written}
-use Rattle.sl_grammar.specs.Declarations.{params}
-use Rattle.sl_grammar.specs.Statements.{is_more, braced, stmt, function_behind, function_by, function, program}
-use Rattle.sl_grammar.specs.Steps.{kind_at, mark, identifier}
+use Rattle.sl_grammar.specs.Means.Declarations.{params}
+use Rattle.sl_grammar.specs.Means.Statements.{is_more, braced, stmt, function_behind, function_by, function, program}
+use Rattle.sl_grammar.specs.Means.Steps.{kind_at, mark, identifier}
 use Rattle.sl_grammar.proofs.KindLaws.{fixed, not_end}
 use Rattle.sl_grammar.proofs.SoundBlocks.{braced-part}
 use Rattle.sl_grammar.proofs.SoundDeclarations.{params-part}

@@ -14,10 +14,10 @@ use Rattle.sl_syntax.specs.Tree as t
 use Rattle.sl_syntax.specs.Tree.{Stmt}
 use Rattle.sl_syntax.specs.Written as s
 use Rattle.sl_syntax.specs.Written.{at, plain, stmt_written}
-use Rattle.sl_grammar.specs.Effects.{effect}
-use Rattle.sl_grammar.specs.Expressions.{expr}
-use Rattle.sl_grammar.specs.Statements.{is_else, braced, block, condition, otherwise, choice, loop, return_stmt, effect_stmt, word_stmt, stmt_by, stmt}
-use Rattle.sl_grammar.specs.Steps.{Reader, Tall, kind_at, here, is_mark, mark}
+use Rattle.sl_grammar.specs.Means.Effects.{effect}
+use Rattle.sl_grammar.specs.Means.Expressions.{expr}
+use Rattle.sl_grammar.specs.Means.Statements.{is_else, braced, block, condition, otherwise, choice, loop, return_stmt, effect_stmt, word_stmt, stmt_by, stmt}
+use Rattle.sl_grammar.specs.Means.Steps.{Reader, Tall, kind_at, here, is_mark, mark}
 use Rattle.sl_grammar.proofs.SoundBlocks.{FoundStmt, Finds, braced-part, condition-part, tested-written}
 use Rattle.sl_grammar.proofs.SoundEffects.{effect-part}
 use Rattle.sl_grammar.proofs.SoundExpressions.{whole-part}

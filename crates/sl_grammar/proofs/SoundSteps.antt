@@ -18,8 +18,8 @@ use Rattle.sl_syntax.specs.Shaped.{Each, AreSome}
 use Rattle.sl_syntax.specs.Written.{Written, at, plain, named}
 use Rattle.sl_syntax.specs.Written as s
 use Rattle.sl_grammar.specs.declared.fault.Fault.{Fault}
-use Rattle.sl_grammar.specs.Steps.{Outcome, Reader, Tall, and_then, kind_at, here, is_mark, mark, number_at, text_at, identifier_at, identifier_by, identifier, library_by, library, repeat, all_behind}
-use Rattle.sl_grammar.proofs.KindLaws.{fixed, word_of_kind, name_word, number_word, text_word, library_word, is_mark_kind}
+use Rattle.sl_grammar.specs.Means.Steps.{Outcome, Reader, Tall, and_then, kind_at, here, is_mark, mark, number_at, text_at, identifier_by, identifier, library_by, library, repeat, all_behind}
+use Rattle.sl_grammar.proofs.KindLaws.{fixed, word_of_kind, number_word, text_word, is_mark_kind}
 use Rattle.sl_grammar.proofs.Spelling.{Spelled, ◌⨾◌, no_words}
 
 -- what is read, with its height, and the tokens behind it
@@ -67,16 +67,6 @@ pub one_text : (ts : List Token) → kind_at ts ≡ k.Text → Spelled (at (here
 one_text [] h = absurd cc
 one_text (t ∷ ts) h = record { spells = ((text_word t.word h, (refl, tt)), refl) }
 
-one_name : (ts : List Token) → kind_at ts ≡ k.Name → Spelled (named (identifier_at ts) ∷ []) ts (drop 1 ts)
-one_name [] h = absurd cc
-one_name (t ∷ ts) h = record { spells = ((name_word t.word h, (refl, tt)), refl) }
-
-one_library : (ts : List Token) → kind_at ts ≡ k.Library
-    → Spelled (at (identifier_at ts).place (w.Lib (identifier_at ts).name) ∷ []) ts (drop 1 ts)
-    × (kind_of (w.Lib (identifier_at ts).name) ≡ k.Library)
-one_library [] h = absurd cc
-one_library (t ∷ ts) h = (record { spells = (((library_word t.word h).0, (refl, tt)), refl) }, (library_word t.word h).1)
-
 -- a mark that was seen is the first word
 pub seen : (x : Mark) (ts : List Token) → is_mark x (kind_at ts) ≡ true → Spelled (s.mark x ∷ []) ts (drop 1 ts)
 seen x ts h = one_plain ts (k.Mark x) (w.Mark x) (is_mark_kind x (kind_at ts) h) refl
@@ -110,26 +100,29 @@ mark_rest x ts y h =
     let P : Place × List Token → Type 0 = λ z. z.1 ≡ drop 1 ts in
     guarded (is_mark x (kind_at ts)) _ _ y P h (λ sees h1. answered _ y P h1 refl)
 
-name_took : (kind : TokenKind) (ts : List Token) (y : Identifier × List Token) → kind_at ts ≡ kind → identifier_by kind ts ≡ Ok y
-    → Spelled (named y.0 ∷ []) ts y.1
-name_took k.Name ts y e h = answered _ y (λ z. Spelled (named z.0 ∷ []) ts z.1) h (one_name ts e)
-name_took _ ts y e h = absurd cc
+name_took : (x : Word) (t : Token) (ts : List Token) (y : Identifier × List Token) → t.word ≡ x → identifier_by t.place x (t ∷ ts) ≡ Ok y
+    → Spelled (named y.0 ∷ []) (t ∷ ts) y.1
+name_took (w.Name n) t ts y e h = answered _ y (λ z. Spelled (named z.0 ∷ []) (t ∷ ts) z.1) h (record { spells = ((e, (refl, tt)), refl) })
+name_took _ t ts y e h = absurd cc
 
 pub identifier_took : (ts : List Token) (y : Identifier × List Token) → identifier ts ≡ Ok y → Spelled (named y.0 ∷ []) ts y.1
 unfolding identifier
-identifier_took ts y h = name_took (kind_at ts) ts y refl h
+identifier_took [] y h = absurd cc
+identifier_took (t ∷ ts) y h = name_took t.word t ts y refl h
 
 -- the name of a function of the library
 abbrev pub TookLibrary : List Token → Identifier × List Token → Type 0
 TookLibrary ts y = Spelled (at y.0.place (w.Lib y.0.name) ∷ []) ts y.1 × (kind_of (w.Lib y.0.name) ≡ k.Library)
 
-lib_took : (kind : TokenKind) (ts : List Token) (y : Identifier × List Token) → kind_at ts ≡ kind → library_by kind ts ≡ Ok y → TookLibrary ts y
-lib_took k.Library ts y e h = answered _ y (TookLibrary ts) h (one_library ts e)
-lib_took _ ts y e h = absurd cc
+lib_took : (x : Word) (t : Token) (ts : List Token) (y : Identifier × List Token) → t.word ≡ x → kind_of x ≡ k.Library
+    → library_by t.place x (t ∷ ts) ≡ Ok y → TookLibrary (t ∷ ts) y
+lib_took (w.Lib n) t ts y e is h = answered _ y (TookLibrary (t ∷ ts)) h (record { spells = ((e, (refl, tt)), refl) }, is)
+lib_took _ t ts y e is h = absurd cc
 
-pub library_took : (ts : List Token) (y : Identifier × List Token) → library ts ≡ Ok y → TookLibrary ts y
+pub library_took : (ts : List Token) (y : Identifier × List Token) → kind_at ts ≡ k.Library → library ts ≡ Ok y → TookLibrary ts y
 unfolding library
-library_took ts y h = lib_took (kind_at ts) ts y refl h
+library_took [] y is h = absurd cc
+library_took (t ∷ ts) y is h = lib_took t.word t ts y refl is h
 
 -- What is read: its words, that it fits, and its height, which is at most the room.
 pub record Part {A : Type 0} (written : A → List Written) (Fits : A → Type 0) (height : A → ℕ) (room : ℕ) (ts : List Token) (p : Tall A)

@@ -16,10 +16,10 @@ use Rattle.sl_syntax.specs.Tree.{Cond, Declaration, Item, Items, Stmt, items_fro
 use Rattle.sl_syntax.specs.Written as s
 use Rattle.sl_syntax.specs.Written.{Written, at, declaration_written, item_written, stmt_written}
 use Rattle.sl_grammar.specs.declared.fault.Fault.TheVariants.{Grammar}
-use Rattle.sl_grammar.specs.Declarations.{auto_declaration, container_declaration, scalar_declaration}
-use Rattle.sl_grammar.specs.Effects as effects
-use Rattle.sl_grammar.specs.Statements.{braced, condition, declared, is_item, item, item_by}
-use Rattle.sl_grammar.specs.Steps.{Reader, Tall, all_behind, here, kind_at, mark}
+use Rattle.sl_grammar.specs.Means.Declarations.{auto_declaration, container_declaration, scalar_declaration}
+use Rattle.sl_grammar.specs.Means.Effects as effects
+use Rattle.sl_grammar.specs.Means.Statements.{braced, condition, declared, is_item, item, item_by}
+use Rattle.sl_grammar.specs.Means.Steps.{Reader, Tall, all_behind, here, kind_at, mark}
 use Rattle.sl_grammar.proofs.Rows.{items-written, items-height, are_items}
 use Rattle.sl_grammar.proofs.SoundBlocks.{Finds, IsBlock, block_height, block_written, condition_written, item-part}
 use Rattle.sl_grammar.proofs.SoundDeclarations.{auto-part, container-part, scalar-part}

@@ -18,9 +18,9 @@ use Rattle.sl_syntax.specs.Tree.{Declaration, Expr, Initializer}
 use Rattle.sl_syntax.specs.Written as s
 use Rattle.sl_syntax.specs.Written.{container_written, declaration_written, elements_written, form_word, initializer_written, is_map, option_written, scalar_word, value_written, written}
 use Rattle.sl_grammar.specs.declared.fault.Fault.TheVariants.{Grammar}
-use Rattle.sl_grammar.specs.Declarations.{auto_declaration, behind_equal_by, braces, constructed, container_declaration, container_type, elements_by, initializer, initializer_by, int, int_by, optional_value, scalar_declaration}
-use Rattle.sl_grammar.specs.Expressions.{expr, list, list_before}
-use Rattle.sl_grammar.specs.Steps.{here, identifier, is_mark, kind_at, mark}
+use Rattle.sl_grammar.specs.Means.Declarations.{auto_declaration, behind_equal_by, braces, constructed, container_declaration, container_type, elements_by, initializer, initializer_by, int, int_by, optional_value, scalar_declaration}
+use Rattle.sl_grammar.specs.Means.Expressions.{expr, list, list_before}
+use Rattle.sl_grammar.specs.Means.Steps.{here, identifier, is_mark, kind_at, mark}
 use Rattle.sl_grammar.proofs.SoundDeclarations.{int-took, type-took, inner-part, scalar-written, opening, braces-written}
 use Rattle.sl_grammar.proofs.SoundExpressions.{whole-part}
 use Rattle.sl_grammar.proofs.SoundLists.{list-before-part, list-part}

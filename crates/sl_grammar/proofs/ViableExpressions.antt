@@ -16,8 +16,8 @@ use Rattle.sl_syntax.specs.Tree.{Expr}
 use Rattle.sl_syntax.specs.Written as s
 use Rattle.sl_syntax.specs.Written.{binary_mark, written}
 use Rattle.sl_grammar.specs.declared.fault.Fault.TheVariants.{Grammar}
-use Rattle.sl_grammar.specs.Expressions.{infix_of, binds_or, piece_level, goes_on, arguments, operand, indexed, dotted, pointed, piece_by, piece, combined, operation_by, operation, climb, from_operand, expr}
-use Rattle.sl_grammar.specs.Steps.{Reader, Tall, kind_at, here, is_mark, mark, identifier}
+use Rattle.sl_grammar.specs.Means.Expressions.{infix_of, binds_or, piece_level, goes_on, arguments, operand, indexed, dotted, pointed, piece_by, piece, combined, operation_by, operation, climb, from_operand, expr}
+use Rattle.sl_grammar.specs.Means.Steps.{Reader, Tall, kind_at, here, is_mark, mark, identifier}
 use Rattle.sl_grammar.proofs.SoundExpressions.{sound, operation-longer}
 use Rattle.sl_grammar.proofs.SoundOperands.{Left, Finds, binary-low, infix-mark, operand-left}
 use Rattle.sl_grammar.proofs.SoundSteps.{one_word, one_plain, identifier_took, Part, chosen}

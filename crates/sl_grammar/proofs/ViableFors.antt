@@ -17,11 +17,11 @@ use Rattle.sl_syntax.specs.Tree.{Cond, Effect, Expr, First, Stmt}
 use Rattle.sl_syntax.specs.Written as s
 use Rattle.sl_syntax.specs.Written.{Written, at, cond_written, effect_written, element_word, option_written, stmt_written, written}
 use Rattle.sl_grammar.specs.declared.fault.Fault.TheVariants.{Grammar}
-use Rattle.sl_grammar.specs.Effects as effects
-use Rattle.sl_grammar.specs.Effects.{effect}
-use Rattle.sl_grammar.specs.Expressions.{expr}
-use Rattle.sl_grammar.specs.Statements.{declared_first, first_of, for_behind, for_by, for_loop, is_auto, optional_cond, optional_effect, range_behind, ranges, valued_first, variable_behind}
-use Rattle.sl_grammar.specs.Steps.{Reader, Tall, here, identifier, is_mark, kind_at, mark}
+use Rattle.sl_grammar.specs.Means.Effects as effects
+use Rattle.sl_grammar.specs.Means.Effects.{effect}
+use Rattle.sl_grammar.specs.Means.Expressions.{expr}
+use Rattle.sl_grammar.specs.Means.Statements.{declared_first, first_of, for_behind, for_by, for_loop, is_auto, optional_cond, optional_effect, range_behind, ranges, valued_first, variable_behind}
+use Rattle.sl_grammar.specs.Means.Steps.{Reader, Tall, here, identifier, is_mark, kind_at, mark}
 use Rattle.sl_grammar.proofs.KindLaws.{both}
 use Rattle.sl_grammar.proofs.SoundBlocks.{Finds}
 use Rattle.sl_grammar.proofs.SoundEffects.{effect-part}

@@ -18,8 +18,8 @@ use Rattle.sl_syntax.specs.Depth.{highest, param_height}
 use Rattle.sl_syntax.specs.Written as s
 use Rattle.sl_syntax.specs.Written.{Written, container_written, param_written, params_written, scalar_word}
 use Rattle.sl_grammar.specs.declared.fault.Fault.TheVariants.{Grammar}
-use Rattle.sl_grammar.specs.Declarations.{comma_param, const_param, container_by, container_param, container_type, param, param_by, params, scalar_param}
-use Rattle.sl_grammar.specs.Steps.{here, identifier, is_mark, kind_at, mark}
+use Rattle.sl_grammar.specs.Means.Declarations.{comma_param, const_param, container_by, container_param, container_type, param, param_by, params, scalar_param}
+use Rattle.sl_grammar.specs.Means.Steps.{here, identifier, is_mark, kind_at, mark}
 use Rattle.sl_grammar.proofs.Rows.{Anything, comma_param_written}
 use Rattle.sl_grammar.proofs.SoundDeclarations.{by-took, comma-part, param-part, type-took}
 use Rattle.sl_grammar.proofs.SoundSteps.{mark_plain, one_word, seen, chosen}

@@ -18,9 +18,9 @@ use Rattle.sl_syntax.specs.Tree.{Function, Items, Program}
 use Rattle.sl_syntax.specs.Written as s
 use Rattle.sl_syntax.specs.Written.{Written, function_written, program_written, result_word}
 use Rattle.sl_grammar.specs.declared.fault.Fault.TheVariants.{Grammar}
-use Rattle.sl_grammar.specs.Declarations.{params}
-use Rattle.sl_grammar.specs.Statements.{braced, function, function_behind, function_by, is_more, program, stmt}
-use Rattle.sl_grammar.specs.Steps.{here, identifier, kind_at, mark}
+use Rattle.sl_grammar.specs.Means.Declarations.{params}
+use Rattle.sl_grammar.specs.Means.Statements.{braced, function, function_behind, function_by, is_more, program, stmt}
+use Rattle.sl_grammar.specs.Means.Steps.{here, identifier, kind_at, mark}
 use Rattle.sl_grammar.proofs.SoundBlocks.{block_written}
 use Rattle.sl_grammar.proofs.SoundDeclarations.{params-part}
 use Rattle.sl_grammar.proofs.SoundPrograms.{function-part, result-fixed, result_kind}

@@ -17,10 +17,10 @@ use Rattle.sl_syntax.specs.Written as s
 use Rattle.sl_syntax.specs.Written.{Written, at, from_place, plain, stmt_written, tested}
 use Rattle.sl_syntax.proofs.WrittenLaws.{words_of-from_place}
 use Rattle.sl_grammar.specs.declared.fault.Fault.TheVariants.{Grammar}
-use Rattle.sl_grammar.specs.Effects.{effect}
-use Rattle.sl_grammar.specs.Expressions.{expr}
-use Rattle.sl_grammar.specs.Statements.{block, braced, choice, condition, effect_stmt, is_else, loop, otherwise, return_stmt, stmt, stmt_by, word_stmt}
-use Rattle.sl_grammar.specs.Steps.{Reader, Tall, here, is_mark, kind_at, mark}
+use Rattle.sl_grammar.specs.Means.Effects.{effect}
+use Rattle.sl_grammar.specs.Means.Expressions.{expr}
+use Rattle.sl_grammar.specs.Means.Statements.{block, braced, choice, condition, effect_stmt, is_else, loop, otherwise, return_stmt, stmt, stmt_by, word_stmt}
+use Rattle.sl_grammar.specs.Means.Steps.{Reader, Tall, here, is_mark, kind_at, mark}
 use Rattle.sl_grammar.proofs.SoundBlocks.{Finds, condition-part, condition_written, tested-written}
 use Rattle.sl_grammar.proofs.SoundEffects.{effect-part}
 use Rattle.sl_grammar.proofs.SoundExpressions.{whole-part}

@@ -3,8 +3,10 @@ use Rattle.std.proofs.Common.{length, map, ◌≡◌, ℕ, zero, suc, ◌≤◌,
 use Rattle.std.specs.Prelude.{flat_map, codes}
 use Rattle.std.proofs.lemmas.List.{append-nil, map-append}
 use Rattle.sl_base.specs.declared.mark.Mark.{Mark}
+use Rattle.sl_base.specs.declared.place.Place.{Place}
 use Rattle.sl_base.specs.declared.token.Token.{Token}
 use Rattle.sl_base.specs.declared.word.Word.{Word}
+use Rattle.sl_base.specs.declared.word.Word.TheVariants as w
 use Rattle.sl_syntax.specs.declared.token_kind.TokenKind.{TokenKind}
 use Rattle.sl_syntax.specs.declared.token_kind.TokenKind.TheVariants as k
 use Rattle.sl_syntax.specs.declared.tree.identifier.Identifier.{Identifier}
@@ -18,7 +20,7 @@ use Rattle.sl_syntax.specs.Tree.{Expr}
 use Rattle.sl_syntax.specs.Written.{Written, words_of}
 use Rattle.sl_syntax.proofs.WrittenLaws.{words_of-append}
 use Rattle.sl_grammar.specs.declared.fault.Fault.TheVariants.{Grammar}
-use Rattle.sl_grammar.specs.Steps.{Outcome, Reader, Tall, and_then, kind_at, is_mark, mark, identifier_by, identifier, library_by, library, repeat, all_behind}
+use Rattle.sl_grammar.specs.Means.Steps.{Outcome, Reader, Tall, and_then, kind_at, is_mark, mark, identifier_by, identifier, library_by, library, repeat, all_behind}
 use Rattle.sl_grammar.proofs.SoundSteps.{Parts, chosen}
 use Rattle.sl_grammar.proofs.Spelling.{Spelled}
 
@@ -152,21 +154,23 @@ pub mark_fault : (x : Mark) (ts : List Token) (n : ℕ) → mark x ts ≡ Err (G
 unfolding mark
 mark_fault x ts n h = tested (is_mark x (kind_at ts)) _ (length ts) n (length ts ≡ n) h (λ _ h1. no_fault _ n (length ts ≡ n) h1) (λ _ e. e)
 
-name_fault : (kind : TokenKind) (ts : List Token) (n : ℕ) → identifier_by kind ts ≡ Err (Grammar n) → length ts ≡ n
-name_fault k.Name ts n h = absurd cc
-name_fault _ ts n h = cc
+name_fault : (x : Word) (place : Place) (ts : List Token) (n : ℕ) → identifier_by place x ts ≡ Err (Grammar n) → length ts ≡ n
+name_fault (w.Name m) place ts n h = absurd cc
+name_fault _ place ts n h = cc
 
 pub identifier_fault : (ts : List Token) (n : ℕ) → identifier ts ≡ Err (Grammar n) → length ts ≡ n
 unfolding identifier
-identifier_fault ts n h = name_fault (kind_at ts) ts n h
+identifier_fault [] n h = cc
+identifier_fault (t ∷ ts) n h = name_fault t.word t.place (t ∷ ts) n h
 
-lib_fault : (kind : TokenKind) (ts : List Token) (n : ℕ) → library_by kind ts ≡ Err (Grammar n) → length ts ≡ n
-lib_fault k.Library ts n h = absurd cc
-lib_fault _ ts n h = cc
+lib_fault : (x : Word) (place : Place) (ts : List Token) (n : ℕ) → library_by place x ts ≡ Err (Grammar n) → length ts ≡ n
+lib_fault (w.Lib m) place ts n h = absurd cc
+lib_fault _ place ts n h = cc
 
 pub library_fault : (ts : List Token) (n : ℕ) → library ts ≡ Err (Grammar n) → length ts ≡ n
 unfolding library
-library_fault ts n h = lib_fault (kind_at ts) ts n h
+library_fault [] n h = cc
+library_fault (t ∷ ts) n h = lib_fault t.word t.place (t ∷ ts) n h
 
 -- what a reader stops in, where it stops at a fault: it fits and is low enough
 abbrev pub Stops : {A : Type 0} → (A → List Written) → (A → Type 0) → (A → ℕ) → ℕ → Reader (Tall A) → Type 0

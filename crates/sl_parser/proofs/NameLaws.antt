@@ -10,7 +10,7 @@ use Rattle.sl_syntax.specs.declared.token_kind.TokenKind.TheVariants as k
 use Rattle.sl_syntax.specs.declared.tree.identifier.Identifier.{Identifier}
 use Rattle.sl_syntax.specs.TokenKinds.{kind_of, kind_in, kind_or, keys, libs}
 use Rattle.sl_syntax.specs.Shaped.{Each}
-use Rattle.sl_grammar.specs.Steps.{Outcome, refusal, name_in, identifier_at, identifier, identifier_by, library, library_by as library_of_kind}
+use Rattle.sl_grammar.specs.Means.Steps.{Outcome, refusal, name_in, identifier_at, identifier, identifier_by, library, library_by as library_of_kind}
 use Rattle.sl_parser.specs.Names.{named_at, named_by, library_at, library_by, library_named}
 
 -- what holds of each row's kind and of the other holds of the kind that is found

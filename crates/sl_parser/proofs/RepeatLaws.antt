@@ -3,7 +3,7 @@ use Rattle.std.proofs.Common.{◌≡◌, refl, ◌∙◌, ◌≤◌, ℕ, zero, 
 use Rattle.sl_base.specs.declared.token.Token.{Token}
 use Rattle.sl_syntax.specs.declared.token_kind.TokenKind.{TokenKind}
 use Rattle.sl_grammar.specs.declared.fault.Fault.{Fault}
-use Rattle.sl_grammar.specs.Steps.{Outcome, Reader, Tall, kind_at, refusal, repeat, and_then}
+use Rattle.sl_grammar.specs.Means.Steps.{Outcome, Reader, Tall, kind_at, refusal, repeat, and_then}
 use Rattle.sl_parser.proofs.Fuel.{next_turn}
 
 -- a step after a test

@@ -2,11 +2,11 @@
 ghost use Rattle.std.specs.Prelude.{◌≡◌, ◌≤◌, ◌<◌, IfOk};
 ghost use Rattle.sl_base.specs.declared.limits.TheConstants.{TREE_DEPTH};
 ghost use Rattle.sl_syntax.specs.declared.token_kind.TokenKind.TheVariants.{End};
-ghost use Rattle.sl_grammar.specs.Steps.{Reads, is_mark};
-ghost use Rattle.sl_grammar.specs.Effects as steps;
-ghost use Rattle.sl_parser.specs.EffectViews.{tall_cond, tall_effect};
-ghost use Rattle.sl_parser.specs.Nests.{tall_expr};
-ghost use Rattle.sl_parser.specs.Reader as spec;
+ghost use Rattle.sl_grammar.specs.Means.Steps.{Reads, is_mark};
+ghost use Rattle.sl_grammar.specs.Means.Effects as steps;
+ghost use Rattle.sl_parser.specs.Means.EffectViews.{tall_cond, tall_effect};
+ghost use Rattle.sl_parser.specs.Means.Nests.{tall_expr};
+ghost use Rattle.sl_parser.specs.Means.Reader as spec;
 
 mod printing;
 mod reading;
@@ -20,50 +20,50 @@ use sl_grammar::Fault;
 use sl_syntax::{Arithmetic, Assignment, Cond, Effect, Expr, TokenKind};
 use std::alloc::Global;
 
-/// What is done for its effect, and its height, which the room bounds.
-#[tactic(auto, unfolding(crate::specs::Reader::effect))]
-pub fn effect(alloc: Global, tokens: &mut Tokens<'_>, room: usize) -> Result<(Effect, usize), Fault>
-    requires small { room ≤ TREE_DEPTH }
-    ensures reads { Reads tall_effect (spec.effect room tokens.old) result tokens.new }
-    ensures low { IfOk result (λ x. x.1 ≤ room) }
+/// What is done for its effect, and its height, which the depth_left bounds.
+#[tactic(auto, unfolding(crate::specs::Means::Reader::effect))]
+pub fn effect(alloc: Global, tokens: &mut Tokens<'_>, depth_left: usize) -> Result<(Effect, usize), Fault>
+    requires small { depth_left ≤ TREE_DEPTH }
+    ensures reads { Reads tall_effect (spec.effect depth_left tokens.old) result tokens.new }
+    ensures low { IfOk result (λ x. x.1 ≤ depth_left) }
 {
     match tokens.kind() {
         TokenKind::Input => {
-            let (read, height) = read(alloc, tokens, room)?;
+            let (read, height) = read(alloc, tokens, depth_left)?;
             Ok((Effect::Read(read), height))
         }
         TokenKind::Output => {
-            let (print, height) = print(alloc, tokens, room)?;
+            let (print, height) = print(alloc, tokens, depth_left)?;
             Ok((Effect::Print(print), height))
         }
         _ => {
-            let left = expr(alloc, tokens, room + 1, 1)?;
-            assigned(alloc, tokens, room, left)
+            let left = expr(alloc, tokens, depth_left + 1, 1)?;
+            assigned(alloc, tokens, depth_left, left)
         }
     }
 }
 
 // A left side, or a whole effect.
-#[tactic(auto, unfolding(crate::specs::Reader::assigned))]
+#[tactic(auto, unfolding(crate::specs::Means::Reader::assigned))]
 fn assigned(
     alloc: Global,
     tokens: &mut Tokens<'_>,
-    room: usize,
+    depth_left: usize,
     left: (Expr, usize),
 ) -> Result<(Effect, usize), Fault>
-    requires low { left.1 ≤ room }
-    ensures reads { Reads tall_effect (spec.assigned room (tall_expr left) tokens.old) result tokens.new }
-    ensures low { IfOk result (λ x. x.1 ≤ room) }
+    requires low { left.1 ≤ depth_left }
+    ensures reads { Reads tall_effect (spec.assigned depth_left (tall_expr left) tokens.old) result tokens.new }
+    ensures low { IfOk result (λ x. x.1 ≤ depth_left) }
 {
     let (left, height) = left;
     match assignment_of(tokens.kind()) {
         Some(operator) => {
-            if height >= room {
+            if height >= depth_left {
                 return Err(tokens.refuse());
             }
             let place = tokens.place();
             tokens.skip();
-            let (right, other) = expr(alloc, tokens, room, 1)?;
+            let (right, other) = expr(alloc, tokens, depth_left, 1)?;
             Ok((
                 Effect::Assign {
                     left,
@@ -93,32 +93,32 @@ fn assignment_of(kind: TokenKind) -> Option<Assignment>
     }
 }
 
-/// What is tested, and its height, which the room bounds.
-#[tactic(auto, unfolding(crate::specs::Reader::cond))]
-pub fn cond(alloc: Global, tokens: &mut Tokens<'_>, room: usize) -> Result<(Cond, usize), Fault>
-    requires small { room ≤ TREE_DEPTH }
-    ensures reads { Reads tall_cond (spec.cond room tokens.old) result tokens.new }
-    ensures low { IfOk result (λ x. x.1 ≤ room) }
+/// What is tested, and its height, which the depth_left bounds.
+#[tactic(auto, unfolding(crate::specs::Means::Reader::cond))]
+pub fn cond(alloc: Global, tokens: &mut Tokens<'_>, depth_left: usize) -> Result<(Cond, usize), Fault>
+    requires small { depth_left ≤ TREE_DEPTH }
+    ensures reads { Reads tall_cond (spec.cond depth_left tokens.old) result tokens.new }
+    ensures low { IfOk result (λ x. x.1 ≤ depth_left) }
 {
     match tokens.kind() {
         TokenKind::Input => {
-            let (read, height) = read(alloc, tokens, room)?;
+            let (read, height) = read(alloc, tokens, depth_left)?;
             Ok((Cond::Read(read), height))
         }
-        _ => tested(alloc, tokens, room),
+        _ => tested(alloc, tokens, depth_left),
     }
 }
 
 // What is tested where the first word is not `std::cin`; any such word stands for all of them.
-fn tested(alloc: Global, tokens: &mut Tokens<'_>, room: usize) -> Result<(Cond, usize), Fault>
-    requires small { room ≤ TREE_DEPTH }
-    ensures reads { Reads tall_cond (steps.cond_by room End tokens.old) result tokens.new }
-    ensures low { IfOk result (λ x. x.1 ≤ room) }
+fn tested(alloc: Global, tokens: &mut Tokens<'_>, depth_left: usize) -> Result<(Cond, usize), Fault>
+    requires small { depth_left ≤ TREE_DEPTH }
+    ensures reads { Reads tall_cond (steps.cond_by depth_left End tokens.old) result tokens.new }
+    ensures low { IfOk result (λ x. x.1 ≤ depth_left) }
 {
-    if room > 1 && begins_no_read(tokens) {
-        return no_read(alloc, tokens, room);
+    if depth_left > 1 && begins_no_read(tokens) {
+        return no_read(alloc, tokens, depth_left);
     }
-    let (value, height) = expr(alloc, tokens, room + 1, 1)?;
+    let (value, height) = expr(alloc, tokens, depth_left + 1, 1)?;
     Ok((Cond::Value(value), height))
 }
 
@@ -151,16 +151,16 @@ fn is_input(kind: TokenKind) -> bool
 }
 
 // `!(std::cin >> x)`
-#[tactic(auto, unfolding(crate::specs::Reader::no_read))]
-fn no_read(alloc: Global, tokens: &mut Tokens<'_>, room: usize) -> Result<(Cond, usize), Fault>
-    requires some { 1 < room }
-    ensures reads { Reads tall_cond (spec.no_read room tokens.old) result tokens.new }
-    ensures low { IfOk result (λ x. x.1 ≤ room) }
+#[tactic(auto, unfolding(crate::specs::Means::Reader::no_read))]
+fn no_read(alloc: Global, tokens: &mut Tokens<'_>, depth_left: usize) -> Result<(Cond, usize), Fault>
+    requires some { 1 < depth_left }
+    ensures reads { Reads tall_cond (spec.no_read depth_left tokens.old) result tokens.new }
+    ensures low { IfOk result (λ x. x.1 ≤ depth_left) }
 {
     let place = tokens.place();
     tokens.skip();
     tokens.mark(Mark::LeftParenthesis)?;
-    let (read, _) = read(alloc, tokens, room)?;
+    let (read, _) = read(alloc, tokens, depth_left)?;
     tokens.mark(Mark::RightParenthesis)?;
     Ok((Cond::NotRead { place, read }, 2))
 }

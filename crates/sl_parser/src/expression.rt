@@ -1,8 +1,8 @@
 //! Expressions, by how tightly operators bind.
 ghost use Rattle.std.specs.Prelude.{◌≡◌, ◌<◌, IfOk};
-ghost use Rattle.sl_grammar.specs.Steps.{Reads};
-ghost use Rattle.sl_parser.specs.Nests.{tall_expr};
-ghost use Rattle.sl_parser.specs.Reader as spec;
+ghost use Rattle.sl_grammar.specs.Means.Steps.{Reads};
+ghost use Rattle.sl_parser.specs.Means.Nests.{tall_expr};
+ghost use Rattle.sl_parser.specs.Means.Reader as spec;
 
 pub mod list;
 pub mod nested;
@@ -30,7 +30,7 @@ pub fn expr(
     }
     Nested {
         alloc,
-        room: depth - 1,
+        depth_left: depth - 1,
         inner: expr,
     }
     .from_operand(tokens, least)

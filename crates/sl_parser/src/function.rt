@@ -2,10 +2,10 @@
 ghost use Rattle.std.specs.Prelude.{◌≡◌, ◌≤◌, map, length, IfOk};
 ghost use Rattle.sl_base.specs.declared.limits.TheConstants.{TREE_DEPTH};
 ghost use Rattle.sl_syntax.specs.TreeView.{function_of};
-ghost use Rattle.sl_grammar.specs.Statements as steps;
-ghost use Rattle.sl_grammar.specs.Steps.{Reads};
-ghost use Rattle.sl_parser.specs.FunctionViews.{tall_function, tall_functions};
-ghost use Rattle.sl_parser.specs.Reader as spec;
+ghost use Rattle.sl_grammar.specs.Means.Statements as steps;
+ghost use Rattle.sl_grammar.specs.Means.Steps.{Reads};
+ghost use Rattle.sl_parser.specs.Means.FunctionViews.{tall_function, tall_functions};
+ghost use Rattle.sl_parser.specs.Means.Reader as spec;
 
 use crate::params::params;
 use crate::statement::braced;
@@ -17,7 +17,7 @@ use sl_syntax::{Function, ResultType, TokenKind};
 use std::alloc::Global;
 
 /// The functions up to the last token, at least one, and the height of the highest.
-#[tactic(auto, unfolding(crate::specs::Reader::program))]
+#[tactic(auto, unfolding(crate::specs::Means::Reader::program))]
 pub fn functions(alloc: Global, tokens: &mut Tokens<'_>) -> Result<(Vec<Function>, usize), Fault>
     ensures reads { Reads tall_functions (spec.program tokens.old) result tokens.new }
     ensures low { IfOk result (λ x. x.1 ≤ TREE_DEPTH) }
@@ -29,7 +29,7 @@ pub fn functions(alloc: Global, tokens: &mut Tokens<'_>) -> Result<(Vec<Function
 }
 
 // The functions behind those that are there.
-#[tactic(auto, unfolding(crate::specs::Reader::repeat))]
+#[tactic(auto, unfolding(crate::specs::Means::Reader::repeat))]
 fn others(
     alloc: Global,
     tokens: &mut Tokens<'_>,
@@ -64,7 +64,7 @@ fn is_end(kind: TokenKind) -> bool
     }
 }
 
-#[tactic(auto, unfolding(crate::specs::Reader::function))]
+#[tactic(auto, unfolding(crate::specs::Means::Reader::function))]
 fn function(alloc: Global, tokens: &mut Tokens<'_>) -> Result<(Function, usize), Fault>
     ensures reads { Reads tall_function (spec.function tokens.old) result tokens.new }
     ensures low { IfOk result (λ x. x.1 ≤ TREE_DEPTH) }
@@ -77,7 +77,7 @@ fn function(alloc: Global, tokens: &mut Tokens<'_>) -> Result<(Function, usize),
 }
 
 // A function, whose first word is this type.
-#[tactic(auto, unfolding(crate::specs::Reader::function_behind))]
+#[tactic(auto, unfolding(crate::specs::Means::Reader::function_behind))]
 fn function_behind(
     alloc: Global,
     tokens: &mut Tokens<'_>,

@@ -1,10 +1,10 @@
 //! Parameters.
 ghost use Rattle.std.specs.Prelude.{◌≡◌, ◌≤◌, length, IfOk};
 ghost use Rattle.sl_base.specs.declared.mark.Mark.TheVariants as m;
-ghost use Rattle.sl_grammar.specs.Steps.{Reads, is_mark, kind_at};
-ghost use Rattle.sl_grammar.specs.Declarations.{comma_param, container_by};
-ghost use Rattle.sl_parser.specs.DeclarationViews.{tall_params};
-ghost use Rattle.sl_parser.specs.Reader as spec;
+ghost use Rattle.sl_grammar.specs.Means.Steps.{Reads, is_mark, kind_at};
+ghost use Rattle.sl_grammar.specs.Means.Declarations.{comma_param, container_by};
+ghost use Rattle.sl_parser.specs.Means.DeclarationViews.{tall_params};
+ghost use Rattle.sl_parser.specs.Means.Reader as spec;
 
 use crate::container::container_type;
 use crate::tokens::Tokens;
@@ -14,7 +14,7 @@ use sl_syntax::{ContainerType, Param, TokenKind};
 use std::alloc::Global;
 
 /// The parameters before a `)`, and their greatest height.
-#[tactic(auto, unfolding(crate::specs::Reader::params))]
+#[tactic(auto, unfolding(crate::specs::Means::Reader::params))]
 pub fn params(alloc: Global, tokens: &mut Tokens<'_>) -> Result<(Vec<Param>, usize), Fault>
     ensures reads { Reads tall_params (spec.params tokens.old) result tokens.new }
     ensures low { IfOk result (λ x. x.1 ≤ 2) }
@@ -62,7 +62,7 @@ fn other(tokens: &mut Tokens<'_>) -> Result<(Param, usize), Fault>
 }
 
 // A parameter, and its height.
-#[tactic(auto, unfolding(crate::specs::Reader::param))]
+#[tactic(auto, unfolding(crate::specs::Means::Reader::param))]
 fn param(tokens: &mut Tokens<'_>) -> Result<(Param, usize), Fault>
     ensures reads { Reads (λ x. x) (spec.param tokens.old) result tokens.new }
     ensures low { IfOk result (λ x. x.1 ≤ 2) }
@@ -80,7 +80,7 @@ fn param(tokens: &mut Tokens<'_>) -> Result<(Param, usize), Fault>
 }
 
 // What stands behind the type of a number: a name, with `&` before it where the parameter is a reference.
-#[tactic(auto, unfolding(crate::specs::Reader::scalar_param))]
+#[tactic(auto, unfolding(crate::specs::Means::Reader::scalar_param))]
 fn scalar_param(
     tokens: &mut Tokens<'_>,
     place: Place,
@@ -113,7 +113,7 @@ fn scalar_param(
 }
 
 // A container that may be changed.
-#[tactic(auto, unfolding(crate::specs::Reader::container_param))]
+#[tactic(auto, unfolding(crate::specs::Means::Reader::container_param))]
 fn container_param(tokens: &mut Tokens<'_>, form: Form) -> Result<(Param, usize), Fault>
     ensures reads { Reads (λ x. x) (spec.container_param form tokens.old) result tokens.new }
     ensures low { IfOk result (λ x. x.1 ≤ 2) }
@@ -125,7 +125,7 @@ fn container_param(tokens: &mut Tokens<'_>, form: Form) -> Result<(Param, usize)
 }
 
 // A container that may not be changed.
-#[tactic(auto, unfolding(crate::specs::Reader::const_param))]
+#[tactic(auto, unfolding(crate::specs::Means::Reader::const_param))]
 fn const_param(tokens: &mut Tokens<'_>) -> Result<(Param, usize), Fault>
     ensures reads { Reads (λ x. x) (spec.const_param tokens.old) result tokens.new }
     ensures low { IfOk result (λ x. x.1 ≤ 2) }

@@ -1,9 +1,9 @@
 //! Reads.
 ghost use Rattle.std.specs.Prelude.{◌≡◌, ◌≤◌, IfOk, length};
 ghost use Rattle.sl_base.specs.declared.mark.Mark.TheVariants as m;
-ghost use Rattle.sl_grammar.specs.Steps.{Reads, is_mark};
-ghost use Rattle.sl_parser.specs.EffectViews.{flat};
-ghost use Rattle.sl_parser.specs.Reader as spec;
+ghost use Rattle.sl_grammar.specs.Means.Steps.{Reads, is_mark};
+ghost use Rattle.sl_parser.specs.Means.EffectViews.{flat};
+ghost use Rattle.sl_parser.specs.Means.Reader as spec;
 
 use crate::tokens::Tokens;
 use sl_base::{Items, Mark};
@@ -12,12 +12,12 @@ use sl_syntax::{Identifier, Read};
 use std::alloc::Global;
 
 /// `std::cin >> x >> y`, and its height.
-#[tactic(auto, unfolding(crate::specs::Reader::read))]
-pub fn read(alloc: Global, tokens: &mut Tokens<'_>, room: usize) -> Result<(Read, usize), Fault>
-    ensures reads { Reads (λ x. x) (spec.read room tokens.old) result tokens.new }
-    ensures low { IfOk result (λ x. x.1 ≤ room) }
+#[tactic(auto, unfolding(crate::specs::Means::Reader::read))]
+pub fn read(alloc: Global, tokens: &mut Tokens<'_>, depth_left: usize) -> Result<(Read, usize), Fault>
+    ensures reads { Reads (λ x. x) (spec.read depth_left tokens.old) result tokens.new }
+    ensures low { IfOk result (λ x. x.1 ≤ depth_left) }
 {
-    if room == 0 {
+    if depth_left == 0 {
         return Err(tokens.refuse());
     }
     let place = tokens.place();
@@ -30,7 +30,7 @@ pub fn read(alloc: Global, tokens: &mut Tokens<'_>, room: usize) -> Result<(Read
 }
 
 // The others of a read, behind those that are there.
-#[tactic(auto, unfolding(crate::specs::Reader::repeat))]
+#[tactic(auto, unfolding(crate::specs::Means::Reader::repeat))]
 fn variables_behind(
     tokens: &mut Tokens<'_>,
     mut variables: Items<Identifier>,
@@ -51,7 +51,7 @@ fn variables_behind(
 }
 
 // `>> x`
-#[tactic(auto, unfolding(crate::specs::Reader::shifted_name))]
+#[tactic(auto, unfolding(crate::specs::Means::Reader::shifted_name))]
 fn shifted_name(tokens: &mut Tokens<'_>) -> Result<Identifier, Fault>
     ensures { Reads flat (spec.shifted_name tokens.old) result tokens.new }
 {

@@ -1,7 +1,7 @@
 ghost use Rattle.std.specs.Prelude.{◌≡◌, ◌≤◌, ◌<◌, IfOk};
-ghost use Rattle.sl_grammar.specs.Steps.{Reads};
-ghost use Rattle.sl_parser.specs.Nests.{Nests, tall_expr};
-ghost use Rattle.sl_parser.specs.Reader as spec;
+ghost use Rattle.sl_grammar.specs.Means.Steps.{Reads};
+ghost use Rattle.sl_parser.specs.Means.Nests.{Nests, tall_expr};
+ghost use Rattle.sl_parser.specs.Means.Reader as spec;
 
 use crate::tokens::Tokens;
 use sl_grammar::Fault;
@@ -14,7 +14,7 @@ use std::alloc::Global;
 pub struct Nested<F> {
     pub alloc: Global,
     /// How many nodes may still stand over a leaf.
-    pub room: usize,
+    pub depth_left: usize,
     pub inner: F,
 }
 
@@ -26,8 +26,8 @@ impl<F: Fn(Global, &mut Tokens<'_>, usize, u8) -> Result<(Expr, usize), Fault>> 
         depth: usize,
         least: u8,
     ) -> Result<(Expr, usize), Fault>
-        requires reader { Nests self.now.room (F.pre self.now.inner) (F.post self.now.inner) }
-        requires within { depth ≤ self.now.room }
+        requires reader { Nests self.now.depth_left (F.pre self.now.inner) (F.post self.now.inner) }
+        requires within { depth ≤ self.now.depth_left }
         ensures reads { Reads tall_expr (spec.expr depth least tokens.old) result tokens.new }
         ensures low { IfOk result (λ x. x.1 < depth) }
     {

@@ -1,10 +1,10 @@
 ghost use Rattle.std.specs.Prelude.{◌≡◌, ◌≤◌, ◌<◌, ◌+◌, ◌-◌, IfOk};
 ghost use Rattle.sl_syntax.specs.Shaped as shaped;
-ghost use Rattle.sl_grammar.specs.Steps.{Reads};
-ghost use Rattle.sl_grammar.specs.Expressions as steps;
-ghost use Rattle.sl_parser.specs.Nests.{Nests, OkOrMemory, called, tall_expr};
+ghost use Rattle.sl_grammar.specs.Means.Steps.{Reads};
+ghost use Rattle.sl_grammar.specs.Means.Expressions as steps;
+ghost use Rattle.sl_parser.specs.Means.Nests.{Nests, OkOrMemory, called, tall_expr};
 ghost use Rattle.sl_syntax.specs.Tree as tree;
-ghost use Rattle.sl_parser.specs.Reader as spec;
+ghost use Rattle.sl_parser.specs.Means.Reader as spec;
 
 use crate::expression::nested::Nested;
 use crate::tokens::Tokens;
@@ -85,34 +85,34 @@ fn goes_on(kind: TokenKind) -> u8
 
 impl<F: Fn(Global, &mut Tokens<'_>, usize, u8) -> Result<(Expr, usize), Fault>> Nested<F> {
     /// An expression whose operators bind at least so tightly.
-    #[tactic(auto, unfolding(crate::specs::Reader::from_operand))]
+    #[tactic(auto, unfolding(crate::specs::Means::Reader::from_operand))]
     pub fn from_operand(&self, tokens: &mut Tokens<'_>, least: u8) -> Result<(Expr, usize), Fault>
-        requires { Nests self.now.room (F.pre self.now.inner) (F.post self.now.inner) }
-        ensures reads { Reads tall_expr (spec.from_operand (spec.expr self.now.room) (spec.expr (self.now.room - 1)) self.now.room least tokens.old) result tokens.new }
-        ensures low { IfOk result (λ x. x.1 ≤ self.now.room) }
+        requires { Nests self.now.depth_left (F.pre self.now.inner) (F.post self.now.inner) }
+        ensures reads { Reads tall_expr (spec.from_operand (spec.expr self.now.depth_left) (spec.expr (self.now.depth_left - 1)) self.now.depth_left least tokens.old) result tokens.new }
+        ensures low { IfOk result (λ x. x.1 ≤ self.now.depth_left) }
     {
         let first = self.operand(tokens)?;
         self.climb(tokens, least, first)
     }
 
     // Goes on as long as an operator binds tightly enough. Each turn makes the tree higher.
-    #[tactic(auto, unfolding(crate::specs::Reader::climb))]
+    #[tactic(auto, unfolding(crate::specs::Means::Reader::climb))]
     fn climb(
         &self,
         tokens: &mut Tokens<'_>,
         least: u8,
         mut left: (Expr, usize),
     ) -> Result<(Expr, usize), Fault>
-        requires reader { Nests self.now.room (F.pre self.now.inner) (F.post self.now.inner) }
-        requires room { left.1 ≤ self.now.room }
-        ensures reads { Reads tall_expr (spec.climb (spec.expr self.now.room) (spec.expr (self.now.room - 1)) self.now.room least self.now.room (tall_expr left) tokens.old) result tokens.new }
-        ensures low { IfOk result (λ x. x.1 ≤ self.now.room) }
+        requires reader { Nests self.now.depth_left (F.pre self.now.inner) (F.post self.now.inner) }
+        requires depth_left { left.1 ≤ self.now.depth_left }
+        ensures reads { Reads tall_expr (spec.climb (spec.expr self.now.depth_left) (spec.expr (self.now.depth_left - 1)) self.now.depth_left least self.now.depth_left (tall_expr left) tokens.old) result tokens.new }
+        ensures low { IfOk result (λ x. x.1 ≤ self.now.depth_left) }
     {
-        for _turn in 0..self.room {
+        for _turn in 0..self.depth_left {
             if goes_on(tokens.kind()) < least {
                 return Ok(left);
             }
-            if left.1 >= self.room {
+            if left.1 >= self.depth_left {
                 return Err(tokens.refuse());
             }
             left = self.operation(tokens, left)?;
@@ -124,16 +124,16 @@ impl<F: Fn(Global, &mut Tokens<'_>, usize, u8) -> Result<(Expr, usize), Fault>> 
     }
 
     // The left side and what goes on with it.
-    #[tactic(auto, unfolding(crate::specs::Reader::operation))]
+    #[tactic(auto, unfolding(crate::specs::Means::Reader::operation))]
     fn operation(
         &self,
         tokens: &mut Tokens<'_>,
         left: (Expr, usize),
     ) -> Result<(Expr, usize), Fault>
-        requires reader { Nests self.now.room (F.pre self.now.inner) (F.post self.now.inner) }
-        requires room { left.1 < self.now.room }
-        ensures reads { Reads tall_expr (spec.operation (spec.expr self.now.room) (spec.expr (self.now.room - 1)) self.now.room (tall_expr left) tokens.old) result tokens.new }
-        ensures low { IfOk result (λ x. x.1 ≤ self.now.room) }
+        requires reader { Nests self.now.depth_left (F.pre self.now.inner) (F.post self.now.inner) }
+        requires depth_left { left.1 < self.now.depth_left }
+        ensures reads { Reads tall_expr (spec.operation (spec.expr self.now.depth_left) (spec.expr (self.now.depth_left - 1)) self.now.depth_left (tall_expr left) tokens.old) result tokens.new }
+        ensures low { IfOk result (λ x. x.1 ≤ self.now.depth_left) }
     {
         match infix_of(tokens.kind()) {
             Some(operator) => self.combined(tokens, left, operator),
@@ -141,22 +141,22 @@ impl<F: Fn(Global, &mut Tokens<'_>, usize, u8) -> Result<(Expr, usize), Fault>> 
         }
     }
 
-    #[tactic(auto, using(crate::proofs::Views::expr_views), unfolding(crate::specs::Reader::combined))]
+    #[tactic(auto, using(crate::proofs::Views::expr_views), unfolding(crate::specs::Means::Reader::combined))]
     fn combined(
         &self,
         tokens: &mut Tokens<'_>,
         left: (Expr, usize),
         operator: BinaryOperator,
     ) -> Result<(Expr, usize), Fault>
-        requires reader { Nests self.now.room (F.pre self.now.inner) (F.post self.now.inner) }
-        requires room { left.1 < self.now.room }
-        ensures reads { Reads tall_expr (spec.combined (spec.expr self.now.room) (spec.expr (self.now.room - 1)) self.now.room (tall_expr left) operator tokens.old) result tokens.new }
-        ensures low { IfOk result (λ x. x.1 ≤ self.now.room) }
+        requires reader { Nests self.now.depth_left (F.pre self.now.inner) (F.post self.now.inner) }
+        requires depth_left { left.1 < self.now.depth_left }
+        ensures reads { Reads tall_expr (spec.combined (spec.expr self.now.depth_left) (spec.expr (self.now.depth_left - 1)) self.now.depth_left (tall_expr left) operator tokens.old) result tokens.new }
+        ensures low { IfOk result (λ x. x.1 ≤ self.now.depth_left) }
     {
         let (tree, height) = left;
         let place = tokens.place();
         tokens.skip();
-        let (right, other) = self.inner(tokens, self.room, binary_level(operator) + 1)?;
+        let (right, other) = self.inner(tokens, self.depth_left, binary_level(operator) + 1)?;
         let left = Box::new(self.alloc, tree)?;
         let right = Box::new(self.alloc, right)?;
         Ok((
@@ -171,12 +171,12 @@ impl<F: Fn(Global, &mut Tokens<'_>, usize, u8) -> Result<(Expr, usize), Fault>> 
     }
 
     // A piece behind an operand.
-    #[tactic(auto, unfolding(crate::specs::Reader::piece))]
+    #[tactic(auto, unfolding(crate::specs::Means::Reader::piece))]
     fn piece(&self, tokens: &mut Tokens<'_>, left: (Expr, usize)) -> Result<(Expr, usize), Fault>
-        requires reader { Nests self.now.room (F.pre self.now.inner) (F.post self.now.inner) }
-        requires room { left.1 < self.now.room }
-        ensures reads { Reads tall_expr (spec.piece (spec.expr self.now.room) (spec.expr (self.now.room - 1)) self.now.room (tall_expr left) tokens.old) result tokens.new }
-        ensures low { IfOk result (λ x. x.1 ≤ self.now.room) }
+        requires reader { Nests self.now.depth_left (F.pre self.now.inner) (F.post self.now.inner) }
+        requires depth_left { left.1 < self.now.depth_left }
+        ensures reads { Reads tall_expr (spec.piece (spec.expr self.now.depth_left) (spec.expr (self.now.depth_left - 1)) self.now.depth_left (tall_expr left) tokens.old) result tokens.new }
+        ensures low { IfOk result (λ x. x.1 ≤ self.now.depth_left) }
     {
         match tokens.kind() {
             TokenKind::Mark(Mark::PlusPlus) => self.postfixed(
@@ -203,9 +203,9 @@ impl<F: Fn(Global, &mut Tokens<'_>, usize, u8) -> Result<(Expr, usize), Fault>> 
         left: (Expr, usize),
         operator: PostfixOperator,
     ) -> Result<(Expr, usize), Fault>
-        requires room { left.1 < self.now.room }
-        ensures reads { Reads tall_expr (steps.postfixed (spec.expr self.now.room) (spec.expr (self.now.room - 1)) self.now.room (tall_expr left) operator tokens.old) result tokens.new }
-        ensures low { IfOk result (λ x. x.1 ≤ self.now.room) }
+        requires depth_left { left.1 < self.now.depth_left }
+        ensures reads { Reads tall_expr (steps.postfixed (spec.expr self.now.depth_left) (spec.expr (self.now.depth_left - 1)) self.now.depth_left (tall_expr left) operator tokens.old) result tokens.new }
+        ensures low { IfOk result (λ x. x.1 ≤ self.now.depth_left) }
     {
         let (tree, height) = left;
         let place = tokens.place();
@@ -221,17 +221,17 @@ impl<F: Fn(Global, &mut Tokens<'_>, usize, u8) -> Result<(Expr, usize), Fault>> 
         ))
     }
 
-    #[tactic(auto, using(crate::proofs::Views::expr_views), unfolding(crate::specs::Reader::indexed))]
+    #[tactic(auto, using(crate::proofs::Views::expr_views), unfolding(crate::specs::Means::Reader::indexed))]
     fn indexed(&self, tokens: &mut Tokens<'_>, left: (Expr, usize)) -> Result<(Expr, usize), Fault>
-        requires reader { Nests self.now.room (F.pre self.now.inner) (F.post self.now.inner) }
-        requires room { left.1 < self.now.room }
-        ensures reads { Reads tall_expr (spec.indexed (spec.expr self.now.room) (spec.expr (self.now.room - 1)) self.now.room (tall_expr left) tokens.old) result tokens.new }
-        ensures low { IfOk result (λ x. x.1 ≤ self.now.room) }
+        requires reader { Nests self.now.depth_left (F.pre self.now.inner) (F.post self.now.inner) }
+        requires depth_left { left.1 < self.now.depth_left }
+        ensures reads { Reads tall_expr (spec.indexed (spec.expr self.now.depth_left) (spec.expr (self.now.depth_left - 1)) self.now.depth_left (tall_expr left) tokens.old) result tokens.new }
+        ensures low { IfOk result (λ x. x.1 ≤ self.now.depth_left) }
     {
         let (tree, height) = left;
         let place = tokens.place();
         tokens.skip();
-        let (index, other) = self.inner(tokens, self.room, 1)?;
+        let (index, other) = self.inner(tokens, self.depth_left, 1)?;
         tokens.mark(Mark::RightBracket)?;
         let object = Box::new(self.alloc, tree)?;
         let index = Box::new(self.alloc, index)?;
@@ -246,12 +246,12 @@ impl<F: Fn(Global, &mut Tokens<'_>, usize, u8) -> Result<(Expr, usize), Fault>> 
     }
 
     // `.` and a member, or a call of it.
-    #[tactic(auto, unfolding(crate::specs::Reader::dotted))]
+    #[tactic(auto, unfolding(crate::specs::Means::Reader::dotted))]
     fn dotted(&self, tokens: &mut Tokens<'_>, left: (Expr, usize)) -> Result<(Expr, usize), Fault>
-        requires reader { Nests self.now.room (F.pre self.now.inner) (F.post self.now.inner) }
-        requires room { left.1 < self.now.room }
-        ensures reads { Reads tall_expr (spec.dotted (spec.expr self.now.room) (spec.expr (self.now.room - 1)) self.now.room (tall_expr left) tokens.old) result tokens.new }
-        ensures low { IfOk result (λ x. x.1 ≤ self.now.room) }
+        requires reader { Nests self.now.depth_left (F.pre self.now.inner) (F.post self.now.inner) }
+        requires depth_left { left.1 < self.now.depth_left }
+        ensures reads { Reads tall_expr (spec.dotted (spec.expr self.now.depth_left) (spec.expr (self.now.depth_left - 1)) self.now.depth_left (tall_expr left) tokens.old) result tokens.new }
+        ensures low { IfOk result (λ x. x.1 ≤ self.now.depth_left) }
     {
         let place = tokens.place();
         tokens.skip();
@@ -264,11 +264,11 @@ impl<F: Fn(Global, &mut Tokens<'_>, usize, u8) -> Result<(Expr, usize), Fault>> 
     }
 
     // `->` and a member.
-    #[tactic(auto, unfolding(crate::specs::Reader::pointed))]
+    #[tactic(auto, unfolding(crate::specs::Means::Reader::pointed))]
     fn pointed(&self, tokens: &mut Tokens<'_>, left: (Expr, usize)) -> Result<(Expr, usize), Fault>
-        requires room { left.1 < self.now.room }
-        ensures reads { Reads tall_expr (spec.pointed (spec.expr self.now.room) (spec.expr (self.now.room - 1)) self.now.room (tall_expr left) tokens.old) result tokens.new }
-        ensures low { IfOk result (λ x. x.1 ≤ self.now.room) }
+        requires depth_left { left.1 < self.now.depth_left }
+        ensures reads { Reads tall_expr (spec.pointed (spec.expr self.now.depth_left) (spec.expr (self.now.depth_left - 1)) self.now.depth_left (tall_expr left) tokens.old) result tokens.new }
+        ensures low { IfOk result (λ x. x.1 ≤ self.now.depth_left) }
     {
         let place = tokens.place();
         tokens.skip();
@@ -284,9 +284,9 @@ impl<F: Fn(Global, &mut Tokens<'_>, usize, u8) -> Result<(Expr, usize), Fault>> 
         place: Place,
         member: Identifier,
     ) -> Result<(Expr, usize), Fault>
-        requires room { left.1 < self.now.room }
+        requires depth_left { left.1 < self.now.depth_left }
         ensures reads { OkOrMemory result (λ x. tall_expr x ≡ (tree.member (tall_expr left).0 selector place member, left.1 + 1)) }
-        ensures low { IfOk result (λ x. x.1 ≤ self.now.room) }
+        ensures low { IfOk result (λ x. x.1 ≤ self.now.depth_left) }
     {
         let (tree, height) = left;
         let object = Box::new(self.alloc, tree)?;
@@ -308,10 +308,10 @@ impl<F: Fn(Global, &mut Tokens<'_>, usize, u8) -> Result<(Expr, usize), Fault>> 
         left: (Expr, usize),
         function: Identifier,
     ) -> Result<(Expr, usize), Fault>
-        requires reader { Nests self.now.room (F.pre self.now.inner) (F.post self.now.inner) }
-        requires room { left.1 < self.now.room }
-        ensures reads { Reads tall_expr (called (spec.expr self.now.room) (spec.expr (self.now.room - 1)) self.now.room (tall_expr left) function tokens.old) result tokens.new }
-        ensures low { IfOk result (λ x. x.1 ≤ self.now.room) }
+        requires reader { Nests self.now.depth_left (F.pre self.now.inner) (F.post self.now.inner) }
+        requires depth_left { left.1 < self.now.depth_left }
+        ensures reads { Reads tall_expr (called (spec.expr self.now.depth_left) (spec.expr (self.now.depth_left - 1)) self.now.depth_left (tall_expr left) function tokens.old) result tokens.new }
+        ensures low { IfOk result (λ x. x.1 ≤ self.now.depth_left) }
     {
         let (tree, height) = left;
         let (arguments, other) = self.arguments(tokens)?;

@@ -1,11 +1,11 @@
 //! `if` and `while`.
 ghost use Rattle.std.specs.Prelude.{◌≡◌, ◌≤◌, ◌<◌, ◌+◌, IfOk};
 ghost use Rattle.sl_base.specs.declared.limits.TheConstants.{TREE_DEPTH};
-ghost use Rattle.sl_grammar.specs.Steps.{Reads};
-ghost use Rattle.sl_grammar.specs.Statements as steps;
-ghost use Rattle.sl_parser.specs.EffectViews.{tall_cond};
-ghost use Rattle.sl_parser.specs.Reader as spec;
-ghost use Rattle.sl_parser.specs.StatementViews.{Holds, tall_stmt};
+ghost use Rattle.sl_grammar.specs.Means.Steps.{Reads};
+ghost use Rattle.sl_grammar.specs.Means.Statements as steps;
+ghost use Rattle.sl_parser.specs.Means.EffectViews.{tall_cond};
+ghost use Rattle.sl_parser.specs.Means.Reader as spec;
+ghost use Rattle.sl_parser.specs.Means.StatementViews.{Holds, tall_stmt};
 
 use crate::effect::cond;
 use crate::statement::within::Within;
@@ -26,14 +26,14 @@ fn is_else(kind: TokenKind) -> bool
 
 impl<F: Fn(Global, &mut Tokens<'_>, usize) -> Result<(Stmt, usize), Fault>> Within<F> {
     /// An `if`, with its `else` where one follows.
-    #[tactic(auto, unfolding(crate::specs::Reader::choice))]
+    #[tactic(auto, unfolding(crate::specs::Means::Reader::choice))]
     pub fn choice(&self, tokens: &mut Tokens<'_>) -> Result<(Stmt, usize), Fault>
-        requires reader { Holds self.now.room (F.pre self.now.inner) (F.post self.now.inner) }
-        requires small { self.now.room < TREE_DEPTH }
-        ensures reads { Reads tall_stmt (spec.choice (spec.stmt self.now.room) self.now.room tokens.old) result tokens.new }
-        ensures low { IfOk result (λ x. x.1 ≤ self.now.room + 1) }
+        requires reader { Holds self.now.depth_left (F.pre self.now.inner) (F.post self.now.inner) }
+        requires small { self.now.depth_left < TREE_DEPTH }
+        ensures reads { Reads tall_stmt (spec.choice (spec.stmt self.now.depth_left) self.now.depth_left tokens.old) result tokens.new }
+        ensures low { IfOk result (λ x. x.1 ≤ self.now.depth_left + 1) }
     {
-        if self.room == 0 {
+        if self.depth_left == 0 {
             return Err(tokens.refuse());
         }
         let place = tokens.place();
@@ -44,7 +44,7 @@ impl<F: Fn(Global, &mut Tokens<'_>, usize) -> Result<(Stmt, usize), Fault>> With
     }
 
     // What stands behind the statement of an `if`.
-    #[tactic(auto, using(crate::proofs::Views::stmt_views), unfolding(crate::specs::Reader::otherwise))]
+    #[tactic(auto, using(crate::proofs::Views::stmt_views), unfolding(crate::specs::Means::Reader::otherwise))]
     fn otherwise(
         &self,
         tokens: &mut Tokens<'_>,
@@ -52,12 +52,12 @@ impl<F: Fn(Global, &mut Tokens<'_>, usize) -> Result<(Stmt, usize), Fault>> With
         cond: (Cond, usize),
         then: (Stmt, usize),
     ) -> Result<(Stmt, usize), Fault>
-        requires reader { Holds self.now.room (F.pre self.now.inner) (F.post self.now.inner) }
-        requires small { self.now.room < TREE_DEPTH }
-        requires test { cond.1 ≤ self.now.room }
-        requires branch { then.1 ≤ self.now.room }
-        ensures reads { Reads tall_stmt (spec.otherwise (spec.stmt self.now.room) self.now.room place (tall_cond cond) (tall_stmt then) tokens.old) result tokens.new }
-        ensures low { IfOk result (λ x. x.1 ≤ self.now.room + 1) }
+        requires reader { Holds self.now.depth_left (F.pre self.now.inner) (F.post self.now.inner) }
+        requires small { self.now.depth_left < TREE_DEPTH }
+        requires test { cond.1 ≤ self.now.depth_left }
+        requires branch { then.1 ≤ self.now.depth_left }
+        ensures reads { Reads tall_stmt (spec.otherwise (spec.stmt self.now.depth_left) self.now.depth_left place (tall_cond cond) (tall_stmt then) tokens.old) result tokens.new }
+        ensures low { IfOk result (λ x. x.1 ≤ self.now.depth_left + 1) }
     {
         let (cond, tested) = cond;
         let (then, height) = then;
@@ -87,14 +87,14 @@ impl<F: Fn(Global, &mut Tokens<'_>, usize) -> Result<(Stmt, usize), Fault>> With
         ))
     }
 
-    #[tactic(auto, using(crate::proofs::Views::stmt_views), unfolding(crate::specs::StatementViews::while_loop))]
+    #[tactic(auto, using(crate::proofs::Views::stmt_views), unfolding(crate::specs::Means::StatementViews::while_loop))]
     pub fn while_loop(&self, tokens: &mut Tokens<'_>) -> Result<(Stmt, usize), Fault>
-        requires reader { Holds self.now.room (F.pre self.now.inner) (F.post self.now.inner) }
-        requires small { self.now.room < TREE_DEPTH }
-        ensures reads { Reads tall_stmt (spec.loop (spec.stmt self.now.room) self.now.room tokens.old) result tokens.new }
-        ensures low { IfOk result (λ x. x.1 ≤ self.now.room + 1) }
+        requires reader { Holds self.now.depth_left (F.pre self.now.inner) (F.post self.now.inner) }
+        requires small { self.now.depth_left < TREE_DEPTH }
+        ensures reads { Reads tall_stmt (spec.loop (spec.stmt self.now.depth_left) self.now.depth_left tokens.old) result tokens.new }
+        ensures low { IfOk result (λ x. x.1 ≤ self.now.depth_left + 1) }
     {
-        if self.room == 0 {
+        if self.depth_left == 0 {
             return Err(tokens.refuse());
         }
         let place = tokens.place();
@@ -106,14 +106,14 @@ impl<F: Fn(Global, &mut Tokens<'_>, usize) -> Result<(Stmt, usize), Fault>> With
     }
 
     // `(..)`
-    #[tactic(auto, unfolding(crate::specs::Reader::condition))]
+    #[tactic(auto, unfolding(crate::specs::Means::Reader::condition))]
     fn condition(&self, tokens: &mut Tokens<'_>) -> Result<(Cond, usize), Fault>
-        requires { self.now.room < TREE_DEPTH }
-        ensures reads { Reads tall_cond (spec.condition (spec.stmt self.now.room) self.now.room tokens.old) result tokens.new }
-        ensures low { IfOk result (λ x. x.1 ≤ self.now.room) }
+        requires { self.now.depth_left < TREE_DEPTH }
+        ensures reads { Reads tall_cond (spec.condition (spec.stmt self.now.depth_left) self.now.depth_left tokens.old) result tokens.new }
+        ensures low { IfOk result (λ x. x.1 ≤ self.now.depth_left) }
     {
         tokens.mark(Mark::LeftParenthesis)?;
-        let tested = cond(self.alloc, tokens, self.room)?;
+        let tested = cond(self.alloc, tokens, self.depth_left)?;
         tokens.mark(Mark::RightParenthesis)?;
         Ok(tested)
     }

@@ -1,10 +1,10 @@
 //! `for`, and the `for` over a container.
 ghost use Rattle.std.specs.Prelude.{◌≡◌, ◌≤◌, ◌<◌, ◌+◌, IfOk};
 ghost use Rattle.sl_base.specs.declared.limits.TheConstants.{TREE_DEPTH};
-ghost use Rattle.sl_grammar.specs.Steps.{Reads};
-ghost use Rattle.sl_grammar.specs.Statements as steps;
-ghost use Rattle.sl_parser.specs.Reader as spec;
-ghost use Rattle.sl_parser.specs.StatementViews.{Holds, tall_first, tall_optional_cond, tall_optional_effect, tall_stmt};
+ghost use Rattle.sl_grammar.specs.Means.Steps.{Reads};
+ghost use Rattle.sl_grammar.specs.Means.Statements as steps;
+ghost use Rattle.sl_parser.specs.Means.Reader as spec;
+ghost use Rattle.sl_parser.specs.Means.StatementViews.{Holds, tall_first, tall_optional_cond, tall_optional_effect, tall_stmt};
 ghost use Rattle.sl_syntax.specs.TreeView.{expr_of, first_of};
 
 use crate::effect::{cond, effect};
@@ -51,14 +51,14 @@ fn declares(scalar: Option<Scalar>, place: Place, name: Identifier, value: Expr)
 }
 
 impl<F: Fn(Global, &mut Tokens<'_>, usize) -> Result<(Stmt, usize), Fault>> Within<F> {
-    #[tactic(auto, unfolding(crate::specs::Reader::for_loop))]
+    #[tactic(auto, unfolding(crate::specs::Means::Reader::for_loop))]
     pub fn for_loop(&self, tokens: &mut Tokens<'_>) -> Result<(Stmt, usize), Fault>
-        requires reader { Holds self.now.room (F.pre self.now.inner) (F.post self.now.inner) }
-        requires small { self.now.room < TREE_DEPTH }
-        ensures reads { Reads tall_stmt (spec.for_loop (spec.stmt self.now.room) self.now.room tokens.old) result tokens.new }
-        ensures low { IfOk result (λ x. x.1 ≤ self.now.room + 1) }
+        requires reader { Holds self.now.depth_left (F.pre self.now.inner) (F.post self.now.inner) }
+        requires small { self.now.depth_left < TREE_DEPTH }
+        ensures reads { Reads tall_stmt (spec.for_loop (spec.stmt self.now.depth_left) self.now.depth_left tokens.old) result tokens.new }
+        ensures low { IfOk result (λ x. x.1 ≤ self.now.depth_left + 1) }
     {
-        if self.room == 0 {
+        if self.depth_left == 0 {
             return Err(tokens.refuse());
         }
         let place = tokens.place();
@@ -74,28 +74,28 @@ impl<F: Fn(Global, &mut Tokens<'_>, usize) -> Result<(Stmt, usize), Fault>> With
 
     // A `for` whose first part is an effect.
     fn effect_first(&self, tokens: &mut Tokens<'_>, place: Place) -> Result<(Stmt, usize), Fault>
-        requires reader { Holds self.now.room (F.pre self.now.inner) (F.post self.now.inner) }
-        requires small { self.now.room < TREE_DEPTH }
-        ensures reads { Reads tall_stmt (steps.for_by (spec.stmt self.now.room) self.now.room place TokenKind.Other tokens.old) result tokens.new }
-        ensures low { IfOk result (λ x. x.1 ≤ self.now.room + 1) }
+        requires reader { Holds self.now.depth_left (F.pre self.now.inner) (F.post self.now.inner) }
+        requires small { self.now.depth_left < TREE_DEPTH }
+        ensures reads { Reads tall_stmt (steps.for_by (spec.stmt self.now.depth_left) self.now.depth_left place TokenKind.Other tokens.old) result tokens.new }
+        ensures low { IfOk result (λ x. x.1 ≤ self.now.depth_left + 1) }
     {
-        let (effect, height) = effect(self.alloc, tokens, self.room)?;
+        let (effect, height) = effect(self.alloc, tokens, self.depth_left)?;
         self.for_behind(tokens, place, (Some(First::Effect(effect)), height))
     }
 
     // From the type of the variable on.
-    #[tactic(auto, unfolding(crate::specs::Reader::declared_first))]
+    #[tactic(auto, unfolding(crate::specs::Means::Reader::declared_first))]
     fn declared_first(
         &self,
         tokens: &mut Tokens<'_>,
         place: Place,
         scalar: Option<Scalar>,
     ) -> Result<(Stmt, usize), Fault>
-        requires reader { Holds self.now.room (F.pre self.now.inner) (F.post self.now.inner) }
-        requires small { self.now.room < TREE_DEPTH }
-        requires some { 0 < self.now.room }
-        ensures reads { Reads tall_stmt (spec.declared_first (spec.stmt self.now.room) self.now.room place scalar tokens.old) result tokens.new }
-        ensures low { IfOk result (λ x. x.1 ≤ self.now.room + 1) }
+        requires reader { Holds self.now.depth_left (F.pre self.now.inner) (F.post self.now.inner) }
+        requires small { self.now.depth_left < TREE_DEPTH }
+        requires some { 0 < self.now.depth_left }
+        ensures reads { Reads tall_stmt (spec.declared_first (spec.stmt self.now.depth_left) self.now.depth_left place scalar tokens.old) result tokens.new }
+        ensures low { IfOk result (λ x. x.1 ≤ self.now.depth_left + 1) }
     {
         let at = tokens.place();
         tokens.skip();
@@ -104,7 +104,7 @@ impl<F: Fn(Global, &mut Tokens<'_>, usize) -> Result<(Stmt, usize), Fault>> With
     }
 
     // Behind the variable, whose type begins at `at`.
-    #[tactic(auto, unfolding(crate::specs::Reader::variable_behind))]
+    #[tactic(auto, unfolding(crate::specs::Means::Reader::variable_behind))]
     fn variable_behind(
         &self,
         tokens: &mut Tokens<'_>,
@@ -113,11 +113,11 @@ impl<F: Fn(Global, &mut Tokens<'_>, usize) -> Result<(Stmt, usize), Fault>> With
         scalar: Option<Scalar>,
         name: Identifier,
     ) -> Result<(Stmt, usize), Fault>
-        requires reader { Holds self.now.room (F.pre self.now.inner) (F.post self.now.inner) }
-        requires small { self.now.room < TREE_DEPTH }
-        requires some { 0 < self.now.room }
-        ensures reads { Reads tall_stmt (spec.variable_behind (spec.stmt self.now.room) self.now.room place at scalar name tokens.old) result tokens.new }
-        ensures low { IfOk result (λ x. x.1 ≤ self.now.room + 1) }
+        requires reader { Holds self.now.depth_left (F.pre self.now.inner) (F.post self.now.inner) }
+        requires small { self.now.depth_left < TREE_DEPTH }
+        requires some { 0 < self.now.depth_left }
+        ensures reads { Reads tall_stmt (spec.variable_behind (spec.stmt self.now.depth_left) self.now.depth_left place at scalar name tokens.old) result tokens.new }
+        ensures low { IfOk result (λ x. x.1 ≤ self.now.depth_left + 1) }
     {
         if ranges(scalar) && tokens.sees(Mark::Colon) {
             self.range_behind(tokens, place, is_auto(scalar), name)
@@ -126,7 +126,7 @@ impl<F: Fn(Global, &mut Tokens<'_>, usize) -> Result<(Stmt, usize), Fault>> With
         }
     }
 
-    #[tactic(auto, unfolding(crate::specs::Reader::valued_first))]
+    #[tactic(auto, unfolding(crate::specs::Means::Reader::valued_first))]
     fn valued_first(
         &self,
         tokens: &mut Tokens<'_>,
@@ -135,19 +135,19 @@ impl<F: Fn(Global, &mut Tokens<'_>, usize) -> Result<(Stmt, usize), Fault>> With
         scalar: Option<Scalar>,
         name: Identifier,
     ) -> Result<(Stmt, usize), Fault>
-        requires reader { Holds self.now.room (F.pre self.now.inner) (F.post self.now.inner) }
-        requires small { self.now.room < TREE_DEPTH }
-        ensures reads { Reads tall_stmt (spec.valued_first (spec.stmt self.now.room) self.now.room place at scalar name tokens.old) result tokens.new }
-        ensures low { IfOk result (λ x. x.1 ≤ self.now.room + 1) }
+        requires reader { Holds self.now.depth_left (F.pre self.now.inner) (F.post self.now.inner) }
+        requires small { self.now.depth_left < TREE_DEPTH }
+        ensures reads { Reads tall_stmt (spec.valued_first (spec.stmt self.now.depth_left) self.now.depth_left place at scalar name tokens.old) result tokens.new }
+        ensures low { IfOk result (λ x. x.1 ≤ self.now.depth_left + 1) }
     {
         tokens.mark(Mark::Equal)?;
-        let (value, height) = expr(self.alloc, tokens, self.room, 1)?;
+        let (value, height) = expr(self.alloc, tokens, self.depth_left, 1)?;
         let first = declares(scalar, at, name, value);
         self.for_behind(tokens, place, (Some(first), height + 1))
     }
 
     // Behind the variable of a `for` over a container.
-    #[tactic(auto, using(crate::proofs::Views::stmt_views), unfolding(crate::specs::Reader::range_behind))]
+    #[tactic(auto, using(crate::proofs::Views::stmt_views), unfolding(crate::specs::Means::Reader::range_behind))]
     fn range_behind(
         &self,
         tokens: &mut Tokens<'_>,
@@ -155,10 +155,10 @@ impl<F: Fn(Global, &mut Tokens<'_>, usize) -> Result<(Stmt, usize), Fault>> With
         is_auto: bool,
         name: Identifier,
     ) -> Result<(Stmt, usize), Fault>
-        requires reader { Holds self.now.room (F.pre self.now.inner) (F.post self.now.inner) }
-        requires small { self.now.room < TREE_DEPTH }
-        ensures reads { Reads tall_stmt (spec.range_behind (spec.stmt self.now.room) self.now.room place is_auto name tokens.old) result tokens.new }
-        ensures low { IfOk result (λ x. x.1 ≤ self.now.room + 1) }
+        requires reader { Holds self.now.depth_left (F.pre self.now.inner) (F.post self.now.inner) }
+        requires small { self.now.depth_left < TREE_DEPTH }
+        ensures reads { Reads tall_stmt (spec.range_behind (spec.stmt self.now.depth_left) self.now.depth_left place is_auto name tokens.old) result tokens.new }
+        ensures low { IfOk result (λ x. x.1 ≤ self.now.depth_left + 1) }
     {
         tokens.mark(Mark::Colon)?;
         let container = tokens.identifier()?;
@@ -178,18 +178,18 @@ impl<F: Fn(Global, &mut Tokens<'_>, usize) -> Result<(Stmt, usize), Fault>> With
     }
 
     // Behind the first part.
-    #[tactic(auto, using(crate::proofs::Views::stmt_views), unfolding(crate::specs::Reader::for_behind))]
+    #[tactic(auto, using(crate::proofs::Views::stmt_views), unfolding(crate::specs::Means::Reader::for_behind))]
     fn for_behind(
         &self,
         tokens: &mut Tokens<'_>,
         place: Place,
         first: (Option<First>, usize),
     ) -> Result<(Stmt, usize), Fault>
-        requires reader { Holds self.now.room (F.pre self.now.inner) (F.post self.now.inner) }
-        requires small { self.now.room < TREE_DEPTH }
-        requires head { first.1 ≤ self.now.room }
-        ensures reads { Reads tall_stmt (spec.for_behind (spec.stmt self.now.room) self.now.room place (tall_first first) tokens.old) result tokens.new }
-        ensures low { IfOk result (λ x. x.1 ≤ self.now.room + 1) }
+        requires reader { Holds self.now.depth_left (F.pre self.now.inner) (F.post self.now.inner) }
+        requires small { self.now.depth_left < TREE_DEPTH }
+        requires head { first.1 ≤ self.now.depth_left }
+        ensures reads { Reads tall_stmt (spec.for_behind (spec.stmt self.now.depth_left) self.now.depth_left place (tall_first first) tokens.old) result tokens.new }
+        ensures low { IfOk result (λ x. x.1 ≤ self.now.depth_left + 1) }
     {
         let (first, height) = first;
         tokens.mark(Mark::Semicolon)?;
@@ -212,30 +212,30 @@ impl<F: Fn(Global, &mut Tokens<'_>, usize) -> Result<(Stmt, usize), Fault>> With
     }
 
     // The condition before a `;`, which may be left out.
-    #[tactic(auto, unfolding(crate::specs::Reader::optional_cond))]
+    #[tactic(auto, unfolding(crate::specs::Means::Reader::optional_cond))]
     fn optional_cond(&self, tokens: &mut Tokens<'_>) -> Result<(Option<Cond>, usize), Fault>
-        requires { self.now.room < TREE_DEPTH }
-        ensures reads { Reads tall_optional_cond (spec.optional_cond (spec.stmt self.now.room) self.now.room tokens.old) result tokens.new }
-        ensures low { IfOk result (λ x. x.1 ≤ self.now.room) }
+        requires { self.now.depth_left < TREE_DEPTH }
+        ensures reads { Reads tall_optional_cond (spec.optional_cond (spec.stmt self.now.depth_left) self.now.depth_left tokens.old) result tokens.new }
+        ensures low { IfOk result (λ x. x.1 ≤ self.now.depth_left) }
     {
         if tokens.sees(Mark::Semicolon) {
             return Ok((None, 0));
         }
-        let (tested, height) = cond(self.alloc, tokens, self.room)?;
+        let (tested, height) = cond(self.alloc, tokens, self.depth_left)?;
         Ok((Some(tested), height))
     }
 
     // The last part before a `)`, which may be left out.
-    #[tactic(auto, unfolding(crate::specs::Reader::optional_effect))]
+    #[tactic(auto, unfolding(crate::specs::Means::Reader::optional_effect))]
     fn optional_effect(&self, tokens: &mut Tokens<'_>) -> Result<(Option<Effect>, usize), Fault>
-        requires { self.now.room < TREE_DEPTH }
-        ensures reads { Reads tall_optional_effect (spec.optional_effect (spec.stmt self.now.room) self.now.room tokens.old) result tokens.new }
-        ensures low { IfOk result (λ x. x.1 ≤ self.now.room) }
+        requires { self.now.depth_left < TREE_DEPTH }
+        ensures reads { Reads tall_optional_effect (spec.optional_effect (spec.stmt self.now.depth_left) self.now.depth_left tokens.old) result tokens.new }
+        ensures low { IfOk result (λ x. x.1 ≤ self.now.depth_left) }
     {
         if tokens.sees(Mark::RightParenthesis) {
             return Ok((None, 0));
         }
-        let (step, height) = effect(self.alloc, tokens, self.room)?;
+        let (step, height) = effect(self.alloc, tokens, self.depth_left)?;
         Ok((Some(step), height))
     }
 }

@@ -1,10 +1,10 @@
 //! Statements that hold no other.
 ghost use Rattle.std.specs.Prelude.{◌≡◌, ◌≤◌, ◌<◌, ◌+◌, IfOk};
 ghost use Rattle.sl_base.specs.declared.limits.TheConstants.{TREE_DEPTH};
-ghost use Rattle.sl_grammar.specs.Steps.{Reads};
-ghost use Rattle.sl_grammar.specs.Statements as steps;
-ghost use Rattle.sl_parser.specs.Reader as spec;
-ghost use Rattle.sl_parser.specs.StatementViews.{tall_stmt};
+ghost use Rattle.sl_grammar.specs.Means.Steps.{Reads};
+ghost use Rattle.sl_grammar.specs.Means.Statements as steps;
+ghost use Rattle.sl_parser.specs.Means.Reader as spec;
+ghost use Rattle.sl_parser.specs.Means.StatementViews.{tall_stmt};
 ghost use Rattle.sl_syntax.specs.Tree as tree;
 
 use crate::effect::effect;
@@ -17,10 +17,10 @@ use sl_syntax::Stmt;
 use std::alloc::Global;
 
 impl<F: Fn(Global, &mut Tokens<'_>, usize) -> Result<(Stmt, usize), Fault>> Within<F> {
-    #[tactic(auto, unfolding(crate::specs::Reader::word_stmt))]
+    #[tactic(auto, unfolding(crate::specs::Means::Reader::word_stmt))]
     pub fn break_stmt(&self, tokens: &mut Tokens<'_>) -> Result<(Stmt, usize), Fault>
-        ensures reads { Reads tall_stmt (spec.word_stmt (spec.stmt self.now.room) self.now.room tree.break tokens.old) result tokens.new }
-        ensures low { IfOk result (λ x. x.1 ≤ self.now.room + 1) }
+        ensures reads { Reads tall_stmt (spec.word_stmt (spec.stmt self.now.depth_left) self.now.depth_left tree.break tokens.old) result tokens.new }
+        ensures low { IfOk result (λ x. x.1 ≤ self.now.depth_left + 1) }
     {
         let place = tokens.place();
         tokens.skip();
@@ -28,10 +28,10 @@ impl<F: Fn(Global, &mut Tokens<'_>, usize) -> Result<(Stmt, usize), Fault>> With
         Ok((Stmt::Break { place }, 1))
     }
 
-    #[tactic(auto, unfolding(crate::specs::Reader::word_stmt))]
+    #[tactic(auto, unfolding(crate::specs::Means::Reader::word_stmt))]
     pub fn continue_stmt(&self, tokens: &mut Tokens<'_>) -> Result<(Stmt, usize), Fault>
-        ensures reads { Reads tall_stmt (spec.word_stmt (spec.stmt self.now.room) self.now.room tree.continue tokens.old) result tokens.new }
-        ensures low { IfOk result (λ x. x.1 ≤ self.now.room + 1) }
+        ensures reads { Reads tall_stmt (spec.word_stmt (spec.stmt self.now.depth_left) self.now.depth_left tree.continue tokens.old) result tokens.new }
+        ensures low { IfOk result (λ x. x.1 ≤ self.now.depth_left + 1) }
     {
         let place = tokens.place();
         tokens.skip();
@@ -39,11 +39,11 @@ impl<F: Fn(Global, &mut Tokens<'_>, usize) -> Result<(Stmt, usize), Fault>> With
         Ok((Stmt::Continue { place }, 1))
     }
 
-    #[tactic(auto, unfolding(crate::specs::Reader::return_stmt))]
+    #[tactic(auto, unfolding(crate::specs::Means::Reader::return_stmt))]
     pub fn return_stmt(&self, tokens: &mut Tokens<'_>) -> Result<(Stmt, usize), Fault>
-        requires { self.now.room < TREE_DEPTH }
-        ensures reads { Reads tall_stmt (spec.return_stmt (spec.stmt self.now.room) self.now.room tokens.old) result tokens.new }
-        ensures low { IfOk result (λ x. x.1 ≤ self.now.room + 1) }
+        requires { self.now.depth_left < TREE_DEPTH }
+        ensures reads { Reads tall_stmt (spec.return_stmt (spec.stmt self.now.depth_left) self.now.depth_left tokens.old) result tokens.new }
+        ensures low { IfOk result (λ x. x.1 ≤ self.now.depth_left + 1) }
     {
         let place = tokens.place();
         tokens.skip();
@@ -52,15 +52,15 @@ impl<F: Fn(Global, &mut Tokens<'_>, usize) -> Result<(Stmt, usize), Fault>> With
 
     // What stands behind `return`.
     fn returned(&self, tokens: &mut Tokens<'_>, place: Place) -> Result<(Stmt, usize), Fault>
-        requires { self.now.room < TREE_DEPTH }
-        ensures reads { Reads tall_stmt (steps.returned (spec.stmt self.now.room) self.now.room place tokens.old) result tokens.new }
-        ensures low { IfOk result (λ x. x.1 ≤ self.now.room + 1) }
+        requires { self.now.depth_left < TREE_DEPTH }
+        ensures reads { Reads tall_stmt (steps.returned (spec.stmt self.now.depth_left) self.now.depth_left place tokens.old) result tokens.new }
+        ensures low { IfOk result (λ x. x.1 ≤ self.now.depth_left + 1) }
     {
         if tokens.sees(Mark::Semicolon) {
             tokens.skip();
             return Ok((Stmt::Return { place, value: None }, 1));
         }
-        let (value, height) = expr(self.alloc, tokens, self.room + 1, 1)?;
+        let (value, height) = expr(self.alloc, tokens, self.depth_left + 1, 1)?;
         tokens.mark(Mark::Semicolon)?;
         Ok((
             Stmt::Return {
@@ -71,14 +71,14 @@ impl<F: Fn(Global, &mut Tokens<'_>, usize) -> Result<(Stmt, usize), Fault>> With
         ))
     }
 
-    #[tactic(auto, unfolding(crate::specs::Reader::effect_stmt))]
+    #[tactic(auto, unfolding(crate::specs::Means::Reader::effect_stmt))]
     pub fn effect_stmt(&self, tokens: &mut Tokens<'_>) -> Result<(Stmt, usize), Fault>
-        requires { self.now.room < TREE_DEPTH }
-        ensures reads { Reads tall_stmt (spec.effect_stmt (spec.stmt self.now.room) self.now.room tokens.old) result tokens.new }
-        ensures low { IfOk result (λ x. x.1 ≤ self.now.room + 1) }
+        requires { self.now.depth_left < TREE_DEPTH }
+        ensures reads { Reads tall_stmt (spec.effect_stmt (spec.stmt self.now.depth_left) self.now.depth_left tokens.old) result tokens.new }
+        ensures low { IfOk result (λ x. x.1 ≤ self.now.depth_left + 1) }
     {
         let place = tokens.place();
-        let (effect, height) = effect(self.alloc, tokens, self.room)?;
+        let (effect, height) = effect(self.alloc, tokens, self.depth_left)?;
         tokens.mark(Mark::Semicolon)?;
         Ok((Stmt::Effect { place, effect }, height + 1))
     }

@@ -1,5 +1,5 @@
 use Rattle.std.proofs.Common.{◌≡◌, ap, ◌∙◌, sym, Err, arith}
-use Rattle.sl_grammar.specs.Expressions.{expr}
+use Rattle.sl_grammar.specs.Means.Expressions.{expr}
 use Rattle.sl_parser.proofs.ExprLaws.{expr-from_operand}
 use Rattle.sl_parser.proofs.expression.+expr.Goals as goal
 

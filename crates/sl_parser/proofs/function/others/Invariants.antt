@@ -1,8 +1,8 @@
 use Rattle.std.proofs.Common.{◌≡◌, ◌≤◌, ◌-◌, map, length}
 use Rattle.sl_base.specs.declared.limits.TheConstants.{TREE_DEPTH}
 use Rattle.sl_syntax.specs.TreeView.{function_of}
-use Rattle.sl_grammar.specs.Statements.{is_more, function}
-use Rattle.sl_grammar.specs.Steps.{repeat}
+use Rattle.sl_grammar.specs.Means.Statements.{is_more, function}
+use Rattle.sl_grammar.specs.Means.Steps.{repeat}
 use Rattle.sl_parser.proofs.function.others.Given as goal
 
 abbrev pub invariant-loop-turn : goal.invariant-loop-turn

@@ -1,7 +1,7 @@
 use Rattle.std.proofs.Common.{◌≡◌, ◌≤◌, ◌-◌, length}
 use Rattle.sl_base.specs.declared.mark.Mark.TheVariants as m
-use Rattle.sl_grammar.specs.Declarations.{comma_param}
-use Rattle.sl_grammar.specs.Steps.{is_mark, repeat}
+use Rattle.sl_grammar.specs.Means.Declarations.{comma_param}
+use Rattle.sl_grammar.specs.Means.Steps.{is_mark, repeat}
 use Rattle.sl_parser.proofs.params.others.Given as goal
 
 abbrev pub invariant-loop-turn : goal.invariant-loop-turn

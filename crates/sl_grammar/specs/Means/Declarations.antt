@@ -13,8 +13,8 @@ use Rattle.sl_syntax.specs.declared.tree.function.Param.TheVariants as r
 use Rattle.sl_syntax.specs.Tree as t
 use Rattle.sl_syntax.specs.Tree.{Expr, Exprs, Initializer, Declaration}
 use Rattle.sl_syntax.specs.Written.{is_map}
-use Rattle.sl_grammar.specs.Expressions.{expr, list, list_before}
-use Rattle.sl_grammar.specs.Steps.{Reader, Tall, ◌>>=◌, ◌>>◌, pure, refuse, only, skip, kind_at, here, is_mark, mark, identifier, all_behind}
+use Rattle.sl_grammar.specs.Means.Expressions.{expr, list, list_before}
+use Rattle.sl_grammar.specs.Means.Steps.{Reader, Tall, ◌>>=◌, ◌>>◌, pure, refuse, only, skip, kind_at, here, is_mark, mark, identifier, all_behind}
 
 abbrev pub int_by : TokenKind → Reader (Unit {0})
 int_by (k.Scalar c.Int) = skip
@@ -45,12 +45,12 @@ container_type form = λ ts. (do
   elements_by (is_map form)
   pure (record { place = here ts; form = form })) ts
 
-module _ (room : ℕ) where
+module _ (depth_left : ℕ) where
   -- `= x`, which may be left out
   unfoldable pub optional_value : Reader (Tall (Option Expr))
   optional_value = λ ts. if is_mark m.Equal (kind_at ts) then (do
     skip
-    v ← expr (room + 1) 1
+    v ← expr (depth_left + 1) 1
     pure (Some v.0, v.1)) ts else Ok ((None, 0), ts)
 
   unfoldable pub scalar_declaration : Scalar → Reader (Tall Declaration)
@@ -65,13 +65,13 @@ module _ (room : ℕ) where
     skip
     x ← identifier
     mark m.Equal
-    v ← expr (room + 1) 1
+    v ← expr (depth_left + 1) 1
     pure (t.declares_auto (here ts) x v.0, v.1 + 1)) ts
 
   -- what stands behind the first brace, with the last
   unfoldable pub braces : Bool → Reader (Tall Initializer)
   braces equal = do
-    xs ← list_before (expr (room + 1) 1) (expr room 1) room m.RightBrace
+    xs ← list_before (expr (depth_left + 1) 1) (expr depth_left 1) depth_left m.RightBrace
     mark m.RightBrace
     pure (t.braces equal xs.0, xs.1)
 
@@ -83,7 +83,7 @@ module _ (room : ℕ) where
   unfoldable pub constructed : Reader (Tall Initializer)
   constructed = do
     skip
-    xs ← list (expr (room + 1) 1) (expr room 1) room
+    xs ← list (expr (depth_left + 1) 1) (expr depth_left 1) depth_left
     mark m.RightParenthesis
     pure (t.arguments xs.0, xs.1)
 
@@ -98,7 +98,7 @@ module _ (room : ℕ) where
 
   -- the type is a node below the declaration
   unfoldable pub container_declaration : Form → Reader (Tall Declaration)
-  container_declaration form = only (nat_lt 0 room) (do
+  container_declaration form = only (nat_lt 0 depth_left) (do
     type ← container_type form
     x ← identifier
     i ← initializer

@@ -11,8 +11,8 @@ use Rattle.sl_syntax.specs.declared.tree.effect.Read.{Read}
 use Rattle.sl_syntax.specs.declared.tree.identifier.Identifier.{Identifier}
 use Rattle.sl_syntax.specs.Tree as t
 use Rattle.sl_syntax.specs.Tree.{Expr, Out, Effect, Cond}
-use Rattle.sl_grammar.specs.Expressions.{expr}
-use Rattle.sl_grammar.specs.Steps.{Reader, Tall, and_then, ◌>>=◌, ◌>>◌, pure, only, skip, kind_at, here, is_mark, mark, identifier, text_at, all_behind}
+use Rattle.sl_grammar.specs.Means.Expressions.{expr}
+use Rattle.sl_grammar.specs.Means.Steps.{Reader, Tall, and_then, ◌>>=◌, ◌>>◌, pure, only, skip, kind_at, here, is_mark, mark, identifier, text_at, all_behind}
 
 -- `>> x`
 unfoldable pub shifted_name : Reader (Tall Identifier)
@@ -22,7 +22,7 @@ shifted_name = do
   pure (x, 0)
 
 unfoldable pub read : ℕ → Reader (Tall Read)
-read room = λ ts. only (nat_lt 0 room) (do
+read depth_left = λ ts. only (nat_lt 0 depth_left) (do
   skip
   x ← shifted_name
   xs ← all_behind (is_mark m.ShiftRight) shifted_name (x.0 ∷ [], 0)
@@ -33,11 +33,11 @@ abbrev pub is_input : TokenKind → Bool
 is_input k.Input = true
 is_input _ = false
 
-module _ (room : ℕ) where
+module _ (depth_left : ℕ) where
   abbrev pub out_by : TokenKind → Reader (Tall Out)
   out_by k.Text = λ ts. Ok ((t.text (here ts) (text_at ts), 0), drop 1 ts)
   out_by k.EndLine = λ ts. Ok ((t.end_line (here ts), 0), drop 1 ts)
-  out_by _ = expr room 5 >>= (λ x. pure (t.value x.0, x.1))
+  out_by _ = expr depth_left 5 >>= (λ x. pure (t.value x.0, x.1))
 
   -- `<< x`, which is less high than the number
   unfoldable pub shifted_out : Reader (Tall Out)
@@ -46,7 +46,7 @@ module _ (room : ℕ) where
     (λ ts. out_by (kind_at ts) ts)
 
   unfoldable pub print : Reader (Tall Effect)
-  print = λ ts. only (nat_lt 0 room) (do
+  print = λ ts. only (nat_lt 0 depth_left) (do
     skip
     x ← shifted_out
     xs ← all_behind (is_mark m.ShiftLeft) shifted_out (x.0 ∷ [], x.1)
@@ -63,9 +63,9 @@ module _ (room : ℕ) where
   assignment_of _ = None
 
   abbrev pub assigned_by : Tall Expr → Option Assignment → Reader (Tall Effect)
-  assigned_by left (Some op) = λ ts. only (nat_lt left.1 room) (do
+  assigned_by left (Some op) = λ ts. only (nat_lt left.1 depth_left) (do
     skip
-    y ← expr room 1
+    y ← expr depth_left 1
     pure (t.assigns left.0 op (here ts) y.0, max left.1 y.1 + 1)) ts
   assigned_by left None = λ ts. Ok ((t.evaluates left.0, left.1), ts)
 
@@ -74,9 +74,9 @@ module _ (room : ℕ) where
   assigned left = λ ts. assigned_by left (assignment_of (kind_at ts)) ts
 
   abbrev pub effect_by : TokenKind → Reader (Tall Effect)
-  effect_by k.Input = read room >>= (λ r. pure (t.reads r.0, r.1))
+  effect_by k.Input = read depth_left >>= (λ r. pure (t.reads r.0, r.1))
   effect_by k.Output = print
-  effect_by _ = expr (room + 1) 1 >>= assigned
+  effect_by _ = expr (depth_left + 1) 1 >>= assigned
 
   unfoldable pub effect : Reader (Tall Effect)
   effect = λ ts. effect_by (kind_at ts) ts
@@ -89,15 +89,15 @@ module _ (room : ℕ) where
   no_read = λ ts. (do
     skip
     mark m.LeftParenthesis
-    r ← read room
+    r ← read depth_left
     mark m.RightParenthesis
     pure (t.tests_no_read (here ts) r.0, 2)) ts
 
   abbrev pub cond_by : TokenKind → Reader (Tall Cond)
-  cond_by k.Input = read room >>= (λ r. pure (t.tests_read r.0, r.1))
+  cond_by k.Input = read depth_left >>= (λ r. pure (t.tests_read r.0, r.1))
   cond_by _ = λ ts.
-      if nat_lt 1 room && begins_no_read ts then no_read ts
-      else and_then (expr (room + 1) 1 ts) (λ x. pure (t.tests x.0, x.1))
+      if nat_lt 1 depth_left && begins_no_read ts then no_read ts
+      else and_then (expr (depth_left + 1) 1 ts) (λ x. pure (t.tests x.0, x.1))
 
   unfoldable pub cond : Reader (Tall Cond)
   cond = λ ts. cond_by (kind_at ts) ts

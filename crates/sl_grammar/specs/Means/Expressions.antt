@@ -18,7 +18,7 @@ use Rattle.sl_syntax.specs.declared.tree.identifier.Identifier.{Identifier}
 use Rattle.sl_syntax.specs.Shaped.{binary_level}
 use Rattle.sl_syntax.specs.Tree as t
 use Rattle.sl_syntax.specs.Tree.{Expr, Exprs, exprs_from}
-use Rattle.sl_grammar.specs.Steps.{Reader, Tall, ◌>>=◌, ◌>>◌, pure, refuse, refusal, only, skip, kind_at, here, is_mark, mark, identifier, library, number_at, all_behind}
+use Rattle.sl_grammar.specs.Means.Steps.{Reader, Tall, ◌>>=◌, ◌>>◌, pure, refuse, refusal, only, skip, kind_at, here, is_mark, mark, identifier, library, number_at, all_behind}
 
 -- the operator that a word is between two operands
 abbrev pub infix_of : TokenKind → Option BinaryOperator
@@ -56,14 +56,14 @@ abbrev pub goes_on : TokenKind → ℕ
 goes_on kind = binds_or (piece_level kind) (infix_of kind)
 
 -- A list of expressions that is at most so high: the first is read by `one`. Where others follow, the list is a node, and they are read by `more`.
-module _ (one more : Reader (Tall Expr)) (room : ℕ) where
+module _ (one more : Reader (Tall Expr)) (depth_left : ℕ) where
   abbrev pub comma_expr : Reader (Tall Expr)
   comma_expr = mark m.Comma >> more
 
   unfoldable pub list_behind : Tall Expr → Reader (Tall Exprs)
   list_behind x = λ ts.
       if is_mark m.Comma (kind_at ts) then
-      only (nat_lt x.1 room) (all_behind (is_mark m.Comma) comma_expr ([], 0) >>= (λ xs. pure (t.with x.0 (exprs_from xs.0), max x.1 xs.1 + 1))) ts
+      only (nat_lt x.1 depth_left) (all_behind (is_mark m.Comma) comma_expr ([], 0) >>= (λ xs. pure (t.with x.0 (exprs_from xs.0), max x.1 xs.1 + 1))) ts
       else Ok ((t.with x.0 t.none, x.1), ts)
 
   unfoldable pub list : Reader (Tall Exprs)
@@ -74,17 +74,17 @@ module _ (one more : Reader (Tall Expr)) (room : ℕ) where
   list_before close = λ ts. if is_mark close (kind_at ts) then Ok ((t.none, 0), ts) else list ts
 
 -- The readers of expressions one node and two nodes deeper, and how many nodes may still stand over a leaf.
-module _ (inner smaller : ℕ → Reader (Tall Expr)) (room : ℕ) where
+module _ (inner smaller : ℕ → Reader (Tall Expr)) (depth_left : ℕ) where
   -- what stands in parentheses behind the name of a function, with them
   unfoldable pub arguments : Reader (Tall Exprs)
   arguments = do
     mark m.LeftParenthesis
-    xs ← list_before (inner 1) (smaller 1) (room - 1) m.RightParenthesis
+    xs ← list_before (inner 1) (smaller 1) (depth_left - 1) m.RightParenthesis
     mark m.RightParenthesis
     pure xs
 
   abbrev pub call : Identifier → Reader (Tall Expr)
-  call f = only (nat_lt 0 room) (arguments >>= (λ xs. pure (t.call f xs.0, xs.1 + 1)))
+  call f = only (nat_lt 0 depth_left) (arguments >>= (λ xs. pure (t.call f xs.0, xs.1 + 1)))
 
   abbrev pub name_or_call : Identifier → Reader (Tall Expr)
   name_or_call f = λ ts. if is_mark m.LeftParenthesis (kind_at ts) then call f ts else Ok ((t.name f, 0), ts)
@@ -93,20 +93,20 @@ module _ (inner smaller : ℕ → Reader (Tall Expr)) (room : ℕ) where
   named = identifier >>= name_or_call
 
   unfoldable pub library_call : Reader (Tall Expr)
-  library_call = only (nat_lt 0 room) (do
+  library_call = only (nat_lt 0 depth_left) (do
     f ← library
     xs ← arguments
     pure (t.library_call f xs.0, xs.1 + 1))
 
   unfoldable pub parentheses : Reader (Tall Expr)
-  parentheses = λ ts. only (nat_lt 0 room) (do
+  parentheses = λ ts. only (nat_lt 0 depth_left) (do
     skip
     x ← inner 1
     mark m.RightParenthesis
     pure (t.parentheses (here ts) x.0, x.1 + 1)) ts
 
   unfoldable pub prefixed : PrefixOperator → Reader (Tall Expr)
-  prefixed op = λ ts. only (nat_lt 0 room) (do
+  prefixed op = λ ts. only (nat_lt 0 depth_left) (do
     skip
     x ← inner 7
     pure (t.prefix op (here ts) x.0, x.1 + 1)) ts
@@ -186,10 +186,10 @@ module _ (inner smaller : ℕ → Reader (Tall Expr)) (room : ℕ) where
   climb least zero left = λ ts. if nat_lt (goes_on (kind_at ts)) least then Ok (left, ts) else Err (refusal ts)
   climb least (suc n) left = λ ts.
       if nat_lt (goes_on (kind_at ts)) least then Ok (left, ts)
-      else only (nat_lt left.1 room) (operation left >>= climb least n) ts
+      else only (nat_lt left.1 depth_left) (operation left >>= climb least n) ts
 
   unfoldable pub from_operand : ℕ → Reader (Tall Expr)
-  from_operand least = operand >>= climb least room
+  from_operand least = operand >>= climb least depth_left
 
 -- an expression that is less high than the first number, and whose operators bind at least so tightly
 unfoldable pub expr : ℕ → ℕ → Reader (Tall Expr)

@@ -1,6 +1,4 @@
 -- Steps of a reader over tokens: a value and the tokens behind it, or the fault of the first token that can't stand there.
--- The readers here and in the files beside are a means: each function of the parser is one. What the grammar is, `Written`, `Depth` and
--- `Shaped` of sl_syntax say, from trees to words; proofs/Laws ties the reader of programs to them, and no public clause names a reader.
 use Rattle.std.specs.Prelude.{ℕ, zero, suc, ◌≡◌, ◌≢◌, ◌++◌, List, [], ◌∷◌, drop, length, max, Bool, false, if◌then◌else◌, Result, Ok, Err}
 use denote.Enum.Bare.{sameb}
 use Rattle.sl_base.specs.contracts.mark.Mark.{the_type}
@@ -65,11 +63,6 @@ abbrev pub here : List Token → Place
 here [] = record { line = 1; col = 1 }
 here (t ∷ ts) = t.place
 
-abbrev pub name_in : Word → List ℕ
-name_in (w.Name n) = n
-name_in (w.Lib n) = n
-name_in _ = []
-
 abbrev pub number_in : Word → ℕ
 number_in (w.Number n) = n
 number_in _ = 0
@@ -86,25 +79,26 @@ is_mark m _ = false
 unfoldable pub mark : Mark → Reader Place
 mark m = λ ts. if is_mark m (kind_at ts) then Ok (here ts, drop 1 ts) else Err (refusal ts)
 
--- the name in the next token, and its place
-abbrev pub identifier_at : List Token → Identifier
-identifier_at [] = record { name = []; place = here [] }
-identifier_at (t ∷ ts) = record { name = name_in t.word; place = t.place }
+-- reads by the place and the word of the next token
+abbrev pub by_word : {A : Type 0} → (Place → Word → Reader A) → Reader A
+by_word f [] = refuse []
+by_word f (t ∷ ts) = f t.place t.word (t ∷ ts)
 
-abbrev pub identifier_by : TokenKind → Reader Identifier
-identifier_by k.Name = λ ts. Ok (identifier_at ts, drop 1 ts)
-identifier_by _ = refuse
+abbrev pub identifier_by : Place → Word → Reader Identifier
+identifier_by place (w.Name n) = λ ts. Ok (record { name = n; place = place }, drop 1 ts)
+identifier_by place _ = refuse
 
+-- a name, at its place
 unfoldable pub identifier : Reader Identifier
-identifier = λ ts. identifier_by (kind_at ts) ts
+identifier = by_word identifier_by
 
--- a function of the library
-abbrev pub library_by : TokenKind → Reader Identifier
-library_by k.Library = λ ts. Ok (identifier_at ts, drop 1 ts)
-library_by _ = refuse
+abbrev pub library_by : Place → Word → Reader Identifier
+library_by place (w.Lib n) = λ ts. Ok (record { name = n; place = place }, drop 1 ts)
+library_by place _ = refuse
 
+-- the name of a lib, which is one of a function where the word's kind says so
 unfoldable pub library : Reader Identifier
-library = λ ts. library_by (kind_at ts) ts
+library = by_word library_by
 
 abbrev pub number_at : List Token → ℕ
 number_at [] = 0

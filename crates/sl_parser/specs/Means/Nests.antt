@@ -9,18 +9,18 @@ use Rattle.sl_syntax.specs.TreeView.{expr_of, exprs_of}
 use Rattle.sl_grammar.specs.declared.fault.Fault.{Fault}
 use Rattle.sl_syntax.specs.declared.tree.identifier.Identifier.{Identifier}
 use Rattle.sl_grammar.specs.declared.fault.Fault.TheVariants.{Memory}
-use Rattle.sl_grammar.specs.Expressions.{expr, arguments}
-use Rattle.sl_grammar.specs.Steps.{Reads, Reader, Tall, ◌>>=◌, pure}
+use Rattle.sl_grammar.specs.Means.Expressions.{expr, arguments}
+use Rattle.sl_grammar.specs.Means.Steps.{Reads, Reader, Tall, ◌>>=◌, pure}
 
 abbrev pub tall_expr : ExprCode × ℕ → Tall Expr
 tall_expr x = (expr_of x.0, x.1)
 
-pub record Nests (room : ℕ) (pre : Global → MutBor (List Token) → ℕ → ℕ → Type 0)
+pub record Nests (depth_left : ℕ) (pre : Global → MutBor (List Token) → ℕ → ℕ → Type 0)
     (post : Global → MutBor (List Token) → ℕ → ℕ → Result (ExprCode × ℕ) Fault → MutBor (List Token) → Type 0) : Type 0 where
-  pub callable : (alloc : Global) (old : MutBor (List Token)) (depth least : ℕ) → depth ≤ room → pre alloc old depth least
-  pub reads : (alloc : Global) (old new : MutBor (List Token)) (depth least : ℕ) (r : Result (ExprCode × ℕ) Fault) → depth ≤ room → post alloc old depth least r new
+  pub callable : (alloc : Global) (old : MutBor (List Token)) (depth least : ℕ) → depth ≤ depth_left → pre alloc old depth least
+  pub reads : (alloc : Global) (old new : MutBor (List Token)) (depth least : ℕ) (r : Result (ExprCode × ℕ) Fault) → depth ≤ depth_left → post alloc old depth least r new
       → Reads tall_expr (expr depth least old.now) r new.now
-  pub low : (alloc : Global) (old new : MutBor (List Token)) (depth least : ℕ) (r : Result (ExprCode × ℕ) Fault) → depth ≤ room → post alloc old depth least r new
+  pub low : (alloc : Global) (old new : MutBor (List Token)) (depth least : ℕ) (r : Result (ExprCode × ℕ) Fault) → depth ≤ depth_left → post alloc old depth least r new
       → IfOk r (λ x. x.1 < depth)
 
 -- expressions with their height, as the tree has them and as a list
@@ -37,4 +37,4 @@ OkOrMemory (Err e) P = e ≡ Memory
 
 -- what stands behind the name of a member that is called
 abbrev pub called : (inner smaller : ℕ → Reader (Tall Expr)) → ℕ → Tall Expr → Identifier → Reader (Tall Expr)
-called inner smaller room left f = arguments inner smaller room >>= (λ xs. pure (member_call left.0 f xs.0, max left.1 xs.1 + 1))
+called inner smaller depth_left left f = arguments inner smaller depth_left >>= (λ xs. pure (member_call left.0 f xs.0, max left.1 xs.1 + 1))

@@ -7,7 +7,7 @@ use Rattle.sl_syntax.specs.declared.tree.effect.Out.{Out as OutCode}
 use Rattle.sl_syntax.specs.declared.tree.effect.Print.{Print as PrintCode}
 use Rattle.sl_syntax.specs.Tree.{Out, Effect, Cond, prints}
 use Rattle.sl_syntax.specs.TreeView.{out_of, effect_of, cond_of}
-use Rattle.sl_grammar.specs.Steps.{Tall}
+use Rattle.sl_grammar.specs.Means.Steps.{Tall}
 
 -- what has no height of its own
 abbrev pub flat : {A : Type 0} → A → Tall A

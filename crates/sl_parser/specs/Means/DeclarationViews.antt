@@ -7,7 +7,7 @@ use Rattle.sl_syntax.specs.declared.tree.expr.Expr.{Expr as ExprCode}
 use Rattle.sl_syntax.specs.declared.tree.function.Param.{Param}
 use Rattle.sl_syntax.specs.Tree.{Expr, Initializer, Declaration}
 use Rattle.sl_syntax.specs.TreeView.{expr_of, initializer_of, declaration_of}
-use Rattle.sl_grammar.specs.Steps.{Tall}
+use Rattle.sl_grammar.specs.Means.Steps.{Tall}
 
 abbrev pub tall_value : Option ExprCode × ℕ → Tall (Option Expr)
 tall_value x = (option_map expr_of x.0, x.1)

@@ -13,9 +13,9 @@ use Rattle.sl_syntax.specs.declared.tree.statement.Stmt.{Stmt as StmtCode}
 use Rattle.sl_syntax.specs.Tree.{Cond, Effect, First, Item, Items, Stmt}
 use Rattle.sl_syntax.specs.TreeView.{cond_of, effect_of, first_of, item_of, items_of, stmt_of}
 use Rattle.sl_grammar.specs.declared.fault.Fault.{Fault}
-use Rattle.sl_grammar.specs.Statements.{stmt}
-pub use Rattle.sl_grammar.specs.Statements.{loop as while_loop}
-use Rattle.sl_grammar.specs.Steps.{Reads, Tall}
+use Rattle.sl_grammar.specs.Means.Statements.{stmt}
+pub use Rattle.sl_grammar.specs.Means.Statements.{loop as while_loop}
+use Rattle.sl_grammar.specs.Means.Steps.{Reads, Tall}
 
 abbrev pub tall_stmt : StmtCode × ℕ → Tall Stmt
 tall_stmt x = (stmt_of x.0, x.1)
@@ -40,10 +40,10 @@ abbrev pub tall_optional_effect : Option EffectCode × ℕ → Tall (Option Effe
 tall_optional_effect x = (option_map effect_of x.0, x.1)
 
 -- reads statements that are at most so high, where it is given that number
-pub record Holds (room : ℕ) (pre : Global → MutBor (List Token) → ℕ → Type 0)
+pub record Holds (depth_left : ℕ) (pre : Global → MutBor (List Token) → ℕ → Type 0)
     (post : Global → MutBor (List Token) → ℕ → Result (StmtCode × ℕ) Fault → MutBor (List Token) → Type 0) : Type 0 where
-  pub callable : (alloc : Global) (old : MutBor (List Token)) → pre alloc old room
-  pub reads : (alloc : Global) (old new : MutBor (List Token)) (r : Result (StmtCode × ℕ) Fault) → post alloc old room r new
-      → Reads tall_stmt (stmt room old.now) r new.now
-  pub low : (alloc : Global) (old new : MutBor (List Token)) (r : Result (StmtCode × ℕ) Fault) → post alloc old room r new
-      → IfOk r (λ x. x.1 ≤ room)
+  pub callable : (alloc : Global) (old : MutBor (List Token)) → pre alloc old depth_left
+  pub reads : (alloc : Global) (old new : MutBor (List Token)) (r : Result (StmtCode × ℕ) Fault) → post alloc old depth_left r new
+      → Reads tall_stmt (stmt depth_left old.now) r new.now
+  pub low : (alloc : Global) (old new : MutBor (List Token)) (r : Result (StmtCode × ℕ) Fault) → post alloc old depth_left r new
+      → IfOk r (λ x. x.1 ≤ depth_left)

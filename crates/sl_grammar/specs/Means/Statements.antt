@@ -1,4 +1,4 @@
--- How statements, blocks, functions and programs are read. A statement that holds another needs room for two nodes before its first word.
+-- How statements, blocks, functions and programs are read. A statement that holds another needs depth_left for two nodes before its first word.
 use Rattle.std.specs.Prelude.{ℕ, zero, suc, ◌+◌, ◌-◌, ◌&&◌, max, not, nat_lt, Bool, true, false, [], ◌∷◌, Option, Some, None, if◌then◌else◌, Ok}
 use Rattle.sl_base.specs.declared.limits.TheConstants.{TREE_DEPTH}
 use Rattle.sl_base.specs.declared.mark.Mark.TheVariants as m
@@ -12,10 +12,10 @@ use Rattle.sl_syntax.specs.declared.tree.function.ResultType.TheVariants as z
 use Rattle.sl_syntax.specs.declared.tree.identifier.Identifier.{Identifier}
 use Rattle.sl_syntax.specs.Tree as t
 use Rattle.sl_syntax.specs.Tree.{Expr, Effect, Cond, Declaration, First, Stmt, Item, Items, items_from, Function, Program}
-use Rattle.sl_grammar.specs.Declarations.{scalar_declaration, auto_declaration, container_declaration, params}
-use Rattle.sl_grammar.specs.Effects.{effect, cond}
-use Rattle.sl_grammar.specs.Expressions.{expr}
-use Rattle.sl_grammar.specs.Steps.{Reader, Tall, and_then, ◌>>=◌, ◌>>◌, pure, refuse, only, skip, kind_at, here, is_mark, mark, identifier, all_behind}
+use Rattle.sl_grammar.specs.Means.Declarations.{scalar_declaration, auto_declaration, container_declaration, params}
+use Rattle.sl_grammar.specs.Means.Effects.{effect, cond}
+use Rattle.sl_grammar.specs.Means.Expressions.{expr}
+use Rattle.sl_grammar.specs.Means.Steps.{Reader, Tall, and_then, ◌>>=◌, ◌>>◌, pure, refuse, only, skip, kind_at, here, is_mark, mark, identifier, all_behind}
 
 abbrev pub is_else : TokenKind → Bool
 is_else k.Else = true
@@ -49,7 +49,7 @@ first_of None place x v = t.first_auto place x v
 first_of (Some s) place x v = t.first_scalar place s x v
 
 -- an item that may be so high
-module _ (room : ℕ) where
+module _ (depth_left : ℕ) where
   abbrev pub declared : Reader (Tall Declaration) → Reader (Tall Item)
   declared declaration = do
     d ← declaration
@@ -57,21 +57,21 @@ module _ (room : ℕ) where
     pure (t.declares d.0, d.1 + 1)
 
   abbrev pub item_by : Reader (Tall Stmt) → TokenKind → Reader (Tall Item)
-  item_by stmt (k.Scalar s) = only (nat_lt 1 room) (declared (scalar_declaration (room - 2) s))
-  item_by stmt k.Auto = only (nat_lt 1 room) (declared (auto_declaration (room - 2)))
-  item_by stmt (k.Container f) = only (nat_lt 1 room) (declared (container_declaration (room - 2) f))
+  item_by stmt (k.Scalar s) = only (nat_lt 1 depth_left) (declared (scalar_declaration (depth_left - 2) s))
+  item_by stmt k.Auto = only (nat_lt 1 depth_left) (declared (auto_declaration (depth_left - 2)))
+  item_by stmt (k.Container f) = only (nat_lt 1 depth_left) (declared (container_declaration (depth_left - 2) f))
   item_by stmt _ = stmt >>= (λ s. pure (t.states s.0, s.1))
 
   unfoldable pub item : Reader (Tall Stmt) → Reader (Tall Item)
   item stmt = λ ts. item_by stmt (kind_at ts) ts
 
 -- The reader of statements one node deeper, and how many nodes may still stand on a way in what is read below.
-module _ (inner : Reader (Tall Stmt)) (room : ℕ) where
+module _ (inner : Reader (Tall Stmt)) (depth_left : ℕ) where
   -- a block: the place of its first brace, its items and the place of its last brace
   unfoldable pub braced : Reader (Tall (Place × Items × Place))
   braced = λ ts. (do
     mark m.LeftBrace
-    xs ← all_behind is_item (item room inner) ([], 0)
+    xs ← all_behind is_item (item depth_left inner) ([], 0)
     close ← mark m.RightBrace
     pure ((here ts, items_from xs.0, close), xs.1 + 1)) ts
 
@@ -82,7 +82,7 @@ module _ (inner : Reader (Tall Stmt)) (room : ℕ) where
   unfoldable pub condition : Reader (Tall Cond)
   condition = do
     mark m.LeftParenthesis
-    c ← cond room
+    c ← cond depth_left
     mark m.RightParenthesis
     pure c
 
@@ -95,24 +95,24 @@ module _ (inner : Reader (Tall Stmt)) (room : ℕ) where
       else Ok ((t.choice place c.0 x.0, max c.1 x.1 + 1), ts)
 
   unfoldable pub choice : Reader (Tall Stmt)
-  choice = λ ts. only (nat_lt 0 room) (do
+  choice = λ ts. only (nat_lt 0 depth_left) (do
     skip
     c ← condition
     x ← inner
     otherwise (here ts) c x) ts
 
   unfoldable pub loop : Reader (Tall Stmt)
-  loop = λ ts. only (nat_lt 0 room) (do
+  loop = λ ts. only (nat_lt 0 depth_left) (do
     skip
     c ← condition
     x ← inner
     pure (t.while (here ts) c.0 x.0, max c.1 x.1 + 1)) ts
 
   unfoldable pub optional_cond : Reader (Tall (Option Cond))
-  optional_cond = λ ts. if is_mark m.Semicolon (kind_at ts) then Ok ((None, 0), ts) else and_then (cond room ts) (λ c. pure (Some c.0, c.1))
+  optional_cond = λ ts. if is_mark m.Semicolon (kind_at ts) then Ok ((None, 0), ts) else and_then (cond depth_left ts) (λ c. pure (Some c.0, c.1))
 
   unfoldable pub optional_effect : Reader (Tall (Option Effect))
-  optional_effect = λ ts. if is_mark m.RightParenthesis (kind_at ts) then Ok ((None, 0), ts) else and_then (effect room ts) (λ e. pure (Some e.0, e.1))
+  optional_effect = λ ts. if is_mark m.RightParenthesis (kind_at ts) then Ok ((None, 0), ts) else and_then (effect depth_left ts) (λ e. pure (Some e.0, e.1))
 
   -- a `for` behind its first part
   unfoldable pub for_behind : Place → Tall (Option First) → Reader (Tall Stmt)
@@ -137,7 +137,7 @@ module _ (inner : Reader (Tall Stmt)) (room : ℕ) where
   unfoldable pub valued_first : Place → Place → Option Scalar → Identifier → Reader (Tall Stmt)
   valued_first place at type x = do
     mark m.Equal
-    v ← expr room 1
+    v ← expr depth_left 1
     for_behind place (Some (first_of type at x v.0), v.1 + 1)
 
   -- a `for` behind the variable that its head declares
@@ -156,10 +156,10 @@ module _ (inner : Reader (Tall Stmt)) (room : ℕ) where
   for_by place (k.Scalar s) = declared_first place (Some s)
   for_by place k.Auto = declared_first place None
   for_by place (k.Mark m.Semicolon) = for_behind place (None, 0)
-  for_by place _ = effect room >>= (λ e. for_behind place (Some (t.first_effect e.0), e.1))
+  for_by place _ = effect depth_left >>= (λ e. for_behind place (Some (t.first_effect e.0), e.1))
 
   unfoldable pub for_loop : Reader (Tall Stmt)
-  for_loop = λ ts. only (nat_lt 0 room) (do
+  for_loop = λ ts. only (nat_lt 0 depth_left) (do
     skip
     mark m.LeftParenthesis
     (λ us. for_by (here ts) (kind_at us) us)) ts
@@ -170,7 +170,7 @@ module _ (inner : Reader (Tall Stmt)) (room : ℕ) where
         skip
         pure (t.gives_back place None, 1)) ts
       else (do
-        v ← expr (room + 1) 1
+        v ← expr (depth_left + 1) 1
         mark m.Semicolon
         pure (t.gives_back place (Some v.0), v.1 + 1)) ts
 
@@ -179,7 +179,7 @@ module _ (inner : Reader (Tall Stmt)) (room : ℕ) where
 
   unfoldable pub effect_stmt : Reader (Tall Stmt)
   effect_stmt = λ ts. (do
-    e ← effect room
+    e ← effect depth_left
     mark m.Semicolon
     pure (t.does (here ts) e.0, e.1 + 1)) ts
 
@@ -203,7 +203,7 @@ module _ (inner : Reader (Tall Stmt)) (room : ℕ) where
 -- a statement that is at most so high
 unfoldable pub stmt : ℕ → Reader (Tall Stmt)
 stmt zero = refuse
-stmt (suc room) = λ ts. stmt_by (stmt room) room (kind_at ts) ts
+stmt (suc depth_left) = λ ts. stmt_by (stmt depth_left) depth_left (kind_at ts) ts
 
 unfoldable pub function_behind : ResultType → Reader (Tall Function)
 function_behind result = λ ts. (do
