@@ -3,9 +3,8 @@ ghost use Rattle.sl_grammar.specs.Means.Steps.{Reads};
 ghost use Rattle.sl_grammar.specs.Means.Declarations.{elements_by};
 ghost use Rattle.sl_parser.specs.Means.Reader as spec;
 
-use crate::tokens::Tokens;
 use sl_base::{Form, Mark, Scalar};
-use sl_grammar::Fault;
+use sl_grammar::{Fault, Tokens};
 use sl_syntax::{ContainerType, TokenKind};
 
 /// The type of a container of this form, at its first token.

@@ -1,5 +1,5 @@
-//! Declarations. The depth_left is how many nodes may stand on a way below one.
-ghost use Rattle.std.specs.Prelude.{◌≡◌, ◌≤◌, ◌+◌, IfOk};
+//! Declarations. The depth that is left is how many nodes may stand on a way below one.
+ghost use Rattle.std.specs.Prelude.{◌≡◌, ◌≤◌, ◌+◌};
 ghost use Rattle.sl_base.specs.declared.limits.TheConstants.{TREE_DEPTH};
 ghost use Rattle.sl_grammar.specs.Means.Steps.{Reads, kind_at};
 ghost use Rattle.sl_grammar.specs.Means.Declarations.{behind_equal_by};
@@ -9,84 +9,74 @@ ghost use Rattle.sl_parser.specs.Means.Reader as spec;
 use crate::container::container_type;
 use crate::expression::expr;
 use crate::expression::list::{list, list_before};
-use crate::tokens::Tokens;
 use sl_base::{Form, Mark, Scalar};
-use sl_grammar::Fault;
+use sl_grammar::{Fault, Tokens};
 use sl_syntax::{Declaration, Expr, Initializer, TokenKind};
 use std::alloc::Global;
 
-/// The declaration of a variable of this type, and its height.
+/// The declaration of a variable of this type.
 #[tactic(auto, unfolding(crate::specs::Means::Reader::scalar_declaration))]
 pub fn scalar_declaration(
     alloc: Global,
     tokens: &mut Tokens<'_>,
     depth_left: usize,
     scalar: Scalar,
-) -> Result<(Declaration, usize), Fault>
+) -> Result<Declaration, Fault>
     requires small { depth_left ≤ TREE_DEPTH }
-    ensures reads { Reads tall_declaration (spec.scalar_declaration depth_left scalar tokens.old) result tokens.new }
-    ensures low { IfOk result (λ x. x.1 ≤ depth_left + 1) }
+    ensures { Reads tall_declaration (spec.scalar_declaration depth_left scalar tokens.old) result tokens.new }
 {
     let place = tokens.place();
     tokens.skip();
     let name = tokens.identifier()?;
-    let (value, height) = optional_value(alloc, tokens, depth_left)?;
-    Ok((
-        Declaration::Scalar {
-            place,
-            scalar,
-            name,
-            value,
-        },
-        height + 1,
-    ))
+    let value = optional_value(alloc, tokens, depth_left)?;
+    Ok(Declaration::Scalar {
+        place,
+        scalar,
+        name,
+        value,
+    })
 }
 
-/// The declaration of a variable that takes its type from its value, and its height.
+/// The declaration of a variable that takes its type from its value.
 #[tactic(auto, unfolding(crate::specs::Means::Reader::auto_declaration))]
 pub fn auto_declaration(
     alloc: Global,
     tokens: &mut Tokens<'_>,
     depth_left: usize,
-) -> Result<(Declaration, usize), Fault>
+) -> Result<Declaration, Fault>
     requires small { depth_left ≤ TREE_DEPTH }
-    ensures reads { Reads tall_declaration (spec.auto_declaration depth_left tokens.old) result tokens.new }
-    ensures low { IfOk result (λ x. x.1 ≤ depth_left + 1) }
+    ensures { Reads tall_declaration (spec.auto_declaration depth_left tokens.old) result tokens.new }
 {
     let place = tokens.place();
     tokens.skip();
     let name = tokens.identifier()?;
     tokens.mark(Mark::Equal)?;
-    let (value, height) = expr(alloc, tokens, depth_left + 1, 1)?;
-    Ok((Declaration::Auto { place, name, value }, height + 1))
+    let value = expr(alloc, tokens, depth_left + 1, 1)?;
+    Ok(Declaration::Auto { place, name, value })
 }
 
-/// The declaration of a container of this form, and its height.
+/// The declaration of a container of this form.
 #[tactic(auto, unfolding(crate::specs::Means::Reader::container_declaration))]
 pub fn container_declaration(
     alloc: Global,
     tokens: &mut Tokens<'_>,
     depth_left: usize,
     form: Form,
-) -> Result<(Declaration, usize), Fault>
+) -> Result<Declaration, Fault>
     requires small { depth_left ≤ TREE_DEPTH }
-    ensures reads { Reads tall_declaration (spec.container_declaration depth_left form tokens.old) result tokens.new }
-    ensures low { IfOk result (λ x. x.1 ≤ depth_left + 1) }
+    ensures { Reads tall_declaration (spec.container_declaration depth_left form tokens.old) result tokens.new }
 {
     if depth_left == 0 {
         return Err(tokens.refuse());
     }
     let container = container_type(tokens, form)?;
     let name = tokens.identifier()?;
-    let (initializer, height) = initializer(alloc, tokens, depth_left)?;
-    Ok((
-        Declaration::Container {
-            container,
-            name,
-            initializer,
-        },
-        height.max(1) + 1,
-    ))
+    let initializer = initializer(alloc, tokens, depth_left)?;
+    Ok(Declaration::Container {
+        container,
+        name,
+        initializer,
+    })
 }
 
 // `=` and a value, which may be left out.
@@ -95,17 +85,16 @@ fn optional_value(
     alloc: Global,
     tokens: &mut Tokens<'_>,
     depth_left: usize,
-) -> Result<(Option<Expr>, usize), Fault>
+) -> Result<Option<Expr>, Fault>
     requires small { depth_left ≤ TREE_DEPTH }
-    ensures reads { Reads tall_value (spec.optional_value depth_left tokens.old) result tokens.new }
-    ensures low { IfOk result (λ x. x.1 ≤ depth_left) }
+    ensures { Reads tall_value (spec.optional_value depth_left tokens.old) result tokens.new }
 {
     if !tokens.sees(Mark::Equal) {
-        return Ok((None, 0));
+        return Ok(None);
     }
     tokens.skip();
-    let (value, height) = expr(alloc, tokens, depth_left + 1, 1)?;
-    Ok((Some(value), height))
+    let value = expr(alloc, tokens, depth_left + 1, 1)?;
+    Ok(Some(value))
 }
 
 // What a container is made from.
@@ -114,10 +103,9 @@ fn initializer(
     alloc: Global,
     tokens: &mut Tokens<'_>,
     depth_left: usize,
-) -> Result<(Initializer, usize), Fault>
+) -> Result<Initializer, Fault>
     requires small { depth_left ≤ TREE_DEPTH }
-    ensures reads { Reads tall_initializer (spec.initializer depth_left tokens.old) result tokens.new }
-    ensures low { IfOk result (λ x. x.1 ≤ depth_left) }
+    ensures { Reads tall_initializer (spec.initializer depth_left tokens.old) result tokens.new }
 {
     match tokens.kind() {
         TokenKind::Mark(Mark::Equal) => {
@@ -129,7 +117,7 @@ fn initializer(
             braces(alloc, tokens, depth_left, false)
         }
         TokenKind::Mark(Mark::LeftParenthesis) => constructed(alloc, tokens, depth_left),
-        _ => Ok((Initializer::Absent, 0)),
+        _ => Ok(Initializer::Absent),
     }
 }
 
@@ -138,15 +126,14 @@ fn behind_equal(
     alloc: Global,
     tokens: &mut Tokens<'_>,
     depth_left: usize,
-) -> Result<(Initializer, usize), Fault>
+) -> Result<Initializer, Fault>
     requires small { depth_left ≤ TREE_DEPTH }
-    ensures reads { Reads tall_initializer (behind_equal_by depth_left (kind_at tokens.old) tokens.old) result tokens.new }
-    ensures low { IfOk result (λ x. x.1 ≤ depth_left) }
+    ensures { Reads tall_initializer (behind_equal_by depth_left (kind_at tokens.old) tokens.old) result tokens.new }
 {
     match tokens.kind() {
         TokenKind::Name => {
             let name = tokens.identifier()?;
-            Ok((Initializer::Copy(name), 0))
+            Ok(Initializer::Copy(name))
         }
         TokenKind::Mark(Mark::LeftBrace) => {
             tokens.skip();
@@ -163,14 +150,13 @@ fn braces(
     tokens: &mut Tokens<'_>,
     depth_left: usize,
     equal: bool,
-) -> Result<(Initializer, usize), Fault>
+) -> Result<Initializer, Fault>
     requires small { depth_left ≤ TREE_DEPTH }
-    ensures reads { Reads tall_initializer (spec.braces depth_left equal tokens.old) result tokens.new }
-    ensures low { IfOk result (λ x. x.1 ≤ depth_left) }
+    ensures { Reads tall_initializer (spec.braces depth_left equal tokens.old) result tokens.new }
 {
-    let (elements, height) = list_before(alloc, tokens, depth_left, Mark::RightBrace)?;
+    let elements = list_before(alloc, tokens, depth_left, Mark::RightBrace)?;
     tokens.mark(Mark::RightBrace)?;
-    Ok((Initializer::Braces { equal, elements }, height))
+    Ok(Initializer::Braces { equal, elements })
 }
 
 // Arguments in parentheses.
@@ -179,13 +165,12 @@ fn constructed(
     alloc: Global,
     tokens: &mut Tokens<'_>,
     depth_left: usize,
-) -> Result<(Initializer, usize), Fault>
+) -> Result<Initializer, Fault>
     requires small { depth_left ≤ TREE_DEPTH }
-    ensures reads { Reads tall_initializer (spec.constructed depth_left tokens.old) result tokens.new }
-    ensures low { IfOk result (λ x. x.1 ≤ depth_left) }
+    ensures { Reads tall_initializer (spec.constructed depth_left tokens.old) result tokens.new }
 {
     tokens.skip();
-    let (arguments, height) = list(alloc, tokens, depth_left)?;
+    let arguments = list(alloc, tokens, depth_left)?;
     tokens.mark(Mark::RightParenthesis)?;
-    Ok((Initializer::Arguments(arguments), height))
+    Ok(Initializer::Arguments(arguments))
 }

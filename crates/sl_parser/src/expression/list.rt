@@ -4,14 +4,13 @@ ghost use Rattle.sl_base.specs.declared.mark.Mark.TheVariants as m;
 ghost use Rattle.sl_syntax.specs.TreeView.{expr_of};
 ghost use Rattle.sl_grammar.specs.Means.Steps.{Reads, is_mark};
 ghost use Rattle.sl_grammar.specs.Means.Expressions.{comma_expr};
-ghost use Rattle.sl_parser.specs.Means.Nests.{Nests, tall_expr, tall_exprs, tall_list};
+ghost use Rattle.sl_parser.specs.Means.Nests.{Nests, listed, tall_expr, tall_exprs, tall_list, whole_exprs};
 ghost use Rattle.sl_parser.specs.Means.Reader as spec;
 
-use crate::expression::expr;
 use crate::expression::nested::Nested;
-use crate::tokens::Tokens;
+use crate::expression::nested_expr;
 use sl_base::Mark;
-use sl_grammar::Fault;
+use sl_grammar::{Fault, Tokens};
 use sl_syntax::Expr;
 use std::alloc::Global;
 
@@ -25,7 +24,7 @@ impl<F: Fn(Global, &mut Tokens<'_>, usize, u8) -> Result<(Expr, usize), Fault>> 
     ) -> Result<(Vec<Expr>, usize), Fault>
         requires reader { Nests self.now.depth_left (F.pre self.now.inner) (F.post self.now.inner) }
         requires some { 0 < self.now.depth_left }
-        ensures reads { Reads tall_exprs (spec.list_before (spec.expr self.now.depth_left 1) (spec.expr (self.now.depth_left - 1) 1) (self.now.depth_left - 1) close tokens.old) result tokens.new }
+        ensures reads { Reads tall_exprs (listed spec.list_before self.now.depth_left close tokens.old) result tokens.new }
         ensures low { IfOk result (λ x. x.1 < self.now.depth_left) }
     {
         if tokens.sees(close) {
@@ -39,7 +38,7 @@ impl<F: Fn(Global, &mut Tokens<'_>, usize, u8) -> Result<(Expr, usize), Fault>> 
     pub fn list(&self, tokens: &mut Tokens<'_>) -> Result<(Vec<Expr>, usize), Fault>
         requires reader { Nests self.now.depth_left (F.pre self.now.inner) (F.post self.now.inner) }
         requires some { 0 < self.now.depth_left }
-        ensures reads { Reads tall_exprs (spec.list (spec.expr self.now.depth_left 1) (spec.expr (self.now.depth_left - 1) 1) (self.now.depth_left - 1) tokens.old) result tokens.new }
+        ensures reads { Reads tall_exprs (listed spec.list self.now.depth_left tokens.old) result tokens.new }
         ensures low { IfOk result (λ x. x.1 < self.now.depth_left) }
     {
         let first = self.inner(tokens, self.depth_left, 1)?;
@@ -55,7 +54,7 @@ impl<F: Fn(Global, &mut Tokens<'_>, usize, u8) -> Result<(Expr, usize), Fault>> 
     ) -> Result<(Vec<Expr>, usize), Fault>
         requires reader { Nests self.now.depth_left (F.pre self.now.inner) (F.post self.now.inner) }
         requires low { first.1 < self.now.depth_left }
-        ensures reads { Reads tall_exprs (spec.list_behind (spec.expr self.now.depth_left 1) (spec.expr (self.now.depth_left - 1) 1) (self.now.depth_left - 1) (tall_expr first) tokens.old) result tokens.new }
+        ensures reads { Reads tall_exprs (listed spec.list_behind self.now.depth_left (tall_expr first) tokens.old) result tokens.new }
         ensures low { IfOk result (λ x. x.1 < self.now.depth_left) }
     {
         let (tree, height) = first;
@@ -80,7 +79,10 @@ impl<F: Fn(Global, &mut Tokens<'_>, usize, u8) -> Result<(Expr, usize), Fault>> 
     ) -> Result<(Vec<Expr>, usize), Fault>
         requires reader { Nests self.now.depth_left (F.pre self.now.inner) (F.post self.now.inner) }
         requires some { 1 < self.now.depth_left }
-        ensures reads { Reads tall_list (spec.repeat (is_mark m.Comma) (comma_expr (spec.expr self.now.depth_left 1) (spec.expr (self.now.depth_left - 1) 1) (self.now.depth_left - 1)) (length tokens.old) (map expr_of list.items, 0) tokens.old) result tokens.new }
+        ensures reads { Reads tall_list
+            (spec.repeat (is_mark m.Comma) (listed comma_expr self.now.depth_left) (length tokens.old)
+            (map expr_of list.items, 0) tokens.old)
+            result tokens.new }
         ensures low { IfOk result (λ x. x.1 < self.now.depth_left - 1) }
     {
         let mut height = 0;
@@ -102,7 +104,7 @@ impl<F: Fn(Global, &mut Tokens<'_>, usize, u8) -> Result<(Expr, usize), Fault>> 
     fn other(&self, tokens: &mut Tokens<'_>) -> Result<(Expr, usize), Fault>
         requires reader { Nests self.now.depth_left (F.pre self.now.inner) (F.post self.now.inner) }
         requires some { 1 < self.now.depth_left }
-        ensures reads { Reads tall_expr (comma_expr (spec.expr self.now.depth_left 1) (spec.expr (self.now.depth_left - 1) 1) (self.now.depth_left - 1) tokens.old) result tokens.new }
+        ensures reads { Reads tall_expr (listed comma_expr self.now.depth_left tokens.old) result tokens.new }
         ensures low { IfOk result (λ x. x.1 < self.now.depth_left - 1) }
     {
         tokens.mark(Mark::Comma)?;
@@ -116,33 +118,33 @@ pub fn list_before(
     tokens: &mut Tokens<'_>,
     depth_left: usize,
     close: Mark,
-) -> Result<(Vec<Expr>, usize), Fault>
+) -> Result<Vec<Expr>, Fault>
     requires small { depth_left ≤ TREE_DEPTH }
-    ensures reads { Reads tall_exprs (spec.list_before (spec.expr (depth_left + 1) 1) (spec.expr depth_left 1) depth_left close tokens.old) result tokens.new }
-    ensures low { IfOk result (λ x. x.1 ≤ depth_left) }
+    ensures { Reads whole_exprs
+        (spec.list_before (spec.expr (depth_left + 1) 1) (spec.expr depth_left 1) depth_left close tokens.old)
+        result tokens.new }
 {
-    Nested {
+    let nested = Nested {
         alloc,
         depth_left: depth_left + 1,
-        inner: expr,
-    }
-    .list_before(tokens, close)
+        inner: nested_expr,
+    };
+    let (list, _) = nested.list_before(tokens, close)?;
+    Ok(list)
 }
 
 /// A list of at least one that is at most so high.
-pub fn list(
-    alloc: Global,
-    tokens: &mut Tokens<'_>,
-    depth_left: usize,
-) -> Result<(Vec<Expr>, usize), Fault>
+pub fn list(alloc: Global, tokens: &mut Tokens<'_>, depth_left: usize) -> Result<Vec<Expr>, Fault>
     requires small { depth_left ≤ TREE_DEPTH }
-    ensures reads { Reads tall_exprs (spec.list (spec.expr (depth_left + 1) 1) (spec.expr depth_left 1) depth_left tokens.old) result tokens.new }
-    ensures low { IfOk result (λ x. x.1 ≤ depth_left) }
+    ensures { Reads whole_exprs
+        (spec.list (spec.expr (depth_left + 1) 1) (spec.expr depth_left 1) depth_left tokens.old)
+        result tokens.new }
 {
-    Nested {
+    let nested = Nested {
         alloc,
         depth_left: depth_left + 1,
-        inner: expr,
-    }
-    .list(tokens)
+        inner: nested_expr,
+    };
+    let (list, _) = nested.list(tokens)?;
+    Ok(list)
 }

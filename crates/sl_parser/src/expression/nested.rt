@@ -3,14 +3,13 @@ ghost use Rattle.sl_grammar.specs.Means.Steps.{Reads};
 ghost use Rattle.sl_parser.specs.Means.Nests.{Nests, tall_expr};
 ghost use Rattle.sl_parser.specs.Means.Reader as spec;
 
-use crate::tokens::Tokens;
-use sl_grammar::Fault;
+use sl_grammar::{Fault, Tokens};
 use sl_syntax::Expr;
 use std::alloc::Global;
 
-/// Reads what stands in an expression. `inner` reads expressions that are less high than the number that it is given, so
-/// that each rule is proved by itself.
-#[derive(Clone, Copy)]
+/// Reads what stands in an expression. `inner` reads expressions that are less high than the number that it is given,
+/// so that each rule is proved by itself.
+#[derive(Drop)]
 pub struct Nested<F> {
     pub alloc: Global,
     /// How many nodes may still stand over a leaf.

@@ -3,13 +3,12 @@ ghost use Rattle.sl_grammar.specs.Means.Steps.{Reads, here, number_at};
 ghost use Rattle.sl_syntax.specs.Tree.{number, truth};
 ghost use Rattle.sl_syntax.specs.TreeView.{expr_of};
 ghost use Rattle.sl_grammar.specs.Means.Expressions.{call, operand_by};
-ghost use Rattle.sl_parser.specs.Means.Nests.{Nests, tall_expr, tall_exprs};
+ghost use Rattle.sl_parser.specs.Means.Nests.{Nests, nested, tall_expr, tall_exprs};
 ghost use Rattle.sl_parser.specs.Means.Reader as spec;
 
 use crate::expression::nested::Nested;
-use crate::tokens::Tokens;
 use sl_base::Mark;
-use sl_grammar::Fault;
+use sl_grammar::{Fault, Tokens};
 use sl_syntax::{Expr, Identifier, PrefixOperator, TokenKind};
 use std::alloc::Global;
 
@@ -18,7 +17,7 @@ impl<F: Fn(Global, &mut Tokens<'_>, usize, u8) -> Result<(Expr, usize), Fault>> 
     #[tactic(auto, unfolding(crate::specs::Means::Reader::operand))]
     pub fn operand(&self, tokens: &mut Tokens<'_>) -> Result<(Expr, usize), Fault>
         requires { Nests self.now.depth_left (F.pre self.now.inner) (F.post self.now.inner) }
-        ensures reads { Reads tall_expr (spec.operand (spec.expr self.now.depth_left) (spec.expr (self.now.depth_left - 1)) self.now.depth_left tokens.old) result tokens.new }
+        ensures reads { Reads tall_expr (nested spec.operand self.now.depth_left tokens.old) result tokens.new }
         ensures low { IfOk result (λ x. x.1 ≤ self.now.depth_left) }
     {
         match tokens.kind() {
@@ -34,7 +33,7 @@ impl<F: Fn(Global, &mut Tokens<'_>, usize, u8) -> Result<(Expr, usize), Fault>> 
     // An expression that begins with this mark.
     fn marked(&self, tokens: &mut Tokens<'_>, mark: Mark) -> Result<(Expr, usize), Fault>
         requires { Nests self.now.depth_left (F.pre self.now.inner) (F.post self.now.inner) }
-        ensures reads { Reads tall_expr (operand_by (spec.expr self.now.depth_left) (spec.expr (self.now.depth_left - 1)) self.now.depth_left (TokenKind.Mark mark) tokens.old) result tokens.new }
+        ensures reads { Reads tall_expr (nested operand_by self.now.depth_left (TokenKind.Mark mark) tokens.old) result tokens.new }
         ensures low { IfOk result (λ x. x.1 ≤ self.now.depth_left) }
     {
         match mark {
@@ -51,7 +50,7 @@ impl<F: Fn(Global, &mut Tokens<'_>, usize, u8) -> Result<(Expr, usize), Fault>> 
     #[tactic(auto, using(crate::proofs::Views::expr_views), unfolding(crate::specs::Means::Reader::parentheses))]
     fn parentheses(&self, tokens: &mut Tokens<'_>) -> Result<(Expr, usize), Fault>
         requires { Nests self.now.depth_left (F.pre self.now.inner) (F.post self.now.inner) }
-        ensures reads { Reads tall_expr (spec.parentheses (spec.expr self.now.depth_left) (spec.expr (self.now.depth_left - 1)) self.now.depth_left tokens.old) result tokens.new }
+        ensures reads { Reads tall_expr (nested spec.parentheses self.now.depth_left tokens.old) result tokens.new }
         ensures low { IfOk result (λ x. x.1 ≤ self.now.depth_left) }
     {
         if self.depth_left == 0 {
@@ -72,7 +71,7 @@ impl<F: Fn(Global, &mut Tokens<'_>, usize, u8) -> Result<(Expr, usize), Fault>> 
         operator: PrefixOperator,
     ) -> Result<(Expr, usize), Fault>
         requires { Nests self.now.depth_left (F.pre self.now.inner) (F.post self.now.inner) }
-        ensures reads { Reads tall_expr (spec.prefixed (spec.expr self.now.depth_left) (spec.expr (self.now.depth_left - 1)) self.now.depth_left operator tokens.old) result tokens.new }
+        ensures reads { Reads tall_expr (nested spec.prefixed self.now.depth_left operator tokens.old) result tokens.new }
         ensures low { IfOk result (λ x. x.1 ≤ self.now.depth_left) }
     {
         if self.depth_left == 0 {
@@ -96,7 +95,7 @@ impl<F: Fn(Global, &mut Tokens<'_>, usize, u8) -> Result<(Expr, usize), Fault>> 
     #[tactic(auto, unfolding(crate::specs::Means::Reader::named))]
     fn named(&self, tokens: &mut Tokens<'_>) -> Result<(Expr, usize), Fault>
         requires { Nests self.now.depth_left (F.pre self.now.inner) (F.post self.now.inner) }
-        ensures reads { Reads tall_expr (spec.named (spec.expr self.now.depth_left) (spec.expr (self.now.depth_left - 1)) self.now.depth_left tokens.old) result tokens.new }
+        ensures reads { Reads tall_expr (nested spec.named self.now.depth_left tokens.old) result tokens.new }
         ensures low { IfOk result (λ x. x.1 ≤ self.now.depth_left) }
     {
         let name = tokens.identifier()?;
@@ -110,7 +109,7 @@ impl<F: Fn(Global, &mut Tokens<'_>, usize, u8) -> Result<(Expr, usize), Fault>> 
     #[tactic(auto, using(crate::proofs::Views::expr_views))]
     fn call(&self, tokens: &mut Tokens<'_>, function: Identifier) -> Result<(Expr, usize), Fault>
         requires { Nests self.now.depth_left (F.pre self.now.inner) (F.post self.now.inner) }
-        ensures reads { Reads tall_expr (call (spec.expr self.now.depth_left) (spec.expr (self.now.depth_left - 1)) self.now.depth_left function tokens.old) result tokens.new }
+        ensures reads { Reads tall_expr (nested call self.now.depth_left function tokens.old) result tokens.new }
         ensures low { IfOk result (λ x. x.1 ≤ self.now.depth_left) }
     {
         if self.depth_left == 0 {
@@ -129,7 +128,7 @@ impl<F: Fn(Global, &mut Tokens<'_>, usize, u8) -> Result<(Expr, usize), Fault>> 
     #[tactic(auto, using(crate::proofs::Views::expr_views), unfolding(crate::specs::Means::Reader::library_call))]
     fn library_call(&self, tokens: &mut Tokens<'_>) -> Result<(Expr, usize), Fault>
         requires { Nests self.now.depth_left (F.pre self.now.inner) (F.post self.now.inner) }
-        ensures reads { Reads tall_expr (spec.library_call (spec.expr self.now.depth_left) (spec.expr (self.now.depth_left - 1)) self.now.depth_left tokens.old) result tokens.new }
+        ensures reads { Reads tall_expr (nested spec.library_call self.now.depth_left tokens.old) result tokens.new }
         ensures low { IfOk result (λ x. x.1 ≤ self.now.depth_left) }
     {
         if self.depth_left == 0 {
@@ -151,7 +150,7 @@ impl<F: Fn(Global, &mut Tokens<'_>, usize, u8) -> Result<(Expr, usize), Fault>> 
     pub fn arguments(&self, tokens: &mut Tokens<'_>) -> Result<(Vec<Expr>, usize), Fault>
         requires reader { Nests self.now.depth_left (F.pre self.now.inner) (F.post self.now.inner) }
         requires some { 0 < self.now.depth_left }
-        ensures reads { Reads tall_exprs (spec.arguments (spec.expr self.now.depth_left) (spec.expr (self.now.depth_left - 1)) self.now.depth_left tokens.old) result tokens.new }
+        ensures reads { Reads tall_exprs (nested spec.arguments self.now.depth_left tokens.old) result tokens.new }
         ensures low { IfOk result (λ x. x.1 < self.now.depth_left) }
     {
         tokens.mark(Mark::LeftParenthesis)?;

@@ -1,7 +1,7 @@
 use Rattle.std.proofs.Common.{◌≡◌, ap, ◌∙◌, sym, Err, arith}
 use Rattle.sl_grammar.specs.Means.Expressions.{expr}
 use Rattle.sl_parser.proofs.ExprLaws.{expr-from_operand}
-use Rattle.sl_parser.proofs.expression.+expr.Goals as goal
+use Rattle.sl_parser.proofs.expression.+nested_expr.Goals as goal
 
 pub returns-then-depth-eq0-clause-reads : goal.returns-then-depth-eq0-clause-reads
 unfolding expr
