@@ -4,14 +4,14 @@ use Rattle.std.proofs.lemmas.Bool.{lt-ltb}
 use Rattle.sl_base.specs.declared.mark.Mark.TheVariants as m
 use Rattle.sl_base.specs.declared.place.Place.{Place}
 use Rattle.sl_base.specs.declared.token.Token.{Token}
-use Rattle.sl_syntax.specs.declared.kind.Kind.TheVariants as k
+use Rattle.sl_syntax.specs.declared.token_kind.TokenKind.TheVariants as k
 use Rattle.sl_syntax.specs.Depth.{highest, stmt_height, item_height, items_height}
 use Rattle.sl_syntax.specs.Shaped.{Each, ends_open, IsStmt, IsItem, AreItems}
 use Rattle.sl_syntax.specs.Tree as t
 use Rattle.sl_syntax.specs.Tree.{Stmt, Item, Items, items_from}
 use Rattle.sl_syntax.specs.Written.{declaration_written, stmt_written, item_written, items_written}
-use Rattle.sl_grammar.specs.Statements.{is_else, is_item, item, braced}
-use Rattle.sl_grammar.specs.Steps.{Reader, Tall, kind_at, mark, all_behind}
+use Rattle.sl_grammar.specs.Means.Statements.{is_else, is_item, item, braced}
+use Rattle.sl_grammar.specs.Means.Steps.{Reader, Tall, kind_at, mark, all_behind}
 use Rattle.sl_grammar.proofs.CompleteBegins.{stmt-begins, item-begins, item-not_else, item-goes_on, item-some, declaration-height_some, declared-kind, stated-kind}
 use Rattle.sl_grammar.proofs.CompleteDeclarations.{declaration-complete}
 use Rattle.sl_grammar.proofs.CompleteLists.{zero-max}

@@ -4,7 +4,7 @@ use Rattle.std.specs.Prelude.{⊤}
 use Rattle.std.proofs.lemmas.Bool.{lt-ltb}
 use Rattle.sl_base.specs.declared.mark.Mark.TheVariants as m
 use Rattle.sl_base.specs.declared.token.Token.{Token}
-use Rattle.sl_syntax.specs.declared.kind.Kind.TheVariants as k
+use Rattle.sl_syntax.specs.declared.token_kind.TokenKind.TheVariants as k
 use Rattle.sl_syntax.specs.declared.tree.declaration.ContainerType.{ContainerType}
 use Rattle.sl_syntax.specs.declared.tree.function.Param.{Param}
 use Rattle.sl_syntax.specs.declared.tree.function.Param.TheVariants as r
@@ -14,9 +14,9 @@ use Rattle.sl_syntax.specs.Tree as t
 use Rattle.sl_syntax.specs.Tree.{Exprs, Initializer, Declaration}
 use Rattle.sl_syntax.specs.Written.{is_map, list_written, elements_written, container_written, initializer_written, declaration_written, param_written, params_written}
 use Rattle.sl_syntax.specs.Written as v
-use Rattle.sl_grammar.specs.Declarations.{int, elements_by, container_type, optional_value, scalar_declaration, auto_declaration, braces, constructed, initializer, container_declaration, scalar_param, container_param, const_param, param, comma_param, params}
-use Rattle.sl_grammar.specs.Expressions.{expr}
-use Rattle.sl_grammar.specs.Steps.{Reader, Tall, kind_at, is_mark, mark, identifier}
+use Rattle.sl_grammar.specs.Means.Declarations.{int, elements_by, container_type, optional_value, scalar_declaration, auto_declaration, braces, constructed, initializer, container_declaration, scalar_param, container_param, const_param, param, comma_param, params}
+use Rattle.sl_grammar.specs.Means.Expressions.{expr}
+use Rattle.sl_grammar.specs.Means.Steps.{Reader, Tall, kind_at, is_mark, mark, identifier}
 use Rattle.sl_grammar.proofs.CompleteExpressions.{whole-complete}
 use Rattle.sl_grammar.proofs.CompleteKinds.{scalar-kind, form-kind}
 use Rattle.sl_grammar.proofs.CompleteLists.{brace-close, list-reads, list_before-reads}

@@ -6,8 +6,8 @@ use Rattle.sl_base.specs.declared.mark.Mark.TheVariants as m
 use Rattle.sl_base.specs.declared.place.Place.{Place}
 use Rattle.sl_base.specs.declared.token.Token.{Token}
 use Rattle.sl_base.specs.declared.word.Word.TheVariants as w
-use Rattle.sl_syntax.specs.declared.kind.Kind.{Kind}
-use Rattle.sl_syntax.specs.declared.kind.Kind.TheVariants as k
+use Rattle.sl_syntax.specs.declared.token_kind.TokenKind.{TokenKind}
+use Rattle.sl_syntax.specs.declared.token_kind.TokenKind.TheVariants as k
 use Rattle.sl_syntax.specs.declared.operator.PrefixOperator.TheVariants as p
 use Rattle.sl_syntax.specs.declared.tree.effect.Read.{Read}
 use Rattle.sl_syntax.specs.declared.tree.identifier.Identifier.{Identifier}
@@ -17,9 +17,9 @@ use Rattle.sl_syntax.specs.Tree as t
 use Rattle.sl_syntax.specs.Tree.{Expr, Out, Effect, Cond}
 use Rattle.sl_syntax.specs.Written.{written, read_written, out_written, print_written, effect_written, cond_written}
 use Rattle.sl_syntax.specs.Written as v
-use Rattle.sl_grammar.specs.Effects.{shifted_name, read, is_input, out_by, shifted_out, print, assignment_of, assigned, effect_by, effect, begins_no_read, no_read, cond_by, cond}
-use Rattle.sl_grammar.specs.Expressions.{expr}
-use Rattle.sl_grammar.specs.Steps.{and_then, ◌>>=◌, pure, kind_at, is_mark, mark, identifier, all_behind}
+use Rattle.sl_grammar.specs.Means.Effects.{shifted_name, read, is_input, out_by, shifted_out, print, assignment_of, assigned, effect_by, effect, begins_no_read, no_read, cond_by, cond}
+use Rattle.sl_grammar.specs.Means.Expressions.{expr}
+use Rattle.sl_grammar.specs.Means.Steps.{and_then, ◌>>=◌, pure, kind_at, is_mark, mark, identifier, all_behind}
 use Rattle.sl_grammar.proofs.CompleteExpressions.{expr-complete, whole-complete}
 use Rattle.sl_grammar.proofs.CompleteKinds.{Ends, assignment-mark, assignment-ends, begins_expr, expr-begins, expr-some}
 use Rattle.sl_grammar.proofs.CompleteSteps.{Turn, row, all-row}
@@ -27,7 +27,7 @@ use Rattle.sl_grammar.proofs.Rows.{Anything, each-anything, name_written, flat, 
 use Rattle.sl_grammar.proofs.Spelling.{Spelled, split, at_word, plain_word}
 
 -- what follows an effect or a condition
-pub record EndsEffect (kind : Kind) : Type 0 where
+pub record EndsEffect (kind : TokenKind) : Type 0 where
   pub ends : Ends 1 kind
   pub no_read : is_mark m.ShiftRight kind ≡ false
   pub no_print : is_mark m.ShiftLeft kind ≡ false
@@ -49,7 +49,7 @@ names-row xs x ts rest e s =
     (row (is_mark m.ShiftRight) shifted_name flat name_written Anything (λ k. ⊤) name-turn (λ x ts mid p s. tt) (λ x. omega arith)
     xs ts rest (each-anything xs) tt e s)
 
-no-input : (kind : Kind) → begins_expr kind ≡ true → is_input kind ≡ false
+no-input : (kind : TokenKind) → begins_expr kind ≡ true → is_input kind ≡ false
 no-input k.Input h = absurd (false≢true h)
 no-input _ h = refl
 
@@ -73,7 +73,7 @@ module _ (room : ℕ) where
       → Spelled (read_written r) ts rest → read room ts ≡ Ok ((r, 1), rest)
   read-reads r ts rest l a e s = read-names r.place r.variables ts rest l a e s
 
-  out-kind : (kind : Kind) → begins_expr kind ≡ true → out_by room kind ≡ (expr room 5 >>= (λ x. pure (t.value x.0, x.1)))
+  out-kind : (kind : TokenKind) → begins_expr kind ≡ true → out_by room kind ≡ (expr room 5 >>= (λ x. pure (t.value x.0, x.1)))
   out-kind k.Text h = absurd (false≢true h)
   out-kind k.EndLine h = absurd (false≢true h)
   out-kind _ h = refl
@@ -126,7 +126,7 @@ module _ (room : ℕ) where
       let others = all-row (is_mark m.ShiftLeft) (shifted_out room) out_height xs (x ∷ []) (out_height x) mid rest r in
       rw (e, lt-ltb 0 room (omega arith), first, others) refl))
 
-  effect-kind : (kind : Kind) → begins_expr kind ≡ true → effect_by room kind ≡ (expr (room + 1) 1 >>= assigned room)
+  effect-kind : (kind : TokenKind) → begins_expr kind ≡ true → effect_by room kind ≡ (expr (room + 1) 1 >>= assigned room)
   effect-kind k.Input h = absurd (false≢true h)
   effect-kind k.Output h = absurd (false≢true h)
   effect-kind _ h = refl
@@ -175,7 +175,7 @@ module _ (room : ℕ) where
   begins-none (t.member x s place f) ts rest g h = split (written x) h (λ mid p q. begins-none x ts mid g.1 p)
   begins-none _ ts rest g h = at_word h (λ o us e _. rw e (refl, refl))
 
-  cond-kind : (kind : Kind) (ts : List Token) → begins_expr kind ≡ true → begins_no_read room ts ≡ false
+  cond-kind : (kind : TokenKind) (ts : List Token) → begins_expr kind ≡ true → begins_no_read room ts ≡ false
       → cond_by room kind ts ≡ and_then (expr (room + 1) 1 ts) (λ x. pure (t.tests x.0, x.1))
   cond-kind k.Input ts h n = absurd (false≢true h)
   cond-kind _ ts h n = rw (n, and-false) refl
@@ -203,12 +203,12 @@ module _ (room : ℕ) where
       ) refl
 
 -- the word begins an effect
-abbrev pub begins_effect : Kind → Bool
+abbrev pub begins_effect : TokenKind → Bool
 begins_effect k.Input = true
 begins_effect k.Output = true
 begins_effect kind = begins_expr kind
 
-pub begins-effect : (kind : Kind) → begins_expr kind ≡ true → begins_effect kind ≡ true
+pub begins-effect : (kind : TokenKind) → begins_expr kind ≡ true → begins_effect kind ≡ true
 begins-effect k.Input h = refl
 begins-effect k.Output h = refl
 begins-effect _ h = h

@@ -5,7 +5,7 @@ use Rattle.sl_base.specs.declared.mark.Mark.TheVariants as m
 use Rattle.sl_base.specs.declared.place.Place.{Place}
 use Rattle.sl_base.specs.declared.token.Token.{Token}
 use Rattle.sl_base.specs.declared.word.Word.TheVariants as w
-use Rattle.sl_syntax.specs.declared.kind.Kind.TheVariants as k
+use Rattle.sl_syntax.specs.declared.token_kind.TokenKind.TheVariants as k
 use Rattle.sl_syntax.specs.declared.operator.BinaryOperator.{BinaryOperator}
 use Rattle.sl_syntax.specs.declared.operator.PostfixOperator.{PostfixOperator}
 use Rattle.sl_syntax.specs.declared.operator.PostfixOperator.TheVariants as q
@@ -14,15 +14,15 @@ use Rattle.sl_syntax.specs.declared.operator.PrefixOperator.TheVariants as p
 use Rattle.sl_syntax.specs.declared.operator.Selector.TheVariants as s
 use Rattle.sl_syntax.specs.declared.tree.identifier.Identifier.{Identifier}
 use Rattle.sl_syntax.specs.Depth.{height, list_height}
-use Rattle.sl_syntax.specs.Kinds.{kind_of}
+use Rattle.sl_syntax.specs.TokenKinds.{kind_of}
 use Rattle.sl_syntax.specs.Shaped.{level, binary_level, IsExpr, AreExprs}
 use Rattle.sl_syntax.specs.Tree as t
 use Rattle.sl_syntax.specs.Tree.{Expr, Exprs}
 use Rattle.sl_syntax.specs.Written.{written, list_written, named, binary_mark, prefix_mark, postfix_mark}
 use Rattle.sl_syntax.specs.Written as v
-use Rattle.sl_grammar.specs.Expressions as x
-use Rattle.sl_grammar.specs.Expressions.{goes_on, arguments, library_call, parentheses, prefixed, operand_by, operand, indexed, dotted, pointed, piece, combined, operation, climb, from_operand, expr}
-use Rattle.sl_grammar.specs.Steps.{Reader, Tall, kind_at, is_mark, mark, identifier, library}
+use Rattle.sl_grammar.specs.Means.Expressions as x
+use Rattle.sl_grammar.specs.Means.Expressions.{goes_on, arguments, library_call, parentheses, prefixed, operand_by, operand, indexed, dotted, pointed, piece, combined, operation, climb, from_operand, expr}
+use Rattle.sl_grammar.specs.Means.Steps.{Reader, Tall, kind_at, is_mark, mark, identifier, library}
 use Rattle.sl_grammar.proofs.CompleteKinds.{Ends, truth-kind, infix-mark, binary-level, binary-level_some, binary-not_call, sign-level}
 use Rattle.sl_grammar.proofs.CompleteLists.{ReadsWhole, parenthesis-close, list_before-reads}
 use Rattle.sl_grammar.proofs.Spelling.{token, Spelled, split, at_word, plain_word}
@@ -101,7 +101,7 @@ module _ (inner smaller : ℕ → Reader (Tall Expr)) (room : ℕ) where
       → arguments inner smaller room us ≡ Ok (xs, rest)
       → operand inner smaller room (token (w.Lib f.name) o f.place ∷ us) ≡ Ok ((t.library_call f xs.0, xs.1 + 1), rest)
   unfolding operand library_call library
-  library_call-reads f o us rest xs l h e = rw (h, lt-ltb 0 room l, h, e) refl
+  library_call-reads f o us rest xs l h e = rw (h, lt-ltb 0 room l, e) refl
 
   parentheses-reads : (place at : Place) (o c : ℕ) (x : Tall Expr) (us rest : List Token) → 0 < room
       → inner 1 us ≡ Ok (x, token (w.Mark m.RightParenthesis) c at ∷ rest)

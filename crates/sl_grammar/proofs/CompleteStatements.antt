@@ -5,7 +5,7 @@ use Rattle.sl_base.specs.declared.mark.Mark.TheVariants as m
 use Rattle.sl_base.specs.declared.place.Place.{Place}
 use Rattle.sl_base.specs.declared.scalar.Scalar.{Scalar}
 use Rattle.sl_base.specs.declared.token.Token.{Token}
-use Rattle.sl_syntax.specs.declared.kind.Kind.TheVariants as k
+use Rattle.sl_syntax.specs.declared.token_kind.TokenKind.TheVariants as k
 use Rattle.sl_syntax.specs.declared.tree.identifier.Identifier.{Identifier}
 use Rattle.sl_syntax.specs.Depth.{height, option_height, effect_height, cond_height, stmt_height}
 use Rattle.sl_syntax.specs.Shaped.{IfThere, ends_open, IsExpr, IsEffect, IsCond, IsFirst, IsStmt}
@@ -13,8 +13,8 @@ use Rattle.sl_syntax.specs.Tree as t
 use Rattle.sl_syntax.specs.Tree.{Expr, Effect, Cond, First, Stmt}
 use Rattle.sl_syntax.specs.Written.{Written, written, option_written, effect_written, cond_written, first_written, value_written, tested, stmt_written}
 use Rattle.sl_syntax.specs.Written as v
-use Rattle.sl_grammar.specs.Statements.{first_of, is_else, condition, otherwise, choice, loop, optional_cond, optional_effect, for_behind, range_behind, valued_first, variable_behind, declared_first, for_by, for_loop, return_stmt, effect_stmt, word_stmt, stmt_by, stmt}
-use Rattle.sl_grammar.specs.Steps.{here, Reader, Tall, kind_at, mark, identifier}
+use Rattle.sl_grammar.specs.Means.Statements.{first_of, is_else, condition, otherwise, choice, loop, optional_cond, optional_effect, for_behind, range_behind, valued_first, variable_behind, declared_first, for_by, for_loop, return_stmt, effect_stmt, word_stmt, stmt_by, stmt}
+use Rattle.sl_grammar.specs.Means.Steps.{here, Reader, Tall, kind_at, mark, identifier}
 use Rattle.sl_grammar.proofs.CompleteBegins.{semicolon-ends, parenthesis-ends, effect-not_semicolon, effect-not_parenthesis, cond-begins, does-some, stmt-height_some, for-kind, does-kind}
 use Rattle.sl_grammar.proofs.CompleteBlocks.{ReadsStmts, block-reads}
 use Rattle.sl_grammar.proofs.CompleteEffects.{and-false, effect-complete, effect-begins, cond-complete}

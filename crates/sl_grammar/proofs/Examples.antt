@@ -11,10 +11,10 @@ use Rattle.sl_syntax.specs.declared.operator.BinaryOperator.TheVariants as b
 use Rattle.sl_syntax.specs.declared.tree.function.ResultType.TheVariants as z
 use Rattle.sl_syntax.specs.Tree as t
 use Rattle.sl_syntax.specs.Tree.{Program}
-use Rattle.sl_grammar.specs.Declarations.{scalar_declaration, optional_value, params}
-use Rattle.sl_grammar.specs.Expressions.{expr, from_operand, operand, climb, operation, combined}
-use Rattle.sl_grammar.specs.Statements.{program, function, function_behind, braced, item, stmt}
-use Rattle.sl_grammar.specs.Steps.{mark, identifier, repeat}
+use Rattle.sl_grammar.specs.Means.Declarations.{scalar_declaration, optional_value, params}
+use Rattle.sl_grammar.specs.Means.Expressions.{expr, from_operand, operand, climb, operation, combined}
+use Rattle.sl_grammar.specs.Means.Statements.{program, function, function_behind, braced, item, stmt}
+use Rattle.sl_grammar.specs.Means.Steps.{mark, identifier, repeat}
 
 -- tokens of one line, each in the column of its number
 abbrev in_line : ℕ → List Word → List Token

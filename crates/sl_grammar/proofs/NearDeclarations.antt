@@ -5,17 +5,17 @@ use Rattle.sl_base.specs.declared.mark.Mark.TheVariants as m
 use Rattle.sl_base.specs.declared.place.Place.{Place}
 use Rattle.sl_base.specs.declared.scalar.Scalar.{Scalar}
 use Rattle.sl_base.specs.declared.scalar.Scalar.TheVariants as c
-use Rattle.sl_syntax.specs.declared.kind.Kind.{Kind}
-use Rattle.sl_syntax.specs.declared.kind.Kind.TheVariants as k
+use Rattle.sl_syntax.specs.declared.token_kind.TokenKind.{TokenKind}
+use Rattle.sl_syntax.specs.declared.token_kind.TokenKind.TheVariants as k
 use Rattle.sl_syntax.specs.Written.{is_map}
-use Rattle.sl_grammar.specs.Declarations.{int_by, int, elements_by, container_type, optional_value, scalar_declaration, auto_declaration, braces, behind_equal_by, constructed, initializer_by, initializer, container_declaration, scalar_param, container_param, container_by, const_param, param_by, param, comma_param, params}
-use Rattle.sl_grammar.specs.Expressions.{expr}
-use Rattle.sl_grammar.specs.Steps.{is_mark}
+use Rattle.sl_grammar.specs.Means.Declarations.{int_by, int, elements_by, container_type, optional_value, scalar_declaration, auto_declaration, braces, behind_equal_by, constructed, initializer_by, initializer, container_declaration, scalar_param, container_param, container_by, const_param, param_by, param, comma_param, params}
+use Rattle.sl_grammar.specs.Means.Expressions.{expr}
+use Rattle.sl_grammar.specs.Means.Steps.{is_mark}
 use Rattle.sl_grammar.proofs.NearExpressions.{list-near, list_before-near, expr-near}
 use Rattle.sl_grammar.proofs.NearSteps.{Twins, Level, Any, plain, tall, yields, refuses, loose, skipped, chosen, by_test, under, mark-near, identifier-near, repeat-near}
 
 module _ {b : ℕ} where
-  int_by-near : (kind : Kind) → Twins b 0 Any (int_by kind) (int_by kind)
+  int_by-near : (kind : TokenKind) → Twins b 0 Any (int_by kind) (int_by kind)
   int_by-near (k.Scalar c.Int) s s' = skipped (yields tt)
   int_by-near _ s s' = refuses
 
@@ -55,7 +55,7 @@ module _ {b : ℕ} where
         (expr-near room 1) m.RightBrace s s')
         (λ _ _ _ s s'. plain (mark-near m.RightBrace s s') (λ _ _ _ _. yields refl))
 
-    behind_equal_by-near : (kind : Kind) → Twins b 1 Level (behind_equal_by room kind) (behind_equal_by room kind)
+    behind_equal_by-near : (kind : TokenKind) → Twins b 1 Level (behind_equal_by room kind) (behind_equal_by room kind)
     behind_equal_by-near k.Name s s' = plain (identifier-near s s') (λ _ _ _ _. yields refl)
     behind_equal_by-near (k.Mark m.LeftBrace) s s' = skipped (braces-near true _ _)
     behind_equal_by-near _ s s' = refuses
@@ -65,7 +65,7 @@ module _ {b : ℕ} where
     constructed-near s s' = skipped (tall _ _ (list-near (expr (room + 1) 1) (expr room 1) room (expr-near (room + 1) 1) (expr-near room 1) _ _)
         (λ _ _ _ s s'. plain (mark-near m.RightParenthesis s s') (λ _ _ _ _. yields refl)))
 
-    initializer_by-near : (kind : Kind) → Twins b 0 Level (initializer_by room kind) (initializer_by room kind)
+    initializer_by-near : (kind : TokenKind) → Twins b 0 Level (initializer_by room kind) (initializer_by room kind)
     initializer_by-near (k.Mark m.Equal) s s' = skipped (loose (chosen (behind_equal_by room) (behind_equal_by room) behind_equal_by-near (drop 1 s)
         (drop 1 s')))
     initializer_by-near (k.Mark m.LeftBrace) s s' = skipped (loose (braces-near false _ _))
@@ -91,7 +91,7 @@ module _ {b : ℕ} where
   container_param-near form s s' = plain (container_type-near form s s') (λ _ _ s s'. plain (mark-near m.And s s')
       (λ _ _ s s'. plain (identifier-near s s') (λ _ _ _ _. yields refl)))
 
-  container_by-near : (kind : Kind) → Twins b 1 Any (container_by kind) (container_by kind)
+  container_by-near : (kind : TokenKind) → Twins b 1 Any (container_by kind) (container_by kind)
   container_by-near (k.Container form) s s' = container_type-near form s s'
   container_by-near _ s s' = refuses
 
@@ -100,7 +100,7 @@ module _ {b : ℕ} where
   const_param-near s s' = skipped (plain (chosen container_by container_by container_by-near (drop 1 s) (drop 1 s'))
       (λ _ _ s s'. plain (mark-near m.And s s') (λ _ _ s s'. plain (identifier-near s s') (λ _ _ _ _. yields refl))))
 
-  param_by-near : (kind : Kind) → Twins b 1 Level (param_by kind) (param_by kind)
+  param_by-near : (kind : TokenKind) → Twins b 1 Level (param_by kind) (param_by kind)
   param_by-near (k.Scalar scalar) s s' = skipped (scalar_param-near _ _ scalar _ _)
   param_by-near (k.Container form) s s' = container_param-near form s s'
   param_by-near k.Const s s' = const_param-near s s'

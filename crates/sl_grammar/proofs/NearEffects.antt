@@ -7,15 +7,15 @@ use Rattle.sl_base.specs.declared.mark.Mark.{Mark}
 use Rattle.sl_base.specs.declared.mark.Mark.TheVariants as m
 use Rattle.sl_base.specs.declared.place.Place.{Place}
 use Rattle.sl_base.specs.declared.token.Token.{Token}
-use Rattle.sl_syntax.specs.declared.kind.Kind.{Kind}
-use Rattle.sl_syntax.specs.declared.kind.Kind.TheVariants as k
+use Rattle.sl_syntax.specs.declared.token_kind.TokenKind.{TokenKind}
+use Rattle.sl_syntax.specs.declared.token_kind.TokenKind.TheVariants as k
 use Rattle.sl_syntax.specs.declared.operator.Assignment.{Assignment}
-use Rattle.sl_syntax.specs.Kinds.{kind_of}
+use Rattle.sl_syntax.specs.TokenKinds.{kind_of}
 use Rattle.sl_syntax.specs.Tree as t
 use Rattle.sl_syntax.specs.Tree.{Expr, Cond}
-use Rattle.sl_grammar.specs.Effects.{shifted_name, read, out_by, shifted_out, print, assignment_of, assigned_by, assigned, effect_by, effect, begins_no_read, no_read, cond_by, cond}
-use Rattle.sl_grammar.specs.Expressions.{expr}
-use Rattle.sl_grammar.specs.Steps.{Reader, Tall, and_then, ◌>>=◌, ◌>>◌, pure, is_mark, mark}
+use Rattle.sl_grammar.specs.Means.Effects.{shifted_name, read, out_by, shifted_out, print, assignment_of, assigned_by, assigned, effect_by, effect, begins_no_read, no_read, cond_by, cond}
+use Rattle.sl_grammar.specs.Means.Expressions.{expr}
+use Rattle.sl_grammar.specs.Means.Steps.{Reader, Tall, and_then, ◌>>=◌, ◌>>◌, pure, is_mark, mark}
 use Rattle.sl_grammar.proofs.NearExpressions.{expr-near, expr-behind-not, expr-behind-parenthesis}
 use Rattle.sl_grammar.proofs.NearSteps.{left_over, left-within, bind-left, Same, step, end, cut, Agree, past, Twins, Level, plain, tall, yields, loose, skipped, chosen, under, mark-near, identifier-near, repeat-near}
 
@@ -50,7 +50,7 @@ module _ {b : ℕ} where
       (λ _ _ _ _ _. yields refl))))
 
   module _ (room : ℕ) where
-    out_by-near : (kind : Kind) → Twins b 0 Level (out_by room kind) (out_by room kind)
+    out_by-near : (kind : TokenKind) → Twins b 0 Level (out_by room kind) (out_by room kind)
     out_by-near k.Text s s' = skipped (yields refl)
     out_by-near k.EndLine s s' = skipped (yields refl)
     out_by-near _ s s' = loose (tall _ _ (expr-near room 5 s s') (λ _ _ _ _ _. yields refl))
@@ -74,7 +74,7 @@ module _ {b : ℕ} where
     assigned-near x y z s s' = chosen (λ v. assigned_by room (x, z) (assignment_of room v)) (λ v. assigned_by room (y, z) (assignment_of room v))
         (λ v. assigned_by-near x y z (assignment_of room v)) s s'
 
-    effect_by-near : (kind : Kind) → Twins b 1 Level (effect_by room kind) (effect_by room kind)
+    effect_by-near : (kind : TokenKind) → Twins b 1 Level (effect_by room kind) (effect_by room kind)
     effect_by-near k.Input s s' = tall _ _ (read-near room s s') (λ _ _ _ _ _. yields refl)
     effect_by-near k.Output s s' = print-near s s'
     effect_by-near _ s s' = tall _ _ (expr-near (room + 1) 1 s s') assigned-near
@@ -101,7 +101,7 @@ module _ {b : ℕ} where
     tested_by-near true s s' = no_read-near s s'
     tested_by-near false s s' = tested-near s s'
 
-is_mark-true : (m : Mark) (kind : Kind) → is_mark m kind ≡ true → kind ≡ k.Mark m
+is_mark-true : (m : Mark) (kind : TokenKind) → is_mark m kind ≡ true → kind ≡ k.Mark m
 is_mark-true m (k.Mark x) e = ap (λ y. k.Mark y) (same_true the_type (search rules) x m e)
 is_mark-true m _ e = cc
 
@@ -190,7 +190,7 @@ module _ {b : ℕ} where
       within' = (tested_by-near {b = b} room (nat_lt 1 room && begins_no_read room s') s' s').within;
     }
 
-    cond_by-near : (kind : Kind) → Twins b 1 Level (cond_by room kind) (cond_by room kind)
+    cond_by-near : (kind : TokenKind) → Twins b 1 Level (cond_by room kind) (cond_by room kind)
     cond_by-near k.Input s s' = tall _ _ (read-near room s s') (λ _ _ _ _ _. yields refl)
     cond_by-near _ s s' = either_test-near s s'
 

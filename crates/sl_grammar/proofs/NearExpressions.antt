@@ -5,8 +5,8 @@ use Rattle.sl_base.specs.declared.mark.Mark.{Mark}
 use Rattle.sl_base.specs.declared.mark.Mark.TheVariants as m
 use Rattle.sl_base.specs.declared.place.Place.{Place}
 use Rattle.sl_base.specs.declared.token.Token.{Token}
-use Rattle.sl_syntax.specs.declared.kind.Kind.{Kind}
-use Rattle.sl_syntax.specs.declared.kind.Kind.TheVariants as k
+use Rattle.sl_syntax.specs.declared.token_kind.TokenKind.{TokenKind}
+use Rattle.sl_syntax.specs.declared.token_kind.TokenKind.TheVariants as k
 use Rattle.sl_syntax.specs.declared.operator.BinaryOperator.{BinaryOperator}
 use Rattle.sl_syntax.specs.declared.operator.PostfixOperator.{PostfixOperator}
 use Rattle.sl_syntax.specs.declared.operator.PostfixOperator.TheVariants as q
@@ -14,11 +14,11 @@ use Rattle.sl_syntax.specs.declared.operator.PrefixOperator.{PrefixOperator}
 use Rattle.sl_syntax.specs.declared.operator.PrefixOperator.TheVariants as p
 use Rattle.sl_syntax.specs.declared.tree.identifier.Identifier.{Identifier}
 use Rattle.sl_syntax.specs.Shaped.{binary_level}
-use Rattle.sl_syntax.specs.Kinds.{kind_of}
+use Rattle.sl_syntax.specs.TokenKinds.{kind_of}
 use Rattle.sl_syntax.specs.Tree as t
 use Rattle.sl_syntax.specs.Tree.{Expr}
-use Rattle.sl_grammar.specs.Expressions.{infix_of, goes_on, comma_expr, list_behind, list, list_before, arguments, name_or_call, named, library_call, parentheses, prefixed, operand_by, operand, indexed, member_by, dotted, pointed, postfixed, piece_by, piece, combined, operation_by, operation, climb, from_operand, expr}
-use Rattle.sl_grammar.specs.Steps.{Reader, Tall, and_then, ◌>>◌, pure, is_mark, mark}
+use Rattle.sl_grammar.specs.Means.Expressions.{infix_of, goes_on, comma_expr, list_behind, list, list_before, arguments, name_or_call, named, library_call, parentheses, prefixed, operand_by, operand, indexed, member_by, dotted, pointed, postfixed, piece_by, piece, combined, operation_by, operation, climb, from_operand, expr}
+use Rattle.sl_grammar.specs.Means.Steps.{Reader, Tall, and_then, ◌>>◌, pure, is_mark, mark}
 use Rattle.sl_grammar.proofs.NearSteps.{left_over, left-within, bind-left, Near, Twins, Level, plain, tall, yields, refuses, loose, skipped, taken, chosen, known, by_test, under, mark-near, identifier-near, library-near, repeat-near}
 
 module _ {b : ℕ} where
@@ -70,7 +70,7 @@ module _ {b : ℕ} where
     unfolding prefixed
     prefixed-near op s s' = under (nat_lt 0 room) (skipped (tall _ _ (h 7 _ _) (λ _ _ _ _ _. yields refl)))
 
-    operand_by-near : (kind : Kind) (s s' : List Token) → 1 ≤ length s → 1 ≤ length s'
+    operand_by-near : (kind : TokenKind) (s s' : List Token) → 1 ≤ length s → 1 ≤ length s'
         → Near b 1 Level s s' (operand_by inner smaller room kind s) (operand_by inner smaller room kind s')
     operand_by-near k.Number s s' l l' = taken l l' refl
     operand_by-near (k.Truth v) s s' l l' = taken l l' refl
@@ -109,7 +109,7 @@ module _ {b : ℕ} where
         → Twins b 0 Level (postfixed inner smaller room (x, z) op) (postfixed inner smaller room (y, z) op)
     postfixed-near x y z op s s' = skipped (yields refl)
 
-    piece_by-near : (x y : Expr) (z : ℕ) (kind : Kind) → Twins b 0 Level (piece_by inner smaller room (x, z) kind)
+    piece_by-near : (x y : Expr) (z : ℕ) (kind : TokenKind) → Twins b 0 Level (piece_by inner smaller room (x, z) kind)
         (piece_by inner smaller room (y, z) kind)
     piece_by-near x y z (k.Mark m.PlusPlus) s s' = postfixed-near x y z q.Increment s s'
     piece_by-near x y z (k.Mark m.MinusMinus) s s' = postfixed-near x y z q.Decrement s s'

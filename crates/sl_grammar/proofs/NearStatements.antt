@@ -5,18 +5,18 @@ use Rattle.sl_base.specs.declared.mark.Mark.TheVariants as m
 use Rattle.sl_base.specs.declared.place.Place.{Place}
 use Rattle.sl_base.specs.declared.scalar.Scalar.{Scalar}
 use Rattle.sl_base.specs.declared.token.Token.{Token}
-use Rattle.sl_syntax.specs.declared.kind.Kind.{Kind}
-use Rattle.sl_syntax.specs.declared.kind.Kind.TheVariants as k
+use Rattle.sl_syntax.specs.declared.token_kind.TokenKind.{TokenKind}
+use Rattle.sl_syntax.specs.declared.token_kind.TokenKind.TheVariants as k
 use Rattle.sl_syntax.specs.declared.tree.function.ResultType.{ResultType}
 use Rattle.sl_syntax.specs.declared.tree.function.ResultType.TheVariants as z
 use Rattle.sl_syntax.specs.declared.tree.identifier.Identifier.{Identifier}
 use Rattle.sl_syntax.specs.Tree as t
 use Rattle.sl_syntax.specs.Tree.{Cond, Declaration, First, Stmt}
 use Rattle.sl_grammar.specs.declared.fault.Fault.TheVariants.{Memory}
-use Rattle.sl_grammar.specs.Declarations.{scalar_declaration, auto_declaration, container_declaration}
-use Rattle.sl_grammar.specs.Statements.{is_else, is_item, is_more, ranges, is_auto, declared, item_by, item, braced, block, condition, otherwise, choice, loop, optional_cond, optional_effect, for_behind, range_behind, valued_first, variable_behind, declared_first, for_by, for_loop, returned, return_stmt, effect_stmt, word_stmt, stmt_by, stmt, function_behind, function_by, function, program}
-use Rattle.sl_grammar.specs.Expressions.{expr}
-use Rattle.sl_grammar.specs.Steps.{Reader, Tall, ◌>>=◌, ◌>>◌, pure, here, is_mark, mark}
+use Rattle.sl_grammar.specs.Means.Declarations.{scalar_declaration, auto_declaration, container_declaration}
+use Rattle.sl_grammar.specs.Means.Statements.{is_else, is_item, is_more, ranges, is_auto, declared, item_by, item, braced, block, condition, otherwise, choice, loop, optional_cond, optional_effect, for_behind, range_behind, valued_first, variable_behind, declared_first, for_by, for_loop, returned, return_stmt, effect_stmt, word_stmt, stmt_by, stmt, function_behind, function_by, function, program}
+use Rattle.sl_grammar.specs.Means.Expressions.{expr}
+use Rattle.sl_grammar.specs.Means.Steps.{Reader, Tall, ◌>>=◌, ◌>>◌, pure, here, is_mark, mark}
 use Rattle.sl_grammar.proofs.NearDeclarations.{scalar_declaration-near, auto_declaration-near, container_declaration-near, params-near}
 use Rattle.sl_grammar.proofs.NearEffects.{effect-near, cond-near}
 use Rattle.sl_grammar.proofs.NearExpressions.{expr-near}
@@ -29,7 +29,7 @@ module _ (room : ℕ) where
     mark m.Semicolon
     pure (t.gives_back place (Some v.0), v.1 + 1)
 
-  abbrev returned_by : Place → Kind → Reader (Tall Stmt)
+  abbrev returned_by : Place → TokenKind → Reader (Tall Stmt)
   returned_by place kind = λ s. if is_mark m.Semicolon kind then Ok ((t.gives_back place None, 1), drop 1 s) else valued place s
 
 module _ {b : ℕ} where
@@ -39,7 +39,7 @@ module _ {b : ℕ} where
     declared-near declaration h s s' = tall _ _ (h s s') (λ _ _ _ s s'. plain (mark-near m.Semicolon s s') (λ _ _ _ _. yields refl))
 
     module _ (stmt : Reader (Tall Stmt)) (h : Twins b 1 Level stmt stmt) where
-      item_by-near : (kind : Kind) → Twins b 1 Level (item_by room stmt kind) (item_by room stmt kind)
+      item_by-near : (kind : TokenKind) → Twins b 1 Level (item_by room stmt kind) (item_by room stmt kind)
       item_by-near (k.Scalar c) s s' = under (nat_lt 1 room) (declared-near (scalar_declaration (room - 2) c)
           (scalar_declaration-near (room - 2) c) s s')
       item_by-near k.Auto s s' = under (nat_lt 1 room) (declared-near (auto_declaration (room - 2)) (auto_declaration-near (room - 2)) s s')
@@ -119,7 +119,7 @@ module _ {b : ℕ} where
     declared_first-near place place' type s s' = skipped (plain (identifier-near _ _)
         (λ x y s s'. loose (variable_behind-near place place' _ _ type x y s s')))
 
-    for_by-near : (place place' : Place) (kind : Kind) → Twins b 1 Level (for_by inner room place kind) (for_by inner room place' kind)
+    for_by-near : (place place' : Place) (kind : TokenKind) → Twins b 1 Level (for_by inner room place kind) (for_by inner room place' kind)
     for_by-near place place' (k.Scalar c) s s' = declared_first-near place place' (Some c) s s'
     for_by-near place place' k.Auto s s' = declared_first-near place place' None s s'
     for_by-near place place' (k.Mark m.Semicolon) s s' = for_behind-near place place' None None 0 s s'
@@ -150,7 +150,7 @@ module _ {b : ℕ} where
     unfolding word_stmt
     word_stmt-near f s s' = skipped (plain (mark-near m.Semicolon _ _) (λ _ _ _ _. yields refl))
 
-    stmt_by-near : (kind : Kind) → Twins b 1 Level (stmt_by inner room kind) (stmt_by inner room kind)
+    stmt_by-near : (kind : TokenKind) → Twins b 1 Level (stmt_by inner room kind) (stmt_by inner room kind)
     stmt_by-near (k.Mark m.LeftBrace) s s' = block-near s s'
     stmt_by-near k.If s s' = choice-near s s'
     stmt_by-near k.While s s' = loop-near s s'
@@ -172,7 +172,7 @@ module _ {b : ℕ} where
       (λ _ _ _ s s'. plain (mark-near m.RightParenthesis s s') (λ _ _ s s'. tall _ _
       (braced-near (stmt (TREE_DEPTH - 2)) (TREE_DEPTH - 2) (stmt-near (TREE_DEPTH - 2)) s s') (λ _ _ _ _ _. yields refl))))))
 
-  function_by-near : (kind : Kind) → Twins b 1 Level (function_by kind) (function_by kind)
+  function_by-near : (kind : TokenKind) → Twins b 1 Level (function_by kind) (function_by kind)
   function_by-near k.Void s s' = function_behind-near z.Void s s'
   function_by-near (k.Scalar c) s s' = function_behind-near (z.Scalar c) s s'
   function_by-near _ s s' = refuses

@@ -14,8 +14,8 @@ use Rattle.sl_syntax.specs.Written.{words, program_written}
 use Rattle.sl_syntax.proofs.BlankLaws.{blank-placed_alone, placed-words}
 use Rattle.sl_syntax.proofs.BlankShape.{blank-shaped}
 use Rattle.sl_grammar.specs.declared.fault.Fault.TheVariants.{Grammar}
-use Rattle.sl_grammar.specs.Statements.{program}
-use Rattle.sl_grammar.specs.Steps.{Outcome, Tall}
+use Rattle.sl_grammar.specs.Means.Statements.{program}
+use Rattle.sl_grammar.specs.Means.Steps.{Outcome, Tall}
 use Rattle.sl_grammar.proofs.CompletePrograms.{reads_program}
 use Rattle.sl_grammar.proofs.NearStatements.{near_program, program-shrinks}
 use Rattle.sl_grammar.proofs.NearSteps.{Same, step, end, cut, Agree, in_step, at_fault, past, left_over, Level}

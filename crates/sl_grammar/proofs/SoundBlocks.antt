@@ -5,18 +5,18 @@ use Rattle.std.proofs.lemmas.Bool.{ltb-true}
 use Rattle.sl_base.specs.declared.mark.Mark.TheVariants as m
 use Rattle.sl_base.specs.declared.place.Place.{Place}
 use Rattle.sl_base.specs.declared.token.Token.{Token}
-use Rattle.sl_syntax.specs.declared.kind.Kind.{Kind}
-use Rattle.sl_syntax.specs.declared.kind.Kind.TheVariants as k
+use Rattle.sl_syntax.specs.declared.token_kind.TokenKind.{TokenKind}
+use Rattle.sl_syntax.specs.declared.token_kind.TokenKind.TheVariants as k
 use Rattle.sl_syntax.specs.Depth.{declaration_height, cond_height, stmt_height, item_height, items_height}
 use Rattle.sl_syntax.specs.Shaped.{IsDeclaration, IsCond, IsStmt, IsItem, AreItems, ends_open}
 use Rattle.sl_syntax.specs.Tree as t
 use Rattle.sl_syntax.specs.Tree.{Declaration, Cond, Stmt, Item, Items}
 use Rattle.sl_syntax.specs.Written as s
 use Rattle.sl_syntax.specs.Written.{Written, declaration_written, cond_written, tested, stmt_written, item_written}
-use Rattle.sl_grammar.specs.Declarations.{scalar_declaration, auto_declaration, container_declaration}
-use Rattle.sl_grammar.specs.Effects as effects
-use Rattle.sl_grammar.specs.Statements.{is_else, is_item, declared, item_by, item, braced, condition}
-use Rattle.sl_grammar.specs.Steps.{Reader, Tall, kind_at, mark, all_behind}
+use Rattle.sl_grammar.specs.Means.Declarations.{scalar_declaration, auto_declaration, container_declaration}
+use Rattle.sl_grammar.specs.Means.Effects as effects
+use Rattle.sl_grammar.specs.Means.Statements.{is_else, is_item, declared, item_by, item, braced, condition}
+use Rattle.sl_grammar.specs.Means.Steps.{Reader, Tall, kind_at, mark, all_behind}
 use Rattle.sl_grammar.proofs.Rows.{items-written, items-height, are_items}
 use Rattle.sl_grammar.proofs.SoundDeclarations.{scalar-part, auto-part, container-part}
 use Rattle.sl_grammar.proofs.SoundEffects.{cond-part}
@@ -76,7 +76,7 @@ module _ (inner : Reader (Tall Stmt)) (room : ℕ) (f : Finds inner room) where
       let found = f ts x read in
       answered _ y P h1 (record { spelled = found.part.spelled; fits = found.part.fits; size = found.part.size; low = found.part.low }))
 
-  item-by : (kind : Kind) (ts : List Token) (y : Took Item) → kind_at ts ≡ kind → item_by room inner kind ts ≡ Ok y → ItemAt room ts y
+  item-by : (kind : TokenKind) (ts : List Token) (y : Took Item) → kind_at ts ≡ kind → item_by room inner kind ts ≡ Ok y → ItemAt room ts y
   item-by (k.Scalar scalar) ts y e h =
       guarded (nat_lt 1 room) _ _ y (ItemAt room ts) h (λ high h1.
       declared-part (scalar_declaration (room - 2) scalar) ts y (ltb-true 1 room high) (λ x read. scalar-part (room - 2) scalar ts x e read) h1)

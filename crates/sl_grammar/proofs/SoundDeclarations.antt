@@ -9,8 +9,8 @@ use Rattle.sl_base.specs.declared.scalar.Scalar.{Scalar}
 use Rattle.sl_base.specs.declared.scalar.Scalar.TheVariants as c
 use Rattle.sl_base.specs.declared.token.Token.{Token}
 use Rattle.sl_base.specs.declared.word.Word.TheVariants as w
-use Rattle.sl_syntax.specs.declared.kind.Kind.{Kind}
-use Rattle.sl_syntax.specs.declared.kind.Kind.TheVariants as k
+use Rattle.sl_syntax.specs.declared.token_kind.TokenKind.{TokenKind}
+use Rattle.sl_syntax.specs.declared.token_kind.TokenKind.TheVariants as k
 use Rattle.sl_syntax.specs.declared.tree.declaration.ContainerType.{ContainerType}
 use Rattle.sl_syntax.specs.declared.tree.function.Param.{Param}
 use Rattle.sl_syntax.specs.declared.tree.identifier.Identifier.{Identifier}
@@ -20,9 +20,9 @@ use Rattle.sl_syntax.specs.Tree as t
 use Rattle.sl_syntax.specs.Tree.{Expr, Exprs, Initializer, Declaration}
 use Rattle.sl_syntax.specs.Written as s
 use Rattle.sl_syntax.specs.Written.{Written, at, plain, is_map, scalar_word, form_word, elements_written, container_written, written, list_written, initializer_written, value_written, declaration_written, option_written, param_written, params_written}
-use Rattle.sl_grammar.specs.Declarations.{int_by, int, elements_by, container_type, optional_value, scalar_declaration, auto_declaration, braces, behind_equal_by, constructed, initializer_by, initializer, container_declaration, scalar_param, container_param, container_by, const_param, param_by, param, comma_param, params}
-use Rattle.sl_grammar.specs.Expressions.{expr, list, list_before}
-use Rattle.sl_grammar.specs.Steps.{kind_at, here, is_mark, mark, identifier}
+use Rattle.sl_grammar.specs.Means.Declarations.{int_by, int, elements_by, container_type, optional_value, scalar_declaration, auto_declaration, braces, behind_equal_by, constructed, initializer_by, initializer, container_declaration, scalar_param, container_param, container_by, const_param, param_by, param, comma_param, params}
+use Rattle.sl_grammar.specs.Means.Expressions.{expr, list, list_before}
+use Rattle.sl_grammar.specs.Means.Steps.{kind_at, here, is_mark, mark, identifier}
 use Rattle.sl_grammar.proofs.Rows.{Anything, comma_param_written}
 use Rattle.sl_grammar.proofs.SoundExpressions.{sound, whole-part}
 use Rattle.sl_grammar.proofs.SoundLists.{list-part, list-before-part}
@@ -39,7 +39,7 @@ InitializerAt room ts y = Part initializer_written IsInitializer initializer_hei
 abbrev pub ParamAt : ℕ → List Token → Took Param → Type 0
 ParamAt room ts y = Part param_written Anything param_height room ts y.0 y.1
 
-int-by : (kind : Kind) (ts : List Token) (y : Unit {0} × List Token) → kind_at ts ≡ kind → int_by kind ts ≡ Ok y
+int-by : (kind : TokenKind) (ts : List Token) (y : Unit {0} × List Token) → kind_at ts ≡ kind → int_by kind ts ≡ Ok y
     → Spelled (plain (scalar_word c.Int) ∷ []) ts y.1
 int-by (k.Scalar c.Int) ts y e h = answered _ y (λ z. Spelled (plain (scalar_word c.Int) ∷ []) ts z.1) h
     (one_plain ts (k.Scalar c.Int) (scalar_word c.Int) e refl)
@@ -157,7 +157,7 @@ module _ (room : ℕ) where
         low = found.low;
       })))
 
-  behind-equal : (kind : Kind) (ts us : List Token) (y : Took Initializer) → Spelled (s.mark m.Equal ∷ []) ts us → kind_at us ≡ kind
+  behind-equal : (kind : TokenKind) (ts us : List Token) (y : Took Initializer) → Spelled (s.mark m.Equal ∷ []) ts us → kind_at us ≡ kind
       → behind_equal_by room kind us ≡ Ok y
       → InitializerAt room ts y
   behind-equal k.Name ts us y equal e h =
@@ -188,7 +188,7 @@ module _ (room : ℕ) where
   absent-part ts y h = answered _ y (InitializerAt room ts) h
       (record { spelled = no_words ts; fits = tt; size = refl; low = omega arith })
 
-  initializer-by : (kind : Kind) (ts : List Token) (y : Took Initializer) → kind_at ts ≡ kind → initializer_by room kind ts ≡ Ok y
+  initializer-by : (kind : TokenKind) (ts : List Token) (y : Took Initializer) → kind_at ts ≡ kind → initializer_by room kind ts ≡ Ok y
       → InitializerAt room ts y
   initializer-by (k.Mark m.Equal) ts y e h = behind-equal (kind_at (drop 1 ts)) ts (drop 1 ts) y
       (one_plain ts (k.Mark m.Equal) (w.Mark m.Equal) e refl) refl h
@@ -254,7 +254,7 @@ container_param-part form ts y e h =
       low = omega arith;
     }))))
 
-pub by-took : (kind : Kind) (ts : List Token) (y : ContainerType × List Token) → kind_at ts ≡ kind → container_by kind ts ≡ Ok y
+pub by-took : (kind : TokenKind) (ts : List Token) (y : ContainerType × List Token) → kind_at ts ≡ kind → container_by kind ts ≡ Ok y
     → Spelled (container_written y.0) ts y.1
 by-took (k.Container form) ts y e h = type-took form ts y e h
 by-took _ ts y e h = absurd cc
@@ -274,7 +274,7 @@ const_param-part ts y e h =
       low = omega arith;
     }))))
 
-param-by : (kind : Kind) (ts : List Token) (y : Took Param) → kind_at ts ≡ kind → param_by kind ts ≡ Ok y → ParamAt 2 ts y
+param-by : (kind : TokenKind) (ts : List Token) (y : Took Param) → kind_at ts ≡ kind → param_by kind ts ≡ Ok y → ParamAt 2 ts y
 param-by (k.Scalar scalar) ts y e h = scalar_param-part scalar ts y e h
 param-by (k.Container form) ts y e h = container_param-part form ts y e h
 param-by k.Const ts y e h = const_param-part ts y e h

@@ -6,8 +6,8 @@ use Rattle.sl_base.specs.declared.mark.Mark.TheVariants as m
 use Rattle.sl_base.specs.declared.place.Place.{Place}
 use Rattle.sl_base.specs.declared.token.Token.{Token}
 use Rattle.sl_base.specs.declared.word.Word.TheVariants as w
-use Rattle.sl_syntax.specs.declared.kind.Kind.{Kind}
-use Rattle.sl_syntax.specs.declared.kind.Kind.TheVariants as k
+use Rattle.sl_syntax.specs.declared.token_kind.TokenKind.{TokenKind}
+use Rattle.sl_syntax.specs.declared.token_kind.TokenKind.TheVariants as k
 use Rattle.sl_syntax.specs.declared.operator.Assignment.{Assignment}
 use Rattle.sl_syntax.specs.declared.tree.effect.Read.{Read}
 use Rattle.sl_syntax.specs.declared.tree.identifier.Identifier.{Identifier}
@@ -15,10 +15,10 @@ use Rattle.sl_syntax.specs.Depth.{height, out_height, effect_height, cond_height
 use Rattle.sl_syntax.specs.Shaped.{IsExpr, IsRead, IsOut, IsEffect, IsCond}
 use Rattle.sl_syntax.specs.Tree.{Expr, Out, Effect, Cond}
 use Rattle.sl_syntax.specs.Written.{assignment_mark, written, out_written, read_written, effect_written, cond_written}
-use Rattle.sl_grammar.specs.Effects.{shifted_name, read, is_input, out_by, shifted_out, print, assignment_of, assigned_by, assigned, effect_by, effect, begins_no_read, no_read, cond_by}
-use Rattle.sl_grammar.specs.Effects as effects
-use Rattle.sl_grammar.specs.Expressions.{expr}
-use Rattle.sl_grammar.specs.Steps.{Tall, kind_at, is_mark, mark, identifier, all_behind}
+use Rattle.sl_grammar.specs.Means.Effects.{shifted_name, read, is_input, out_by, shifted_out, print, assignment_of, assigned_by, assigned, effect_by, effect, begins_no_read, no_read, cond_by}
+use Rattle.sl_grammar.specs.Means.Effects as effects
+use Rattle.sl_grammar.specs.Means.Expressions.{expr}
+use Rattle.sl_grammar.specs.Means.Steps.{Tall, kind_at, is_mark, mark, identifier, all_behind}
 use Rattle.sl_grammar.proofs.KindLaws.{is_mark_kind, some_one, both}
 use Rattle.sl_grammar.proofs.Rows.{Anything, name_written, flat, shifted_written}
 use Rattle.sl_grammar.proofs.SoundExpressions.{sound, whole-part}
@@ -72,7 +72,7 @@ read-part room ts y e h =
       low = omega arith;
     }))))
 
-is_input_kind : (kind : Kind) → is_input kind ≡ true → kind ≡ k.Input
+is_input_kind : (kind : TokenKind) → is_input kind ≡ true → kind ≡ k.Input
 is_input_kind k.Input h = refl
 is_input_kind _ h = absurd (false≢true h)
 
@@ -102,7 +102,7 @@ module _ (room : ℕ) where
       let found = (sound room 5 ts x (omega arith) (omega arith) read).1 in
       answered _ y P h1 (record { spelled = found.part.spelled; fits = (found.tight, found.part.fits); size = found.part.size; low = found.part.low }))
 
-  out-by : (kind : Kind) (ts : List Token) (y : Took Out) → kind_at ts ≡ kind → out_by room kind ts ≡ Ok y → OutAt (room - 1) ts y
+  out-by : (kind : TokenKind) (ts : List Token) (y : Took Out) → kind_at ts ≡ kind → out_by room kind ts ≡ Ok y → OutAt (room - 1) ts y
   out-by k.Text ts y e h = answered _ y (OutAt (room - 1) ts) h
       (record { spelled = one_text ts e; fits = tt; size = refl; low = omega arith })
   out-by k.EndLine ts y e h = answered _ y (OutAt (room - 1) ts) h
@@ -135,7 +135,7 @@ module _ (room : ℕ) where
         low = omega (arith, above, first.size, first.low, others.size, others.low);
       }))))
 
-  pub assignment-mark : (kind : Kind) (op : Assignment) → assignment_of room kind ≡ Some op → kind ≡ k.Mark (assignment_mark op)
+  pub assignment-mark : (kind : TokenKind) (op : Assignment) → assignment_of room kind ≡ Some op → kind ≡ k.Mark (assignment_mark op)
   assignment-mark (k.Mark m.Equal) op h = ap (λ (o : Assignment). k.Mark (assignment_mark o)) (some_one h)
   assignment-mark (k.Mark m.PlusEqual) op h = ap (λ (o : Assignment). k.Mark (assignment_mark o)) (some_one h)
   assignment-mark (k.Mark m.MinusEqual) op h = ap (λ (o : Assignment). k.Mark (assignment_mark o)) (some_one h)
@@ -171,7 +171,7 @@ module _ (room : ℕ) where
       bound (expr (room + 1) 1 ts) _ y P h (λ x read h1.
       assigned-by (assignment_of room (kind_at x.1)) ts x.1 x.0 y (whole-part room ts x read) refl h1)
 
-  effect-by : (kind : Kind) (ts : List Token) (y : Took Effect) → kind_at ts ≡ kind → effect_by room kind ts ≡ Ok y → EffectAt room ts y
+  effect-by : (kind : TokenKind) (ts : List Token) (y : Took Effect) → kind_at ts ≡ kind → effect_by room kind ts ≡ Ok y → EffectAt room ts y
   effect-by k.Input ts y e h =
       let P : Took Effect → Type 0 = EffectAt room ts in
       bound (read room ts) _ y P h (λ r reads h1.
@@ -215,7 +215,7 @@ module _ (room : ℕ) where
       let found = whole-part room ts x read in
       answered _ y P h2 (record { spelled = found.spelled; fits = found.fits; size = found.size; low = found.low })))
 
-  cond-by : (kind : Kind) (ts : List Token) (y : Took Cond) → kind_at ts ≡ kind → cond_by room kind ts ≡ Ok y → CondAt room ts y
+  cond-by : (kind : TokenKind) (ts : List Token) (y : Took Cond) → kind_at ts ≡ kind → cond_by room kind ts ≡ Ok y → CondAt room ts y
   cond-by k.Input ts y e h =
       let P : Took Cond → Type 0 = CondAt room ts in
       bound (read room ts) _ y P h (λ r reads h1.

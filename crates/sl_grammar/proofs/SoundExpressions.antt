@@ -5,8 +5,8 @@ use Rattle.std.proofs.lemmas.Bool.{ltb-true, ltb-false}
 use Rattle.sl_base.specs.declared.mark.Mark.TheVariants as m
 use Rattle.sl_base.specs.declared.token.Token.{Token}
 use Rattle.sl_base.specs.declared.word.Word.TheVariants as w
-use Rattle.sl_syntax.specs.declared.kind.Kind.{Kind}
-use Rattle.sl_syntax.specs.declared.kind.Kind.TheVariants as k
+use Rattle.sl_syntax.specs.declared.token_kind.TokenKind.{TokenKind}
+use Rattle.sl_syntax.specs.declared.token_kind.TokenKind.TheVariants as k
 use Rattle.sl_syntax.specs.declared.operator.BinaryOperator.{BinaryOperator}
 use Rattle.sl_syntax.specs.declared.operator.PostfixOperator.{PostfixOperator}
 use Rattle.sl_syntax.specs.declared.operator.PostfixOperator.TheVariants as postfix
@@ -14,8 +14,8 @@ use Rattle.sl_syntax.specs.Depth.{height}
 use Rattle.sl_syntax.specs.Shaped.{binary_level, level, IsExpr}
 use Rattle.sl_syntax.specs.Tree.{Expr}
 use Rattle.sl_syntax.specs.Written.{binary_mark, postfix_mark, written}
-use Rattle.sl_grammar.specs.Expressions.{infix_of, binds_or, piece_level, goes_on, arguments, operand, indexed, dotted, pointed, postfixed, piece_by, piece, combined, operation_by, operation, climb, from_operand, expr}
-use Rattle.sl_grammar.specs.Steps.{Reader, Tall, kind_at, is_mark, mark, identifier}
+use Rattle.sl_grammar.specs.Means.Expressions.{infix_of, binds_or, piece_level, goes_on, arguments, operand, indexed, dotted, pointed, postfixed, piece_by, piece, combined, operation_by, operation, climb, from_operand, expr}
+use Rattle.sl_grammar.specs.Means.Steps.{Reader, Tall, kind_at, is_mark, mark, identifier}
 use Rattle.sl_grammar.proofs.SoundOperands.{Found, Left, Finds, goes-low, binary-low, infix-mark, arguments-part, operand-left}
 use Rattle.sl_grammar.proofs.SoundSteps.{Took, bound, chosen, guarded, answered, one_word, one_plain, mark_plain, identifier_took, Part, Parts}
 use Rattle.sl_grammar.proofs.Spelling.{◌⨾◌}
@@ -132,7 +132,7 @@ module _ (inner smaller : ℕ → Reader (Tall Expr)) (room : ℕ) (f : Finds in
         goes = omega (arith, goes-low (kind_at (drop 1 us)));
       })
 
-  piece-by : (kind : Kind) (y : Took Expr) → Part written IsExpr height room ts left us → left.1 < room → goes_on kind ≤ level left.0
+  piece-by : (kind : TokenKind) (y : Took Expr) → Part written IsExpr height room ts left us → left.1 < room → goes_on kind ≤ level left.0
       → kind_at us ≡ kind → piece_by inner smaller room left kind us ≡ Ok y → Longer (goes_on kind) y
   piece-by (k.Mark m.PlusPlus) y first below goes e h = postfix-longer postfix.Increment y first below goes e h
   piece-by (k.Mark m.MinusMinus) y first below goes e h = postfix-longer postfix.Decrement y first below goes e h

@@ -9,8 +9,8 @@ use Rattle.sl_base.specs.declared.scalar.Scalar.TheVariants as c
 use Rattle.sl_base.specs.declared.token.Token.{Token}
 use Rattle.sl_base.specs.declared.word.Word.{Word}
 use Rattle.sl_base.specs.declared.word.Word.TheVariants as w
-use Rattle.sl_syntax.specs.declared.kind.Kind.{Kind}
-use Rattle.sl_syntax.specs.declared.kind.Kind.TheVariants as k
+use Rattle.sl_syntax.specs.declared.token_kind.TokenKind.{TokenKind}
+use Rattle.sl_syntax.specs.declared.token_kind.TokenKind.TheVariants as k
 use Rattle.sl_syntax.specs.declared.tree.identifier.Identifier.{Identifier}
 use Rattle.sl_syntax.specs.Depth.{height, option_height, effect_height, cond_height, first_height}
 use Rattle.sl_syntax.specs.Shaped.{IsExpr, IfThere, IsEffect, IsCond, IsFirst}
@@ -18,11 +18,11 @@ use Rattle.sl_syntax.specs.Tree as t
 use Rattle.sl_syntax.specs.Tree.{Expr, Effect, Cond, First, Stmt}
 use Rattle.sl_syntax.specs.Written as s
 use Rattle.sl_syntax.specs.Written.{Written, at, scalar_word, element_word, value_written, option_written, effect_written, cond_written, first_written, tested}
-use Rattle.sl_grammar.specs.Effects.{effect}
-use Rattle.sl_grammar.specs.Effects as effects
-use Rattle.sl_grammar.specs.Expressions.{expr}
-use Rattle.sl_grammar.specs.Statements.{ranges, is_auto, first_of, optional_cond, optional_effect, for_behind, range_behind, valued_first, variable_behind, declared_first, for_by, for_loop}
-use Rattle.sl_grammar.specs.Steps.{Reader, Tall, kind_at, here, is_mark, mark, identifier}
+use Rattle.sl_grammar.specs.Means.Effects.{effect}
+use Rattle.sl_grammar.specs.Means.Effects as effects
+use Rattle.sl_grammar.specs.Means.Expressions.{expr}
+use Rattle.sl_grammar.specs.Means.Statements.{ranges, is_auto, first_of, optional_cond, optional_effect, for_behind, range_behind, valued_first, variable_behind, declared_first, for_by, for_loop}
+use Rattle.sl_grammar.specs.Means.Steps.{Reader, Tall, kind_at, here, is_mark, mark, identifier}
 use Rattle.sl_grammar.proofs.KindLaws.{fixed, both}
 use Rattle.sl_grammar.proofs.SoundBlocks.{FoundStmt, Finds}
 use Rattle.sl_grammar.proofs.SoundEffects.{effect-part, cond-part}
@@ -39,7 +39,7 @@ abbrev pub type_word : Option Scalar → Word
 type_word None = w.Key (codes "auto")
 type_word (Some scalar) = scalar_word scalar
 
-abbrev pub type_kind : Option Scalar → Kind
+abbrev pub type_kind : Option Scalar → TokenKind
 type_kind None = k.Auto
 type_kind (Some scalar) = k.Scalar scalar
 
@@ -190,7 +190,7 @@ module _ (inner : Reader (Tall Stmt)) (room : ℕ) (f : Finds inner room) where
       for_behind-found ts x.1 (Some (t.first_effect x.0.0), x.0.1) y
       (record { spelled = opened ⨾ found.spelled; fits = found.fits; size = found.size; low = found.low }) h1)
 
-  for-by : (kind : Kind) (ts us : List Token) (y : Took Stmt) → Spelled (opened_written (here ts)) ts us → kind_at us ≡ kind
+  for-by : (kind : TokenKind) (ts us : List Token) (y : Took Stmt) → Spelled (opened_written (here ts)) ts us → kind_at us ≡ kind
       → for_by inner room (here ts) kind us ≡ Ok y → FoundStmt (room + 1) ts y.0 y.1
   for-by (k.Scalar scalar) ts us y opened e h = declared-found (Some scalar) ts us y opened e h
   for-by k.Auto ts us y opened e h = declared-found None ts us y opened e h

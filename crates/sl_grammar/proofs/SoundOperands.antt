@@ -5,8 +5,8 @@ use Rattle.std.proofs.lemmas.Bool.{ltb-true}
 use Rattle.sl_base.specs.declared.mark.Mark.TheVariants as m
 use Rattle.sl_base.specs.declared.token.Token.{Token}
 use Rattle.sl_base.specs.declared.word.Word.TheVariants as w
-use Rattle.sl_syntax.specs.declared.kind.Kind.{Kind}
-use Rattle.sl_syntax.specs.declared.kind.Kind.TheVariants as k
+use Rattle.sl_syntax.specs.declared.token_kind.TokenKind.{TokenKind}
+use Rattle.sl_syntax.specs.declared.token_kind.TokenKind.TheVariants as k
 use Rattle.sl_syntax.specs.declared.operator.Arithmetic.TheVariants as arithmetic
 use Rattle.sl_syntax.specs.declared.operator.BinaryOperator.{BinaryOperator}
 use Rattle.sl_syntax.specs.declared.operator.BinaryOperator.TheVariants as binary
@@ -18,8 +18,8 @@ use Rattle.sl_syntax.specs.Shaped.{binary_level, level, IsExpr, AreExprs}
 use Rattle.sl_syntax.specs.Tree.{Expr, Exprs}
 use Rattle.sl_syntax.specs.Written as s
 use Rattle.sl_syntax.specs.Written.{Written, binary_mark, prefix_mark, written, list_written}
-use Rattle.sl_grammar.specs.Expressions.{infix_of, binds_or, piece_level, goes_on, list_before, arguments, named, library_call, parentheses, prefixed, operand_by, operand}
-use Rattle.sl_grammar.specs.Steps.{Reader, Tall, kind_at, is_mark, mark, identifier, library}
+use Rattle.sl_grammar.specs.Means.Expressions.{infix_of, binds_or, piece_level, goes_on, list_before, arguments, named, library_call, parentheses, prefixed, operand_by, operand}
+use Rattle.sl_grammar.specs.Means.Steps.{Reader, Tall, kind_at, is_mark, mark, identifier, library}
 use Rattle.sl_grammar.proofs.KindLaws.{some_one}
 use Rattle.sl_grammar.proofs.SoundLists.{list-before-part}
 use Rattle.sl_grammar.proofs.SoundSteps.{Took, bound, chosen, guarded, answered, one_word, one_number, mark_plain, identifier_took, library_took, Part, Parts}
@@ -38,7 +38,7 @@ binary-low (binary.Comparison comparison.Equal) = omega arith
 binary-low (binary.Arithmetic arithmetic.Add) = omega arith
 binary-low _ = omega arith
 
-piece-low : (kind : Kind) → piece_level kind ≤ 8
+piece-low : (kind : TokenKind) → piece_level kind ≤ 8
 piece-low (k.Mark m.PlusPlus) = omega arith
 piece-low (k.Mark m.MinusMinus) = omega arith
 piece-low (k.Mark m.LeftBracket) = omega arith
@@ -50,11 +50,11 @@ binds-low : (other : ℕ) (op : Option BinaryOperator) → other ≤ 8 → binds
 binds-low other None h = h
 binds-low other (Some op) h = omega (arith, binary-low op)
 
-pub goes-low : (kind : Kind) → goes_on kind ≤ 8
+pub goes-low : (kind : TokenKind) → goes_on kind ≤ 8
 goes-low kind = binds-low (piece_level kind) (infix_of kind) (piece-low kind)
 
 -- an operator between two operands is the mark that it is written with
-pub infix-mark : (kind : Kind) (op : BinaryOperator) → infix_of kind ≡ Some op → kind ≡ k.Mark (binary_mark op)
+pub infix-mark : (kind : TokenKind) (op : BinaryOperator) → infix_of kind ≡ Some op → kind ≡ k.Mark (binary_mark op)
 infix-mark (k.Mark m.OrOr) op h = ap (λ (o : BinaryOperator). k.Mark (binary_mark o)) (some_one h)
 infix-mark (k.Mark m.AndAnd) op h = ap (λ (o : BinaryOperator). k.Mark (binary_mark o)) (some_one h)
 infix-mark (k.Mark m.EqualEqual) op h = ap (λ (o : BinaryOperator). k.Mark (binary_mark o)) (some_one h)
@@ -130,15 +130,15 @@ module _ (inner smaller : ℕ → Reader (Tall Expr)) (room : ℕ) (f : Finds in
         goes = omega (arith, goes-low (kind_at x.1));
       })))
 
-  library-left : (ts : List Token) (y : Took Expr) → library_call inner smaller room ts ≡ Ok y → Left room 7 ts y.0 y.1
+  library-left : (ts : List Token) (y : Took Expr) → kind_at ts ≡ k.Library → library_call inner smaller room ts ≡ Ok y → Left room 7 ts y.0 y.1
   unfolding library_call
-  library-left ts y h =
+  library-left ts y e h =
       let P : Took Expr → Type 0 = λ z. Left room 7 ts z.0 z.1 in
       guarded (nat_lt 0 room) _ _ y P h (λ high h1.
       bound (library ts) _ y P h1 (λ x name h2.
       bound (arguments inner smaller room x.1) _ y P h2 (λ xs read h3.
       let above : 0 < room = ltb-true 0 room high in
-      let first = library_took ts x name in
+      let first = library_took ts x e name in
       let found = arguments-part above x.1 xs read in
       answered _ y P h3 (record {
         part = record {
@@ -191,7 +191,7 @@ module _ (inner smaller : ℕ → Reader (Tall Expr)) (room : ℕ) (f : Finds in
         goes = omega (arith, found.1.stops);
       })))
 
-  operand-by : (kind : Kind) (ts : List Token) (y : Took Expr) → kind_at ts ≡ kind → operand_by inner smaller room kind ts ≡ Ok y
+  operand-by : (kind : TokenKind) (ts : List Token) (y : Took Expr) → kind_at ts ≡ kind → operand_by inner smaller room kind ts ≡ Ok y
       → Left room 7 ts y.0 y.1
   operand-by k.Number ts y e h = answered _ y (λ z. Left room 7 ts z.0 z.1) h (record {
     part = record { spelled = one_number ts e; fits = tt; size = refl; low = omega arith };
@@ -204,7 +204,7 @@ module _ (inner smaller : ℕ → Reader (Tall Expr)) (room : ℕ) (f : Finds in
     goes = omega (arith, goes-low (kind_at (drop 1 ts)));
   })
   operand-by k.Name ts y e h = named-left ts y h
-  operand-by k.Library ts y e h = library-left ts y h
+  operand-by k.Library ts y e h = library-left ts y e h
   operand-by (k.Mark m.LeftParenthesis) ts y e h = parentheses-left ts y e h
   operand-by (k.Mark m.Not) ts y e h = prefixed-left prefix.Not ts y e h
   operand-by (k.Mark m.Minus) ts y e h = prefixed-left prefix.Negate ts y e h

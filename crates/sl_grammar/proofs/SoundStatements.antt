@@ -7,17 +7,17 @@ use Rattle.sl_base.specs.declared.place.Place.{Place}
 use Rattle.sl_base.specs.declared.token.Token.{Token}
 use Rattle.sl_base.specs.declared.word.Word.{Word}
 use Rattle.sl_base.specs.declared.word.Word.TheVariants as w
-use Rattle.sl_syntax.specs.declared.kind.Kind.{Kind}
-use Rattle.sl_syntax.specs.declared.kind.Kind.TheVariants as k
+use Rattle.sl_syntax.specs.declared.token_kind.TokenKind.{TokenKind}
+use Rattle.sl_syntax.specs.declared.token_kind.TokenKind.TheVariants as k
 use Rattle.sl_syntax.specs.Shaped.{ends_open}
 use Rattle.sl_syntax.specs.Tree as t
 use Rattle.sl_syntax.specs.Tree.{Stmt}
 use Rattle.sl_syntax.specs.Written as s
 use Rattle.sl_syntax.specs.Written.{at, plain, stmt_written}
-use Rattle.sl_grammar.specs.Effects.{effect}
-use Rattle.sl_grammar.specs.Expressions.{expr}
-use Rattle.sl_grammar.specs.Statements.{is_else, braced, block, condition, otherwise, choice, loop, return_stmt, effect_stmt, word_stmt, stmt_by, stmt}
-use Rattle.sl_grammar.specs.Steps.{Reader, Tall, kind_at, here, is_mark, mark}
+use Rattle.sl_grammar.specs.Means.Effects.{effect}
+use Rattle.sl_grammar.specs.Means.Expressions.{expr}
+use Rattle.sl_grammar.specs.Means.Statements.{is_else, braced, block, condition, otherwise, choice, loop, return_stmt, effect_stmt, word_stmt, stmt_by, stmt}
+use Rattle.sl_grammar.specs.Means.Steps.{Reader, Tall, kind_at, here, is_mark, mark}
 use Rattle.sl_grammar.proofs.SoundBlocks.{FoundStmt, Finds, braced-part, condition-part, tested-written}
 use Rattle.sl_grammar.proofs.SoundEffects.{effect-part}
 use Rattle.sl_grammar.proofs.SoundExpressions.{whole-part}
@@ -30,7 +30,7 @@ pub not_open : (open_end next : Bool) → (open_end ≡ true → next ≡ false)
 not_open true next h e = absurd (false≢true (sym (h refl) ∙ e))
 not_open false next h e = refl
 
-pub is_else_kind : (kind : Kind) → is_else kind ≡ true → kind ≡ k.Else
+pub is_else_kind : (kind : TokenKind) → is_else kind ≡ true → kind ≡ k.Else
 is_else_kind k.Else h = refl
 is_else_kind _ h = absurd (false≢true h)
 
@@ -151,7 +151,7 @@ module _ (inner : Reader (Tall Stmt)) (room : ℕ) (f : Finds inner room) where
   word-found word make ts y P h first go =
       bound (mark m.Semicolon (drop 1 ts)) _ y P h (λ u close h1. answered _ y P h1 (go u.1 (first ⨾ mark_plain m.Semicolon (drop 1 ts) u close)))
 
-  pub stmt-by : (kind : Kind) (ts : List Token) (y : Took Stmt) → kind_at ts ≡ kind → stmt_by inner room kind ts ≡ Ok y
+  pub stmt-by : (kind : TokenKind) (ts : List Token) (y : Took Stmt) → kind_at ts ≡ kind → stmt_by inner room kind ts ≡ Ok y
       → FoundStmt (room + 1) ts y.0 y.1
   stmt-by (k.Mark m.LeftBrace) ts y e h = block-found ts y h
   stmt-by k.If ts y e h = choice-found ts y e h

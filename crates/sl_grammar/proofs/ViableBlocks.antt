@@ -6,8 +6,8 @@ use Rattle.sl_base.specs.declared.mark.Mark.TheVariants as m
 use Rattle.sl_base.specs.declared.place.Place.{Place}
 use Rattle.sl_base.specs.declared.token.Token.{Token}
 use Rattle.sl_base.specs.declared.word.Word.TheVariants as w
-use Rattle.sl_syntax.specs.declared.kind.Kind.{Kind}
-use Rattle.sl_syntax.specs.declared.kind.Kind.TheVariants as k
+use Rattle.sl_syntax.specs.declared.token_kind.TokenKind.{TokenKind}
+use Rattle.sl_syntax.specs.declared.token_kind.TokenKind.TheVariants as k
 use Rattle.sl_syntax.specs.Blank.{nowhere}
 use Rattle.sl_syntax.specs.Depth.{cond_height, declaration_height, item_height, stmt_height}
 use Rattle.sl_syntax.specs.Shaped.{IsCond, IsDeclaration, IsItem, IsStmt}
@@ -16,10 +16,10 @@ use Rattle.sl_syntax.specs.Tree.{Cond, Declaration, Item, Items, Stmt, items_fro
 use Rattle.sl_syntax.specs.Written as s
 use Rattle.sl_syntax.specs.Written.{Written, at, declaration_written, item_written, stmt_written}
 use Rattle.sl_grammar.specs.declared.fault.Fault.TheVariants.{Grammar}
-use Rattle.sl_grammar.specs.Declarations.{auto_declaration, container_declaration, scalar_declaration}
-use Rattle.sl_grammar.specs.Effects as effects
-use Rattle.sl_grammar.specs.Statements.{braced, condition, declared, is_item, item, item_by}
-use Rattle.sl_grammar.specs.Steps.{Reader, Tall, all_behind, here, kind_at, mark}
+use Rattle.sl_grammar.specs.Means.Declarations.{auto_declaration, container_declaration, scalar_declaration}
+use Rattle.sl_grammar.specs.Means.Effects as effects
+use Rattle.sl_grammar.specs.Means.Statements.{braced, condition, declared, is_item, item, item_by}
+use Rattle.sl_grammar.specs.Means.Steps.{Reader, Tall, all_behind, here, kind_at, mark}
 use Rattle.sl_grammar.proofs.Rows.{items-written, items-height, are_items}
 use Rattle.sl_grammar.proofs.SoundBlocks.{Finds, IsBlock, block_height, block_written, condition_written, item-part}
 use Rattle.sl_grammar.proofs.SoundDeclarations.{auto-part, container-part, scalar-part}
@@ -84,7 +84,7 @@ module _ (inner : Reader (Tall Stmt)) (room : ℕ) (f : Finds inner room) (g : F
       (λ h1. g ts n P h1 (λ e. no_item ts n e) (λ v. an_item ts n (t.states v.tree) v.fits.0 v.fits.1 (begun v)))
       (λ x read h1. no_fault _ n P h1)
 
-  item-by : (kind : Kind) (ts : List Token) (n : ℕ) → kind_at ts ≡ kind → item_by room inner kind ts ≡ Err (Grammar n) → BegunItems ts n
+  item-by : (kind : TokenKind) (ts : List Token) (n : ℕ) → kind_at ts ≡ kind → item_by room inner kind ts ≡ Err (Grammar n) → BegunItems ts n
   item-by (k.Scalar scalar) ts n e h =
       tested (nat_lt 1 room) _ (length ts) n (BegunItems ts n) h
       (λ high h1.

@@ -8,8 +8,8 @@ use Rattle.sl_base.specs.declared.scalar.Scalar.{Scalar}
 use Rattle.sl_base.specs.declared.scalar.Scalar.TheVariants as c
 use Rattle.sl_base.specs.declared.token.Token.{Token}
 use Rattle.sl_base.specs.declared.word.Word.TheVariants as w
-use Rattle.sl_syntax.specs.declared.kind.Kind.{Kind}
-use Rattle.sl_syntax.specs.declared.kind.Kind.TheVariants as k
+use Rattle.sl_syntax.specs.declared.token_kind.TokenKind.{TokenKind}
+use Rattle.sl_syntax.specs.declared.token_kind.TokenKind.TheVariants as k
 use Rattle.sl_syntax.specs.declared.tree.declaration.ContainerType.{ContainerType}
 use Rattle.sl_syntax.specs.Depth.{declaration_height, height, initializer_height, option_height}
 use Rattle.sl_syntax.specs.Shaped.{IfThere, IsDeclaration, IsExpr, IsInitializer}
@@ -18,9 +18,9 @@ use Rattle.sl_syntax.specs.Tree.{Declaration, Expr, Initializer}
 use Rattle.sl_syntax.specs.Written as s
 use Rattle.sl_syntax.specs.Written.{container_written, declaration_written, elements_written, form_word, initializer_written, is_map, option_written, scalar_word, value_written, written}
 use Rattle.sl_grammar.specs.declared.fault.Fault.TheVariants.{Grammar}
-use Rattle.sl_grammar.specs.Declarations.{auto_declaration, behind_equal_by, braces, constructed, container_declaration, container_type, elements_by, initializer, initializer_by, int, int_by, optional_value, scalar_declaration}
-use Rattle.sl_grammar.specs.Expressions.{expr, list, list_before}
-use Rattle.sl_grammar.specs.Steps.{here, identifier, is_mark, kind_at, mark}
+use Rattle.sl_grammar.specs.Means.Declarations.{auto_declaration, behind_equal_by, braces, constructed, container_declaration, container_type, elements_by, initializer, initializer_by, int, int_by, optional_value, scalar_declaration}
+use Rattle.sl_grammar.specs.Means.Expressions.{expr, list, list_before}
+use Rattle.sl_grammar.specs.Means.Steps.{here, identifier, is_mark, kind_at, mark}
 use Rattle.sl_grammar.proofs.SoundDeclarations.{int-took, type-took, inner-part, scalar-written, opening, braces-written}
 use Rattle.sl_grammar.proofs.SoundExpressions.{whole-part}
 use Rattle.sl_grammar.proofs.SoundLists.{list-before-part, list-part}
@@ -37,7 +37,7 @@ LowDeclaration room d = IsDeclaration d × (declaration_height d ≤ room)
 abbrev pub LowInitializer : ℕ → Initializer → Type 0
 LowInitializer room i = IsInitializer i × (initializer_height i ≤ room)
 
-int-by : (kind : Kind) (ts : List Token) (n : ℕ) → int_by kind ts ≡ Err (Grammar n) → length ts ≡ n
+int-by : (kind : TokenKind) (ts : List Token) (n : ℕ) → int_by kind ts ≡ Err (Grammar n) → length ts ≡ n
 int-by (k.Scalar c.Int) ts n h = absurd cc
 int-by (k.Scalar _) ts n h = cc
 int-by _ ts n h = cc
@@ -150,7 +150,7 @@ module _ (room : ℕ) where
       (rewritten (braces-written equal xs.0.0) (opened ⨠ (found.spelled ⨠ at_once _ xs.1 n (mark_fault m.RightBrace xs.1 n h2)))))
       (λ v closed h2. no_fault _ n P h2))
 
-  behind-equal : (kind : Kind) (ts us : List Token) (n : ℕ) → Spelled (s.mark m.Equal ∷ []) ts us → kind_at us ≡ kind
+  behind-equal : (kind : TokenKind) (ts us : List Token) (n : ℕ) → Spelled (s.mark m.Equal ∷ []) ts us → kind_at us ≡ kind
       → behind_equal_by room kind us ≡ Err (Grammar n) → Viable (LowInitializer room) initializer_written ts n
   behind-equal k.Name ts us n equal e h =
       let P : Type 0 = Viable (LowInitializer room) initializer_written ts n in
@@ -180,7 +180,7 @@ module _ (room : ℕ) where
       (opened ⨠ (found.spelled ⨠ at_once _ xs.1 n (mark_fault m.RightParenthesis xs.1 n h2))))
       (λ v closed h2. no_fault _ n P h2))
 
-  initializer-by : (kind : Kind) (ts : List Token) (n : ℕ) → kind_at ts ≡ kind → initializer_by room kind ts ≡ Err (Grammar n)
+  initializer-by : (kind : TokenKind) (ts : List Token) (n : ℕ) → kind_at ts ≡ kind → initializer_by room kind ts ≡ Err (Grammar n)
       → Viable (LowInitializer room) initializer_written ts n
   initializer-by (k.Mark m.Equal) ts n e h = behind-equal (kind_at (drop 1 ts)) ts (drop 1 ts) n
       (one_plain ts (k.Mark m.Equal) (w.Mark m.Equal) e refl) refl h

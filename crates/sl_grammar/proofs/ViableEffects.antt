@@ -5,8 +5,8 @@ use Rattle.std.proofs.lemmas.Bool.{ltb-true}
 use Rattle.sl_base.specs.declared.mark.Mark.TheVariants as m
 use Rattle.sl_base.specs.declared.token.Token.{Token}
 use Rattle.sl_base.specs.declared.word.Word.TheVariants as w
-use Rattle.sl_syntax.specs.declared.kind.Kind.{Kind}
-use Rattle.sl_syntax.specs.declared.kind.Kind.TheVariants as k
+use Rattle.sl_syntax.specs.declared.token_kind.TokenKind.{TokenKind}
+use Rattle.sl_syntax.specs.declared.token_kind.TokenKind.TheVariants as k
 use Rattle.sl_syntax.specs.declared.operator.Assignment.{Assignment}
 use Rattle.sl_syntax.specs.declared.tree.effect.Read.{Read}
 use Rattle.sl_syntax.specs.declared.tree.identifier.Identifier.{Identifier}
@@ -18,10 +18,10 @@ use Rattle.sl_syntax.specs.Tree.{Expr, Out, Effect, Cond}
 use Rattle.sl_syntax.specs.Written as s
 use Rattle.sl_syntax.specs.Written.{assignment_mark, written, out_written, read_written, effect_written, cond_written}
 use Rattle.sl_grammar.specs.declared.fault.Fault.TheVariants.{Grammar}
-use Rattle.sl_grammar.specs.Effects.{shifted_name, read, is_input, out_by, shifted_out, print, assignment_of, assigned_by, assigned, effect_by, effect, begins_no_read, no_read, cond_by}
-use Rattle.sl_grammar.specs.Effects as effects
-use Rattle.sl_grammar.specs.Expressions.{expr}
-use Rattle.sl_grammar.specs.Steps.{Tall, kind_at, here, is_mark, mark, identifier, all_behind}
+use Rattle.sl_grammar.specs.Means.Effects.{shifted_name, read, is_input, out_by, shifted_out, print, assignment_of, assigned_by, assigned, effect_by, effect, begins_no_read, no_read, cond_by}
+use Rattle.sl_grammar.specs.Means.Effects as effects
+use Rattle.sl_grammar.specs.Means.Expressions.{expr}
+use Rattle.sl_grammar.specs.Means.Steps.{Tall, kind_at, here, is_mark, mark, identifier, all_behind}
 use Rattle.sl_grammar.proofs.KindLaws.{is_mark_kind}
 use Rattle.sl_grammar.proofs.Rows.{Anything, name_written, flat, shifted_written}
 use Rattle.sl_grammar.proofs.SoundEffects.{read-part, shifted_name-part, shifted-part, assignment-mark, no_read-begins, input-behind}
@@ -99,7 +99,7 @@ module _ (room : ℕ) where
       viable (t.value v.tree) ((v.fits.2, v.fits.0), omega (arith, v.fits.1)) (begun v))
       (λ x read h1. no_fault _ n P h1)
 
-  out-viable : 0 < room → (kind : Kind) (ts : List Token) (n : ℕ) → out_by room kind ts ≡ Err (Grammar n) → Viable OutLow out_written ts n
+  out-viable : 0 < room → (kind : TokenKind) (ts : List Token) (n : ℕ) → out_by room kind ts ≡ Err (Grammar n) → Viable OutLow out_written ts n
   out-viable high k.Text ts n h = no_fault _ n (Viable OutLow out_written ts n) h
   out-viable high k.EndLine ts n h = no_fault _ n (Viable OutLow out_written ts n) h
   out-viable high _ ts n h = value-out high ts n h
@@ -177,7 +177,7 @@ module _ (room : ℕ) where
       inside above (read-viable room ts n above e h))
       (λ _ e1. here_fault e1)
 
-  effect-by : (kind : Kind) (ts : List Token) (n : ℕ) → kind_at ts ≡ kind → effect_by room kind ts ≡ Err (Grammar n)
+  effect-by : (kind : TokenKind) (ts : List Token) (n : ℕ) → kind_at ts ≡ kind → effect_by room kind ts ≡ Err (Grammar n)
       → Viable EffectLow effect_written ts n
   effect-by k.Input ts n e h =
       let P : Type 0 = Viable EffectLow effect_written ts n in
@@ -232,7 +232,7 @@ module _ (room : ℕ) where
       viable (t.tests v.tree) v.fits (begun v))
       (λ x read h2. no_fault _ n P h2))
 
-  cond-by : (kind : Kind) (ts : List Token) (n : ℕ) → kind_at ts ≡ kind → cond_by room kind ts ≡ Err (Grammar n) → Viable CondLow cond_written ts n
+  cond-by : (kind : TokenKind) (ts : List Token) (n : ℕ) → kind_at ts ≡ kind → cond_by room kind ts ≡ Err (Grammar n) → Viable CondLow cond_written ts n
   cond-by k.Input ts n e h =
       let P : Type 0 = Viable CondLow cond_written ts n in
       faulted (read room ts) _ n P h

@@ -5,8 +5,8 @@ use Rattle.std.proofs.lemmas.Bool.{ltb-true, ltb-false}
 use Rattle.sl_base.specs.declared.mark.Mark.TheVariants as m
 use Rattle.sl_base.specs.declared.token.Token.{Token}
 use Rattle.sl_base.specs.declared.word.Word.TheVariants as w
-use Rattle.sl_syntax.specs.declared.kind.Kind.{Kind}
-use Rattle.sl_syntax.specs.declared.kind.Kind.TheVariants as k
+use Rattle.sl_syntax.specs.declared.token_kind.TokenKind.{TokenKind}
+use Rattle.sl_syntax.specs.declared.token_kind.TokenKind.TheVariants as k
 use Rattle.sl_syntax.specs.declared.operator.BinaryOperator.{BinaryOperator}
 use Rattle.sl_syntax.specs.declared.operator.Selector.TheVariants as selector
 use Rattle.sl_syntax.specs.Depth.{height}
@@ -16,8 +16,8 @@ use Rattle.sl_syntax.specs.Tree.{Expr}
 use Rattle.sl_syntax.specs.Written as s
 use Rattle.sl_syntax.specs.Written.{binary_mark, written}
 use Rattle.sl_grammar.specs.declared.fault.Fault.TheVariants.{Grammar}
-use Rattle.sl_grammar.specs.Expressions.{infix_of, binds_or, piece_level, goes_on, arguments, operand, indexed, dotted, pointed, piece_by, piece, combined, operation_by, operation, climb, from_operand, expr}
-use Rattle.sl_grammar.specs.Steps.{Reader, Tall, kind_at, here, is_mark, mark, identifier}
+use Rattle.sl_grammar.specs.Means.Expressions.{infix_of, binds_or, piece_level, goes_on, arguments, operand, indexed, dotted, pointed, piece_by, piece, combined, operation_by, operation, climb, from_operand, expr}
+use Rattle.sl_grammar.specs.Means.Steps.{Reader, Tall, kind_at, here, is_mark, mark, identifier}
 use Rattle.sl_grammar.proofs.SoundExpressions.{sound, operation-longer}
 use Rattle.sl_grammar.proofs.SoundOperands.{Left, Finds, binary-low, infix-mark, operand-left}
 use Rattle.sl_grammar.proofs.SoundSteps.{one_word, one_plain, identifier_took, Part, chosen}
@@ -103,7 +103,7 @@ module _ (inner smaller : ℕ → Reader (Tall Expr)) (room : ℕ) (f : Finds in
       ⨠ at_once (s.named some_name ∷ []) (drop 1 us) n (identifier_fault (drop 1 us) n h1)))
       (λ x name h1. no_fault _ n P h1)
 
-  piece-by : (kind : Kind) (n : ℕ) → Part written IsExpr height room ts left us → left.1 < room → goes_on kind ≤ level left.0
+  piece-by : (kind : TokenKind) (n : ℕ) → Part written IsExpr height room ts left us → left.1 < room → goes_on kind ≤ level left.0
       → kind_at us ≡ kind → piece_by inner smaller room left kind us ≡ Err (Grammar n) → Further (goes_on kind) n
   piece-by (k.Mark m.PlusPlus) n first below goes e h = no_fault _ n (Further 8 n) h
   piece-by (k.Mark m.MinusMinus) n first below goes e h = no_fault _ n (Further 8 n) h

@@ -7,8 +7,8 @@ use Rattle.sl_base.specs.declared.place.Place.{Place}
 use Rattle.sl_base.specs.declared.scalar.Scalar.{Scalar}
 use Rattle.sl_base.specs.declared.token.Token.{Token}
 use Rattle.sl_base.specs.declared.word.Word.TheVariants as w
-use Rattle.sl_syntax.specs.declared.kind.Kind.{Kind}
-use Rattle.sl_syntax.specs.declared.kind.Kind.TheVariants as k
+use Rattle.sl_syntax.specs.declared.token_kind.TokenKind.{TokenKind}
+use Rattle.sl_syntax.specs.declared.token_kind.TokenKind.TheVariants as k
 use Rattle.sl_syntax.specs.declared.tree.identifier.Identifier.{Identifier}
 use Rattle.sl_syntax.specs.Depth.{cond_height, effect_height, first_height, height, option_height, stmt_height}
 use Rattle.sl_syntax.specs.Shaped.{IfThere, IsCond, IsEffect, IsExpr, IsFirst, IsStmt}
@@ -17,11 +17,11 @@ use Rattle.sl_syntax.specs.Tree.{Cond, Effect, Expr, First, Stmt}
 use Rattle.sl_syntax.specs.Written as s
 use Rattle.sl_syntax.specs.Written.{Written, at, cond_written, effect_written, element_word, option_written, stmt_written, written}
 use Rattle.sl_grammar.specs.declared.fault.Fault.TheVariants.{Grammar}
-use Rattle.sl_grammar.specs.Effects as effects
-use Rattle.sl_grammar.specs.Effects.{effect}
-use Rattle.sl_grammar.specs.Expressions.{expr}
-use Rattle.sl_grammar.specs.Statements.{declared_first, first_of, for_behind, for_by, for_loop, is_auto, optional_cond, optional_effect, range_behind, ranges, valued_first, variable_behind}
-use Rattle.sl_grammar.specs.Steps.{Reader, Tall, here, identifier, is_mark, kind_at, mark}
+use Rattle.sl_grammar.specs.Means.Effects as effects
+use Rattle.sl_grammar.specs.Means.Effects.{effect}
+use Rattle.sl_grammar.specs.Means.Expressions.{expr}
+use Rattle.sl_grammar.specs.Means.Statements.{declared_first, first_of, for_behind, for_by, for_loop, is_auto, optional_cond, optional_effect, range_behind, ranges, valued_first, variable_behind}
+use Rattle.sl_grammar.specs.Means.Steps.{Reader, Tall, here, identifier, is_mark, kind_at, mark}
 use Rattle.sl_grammar.proofs.KindLaws.{both}
 use Rattle.sl_grammar.proofs.SoundBlocks.{Finds}
 use Rattle.sl_grammar.proofs.SoundEffects.{effect-part}
@@ -204,7 +204,7 @@ module _ (inner : Reader (Tall Stmt)) (room : ℕ) (f : Finds inner room) (high 
       for_behind-begun ts x.1 (Some (t.first_effect x.0.0), x.0.1) n
       (record { spelled = opened ⨾ found.spelled; fits = found.fits; size = found.size; low = found.low }) h1)
 
-  for-by : (kind : Kind) (ts us : List Token) (n : ℕ) → Spelled (opened_written (here ts)) ts us → kind_at us ≡ kind
+  for-by : (kind : TokenKind) (ts us : List Token) (n : ℕ) → Spelled (opened_written (here ts)) ts us → kind_at us ≡ kind
       → for_by inner room (here ts) kind us ≡ Err (Grammar n) → Viable (LowStmt (room + 1)) stmt_written ts n
   for-by (k.Scalar scalar) ts us n opened e h = declared-begun (Some scalar) ts us n opened e h
   for-by k.Auto ts us n opened e h = declared-begun None ts us n opened e h

@@ -11,8 +11,8 @@ use Rattle.sl_syntax.specs.Tree as t
 use Rattle.sl_syntax.specs.Tree.{Expr, Exprs, exprs_from}
 use Rattle.sl_syntax.specs.Written.{written, list_written}
 use Rattle.sl_grammar.specs.declared.fault.Fault.TheVariants.{Grammar}
-use Rattle.sl_grammar.specs.Expressions.{comma_expr, list_behind, list, list_before}
-use Rattle.sl_grammar.specs.Steps.{Reader, Tall, kind_at, is_mark, mark, all_behind}
+use Rattle.sl_grammar.specs.Means.Expressions.{comma_expr, list_behind, list, list_before}
+use Rattle.sl_grammar.specs.Means.Steps.{Reader, Tall, kind_at, is_mark, mark, all_behind}
 use Rattle.sl_grammar.proofs.Rows.{comma_expr_written, rest-written, rest-height, are_exprs}
 use Rattle.sl_grammar.proofs.SoundLists.{comma-part}
 use Rattle.sl_grammar.proofs.SoundSteps.{Took, mark_plain, Part, Parts, chosen}

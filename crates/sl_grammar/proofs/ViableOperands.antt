@@ -5,8 +5,8 @@ use Rattle.std.proofs.lemmas.Bool.{ltb-true}
 use Rattle.sl_base.specs.declared.mark.Mark.TheVariants as m
 use Rattle.sl_base.specs.declared.token.Token.{Token}
 use Rattle.sl_base.specs.declared.word.Word.TheVariants as w
-use Rattle.sl_syntax.specs.declared.kind.Kind.{Kind}
-use Rattle.sl_syntax.specs.declared.kind.Kind.TheVariants as k
+use Rattle.sl_syntax.specs.declared.token_kind.TokenKind.{TokenKind}
+use Rattle.sl_syntax.specs.declared.token_kind.TokenKind.TheVariants as k
 use Rattle.sl_syntax.specs.declared.operator.PrefixOperator.{PrefixOperator}
 use Rattle.sl_syntax.specs.declared.operator.PrefixOperator.TheVariants as prefix
 use Rattle.sl_syntax.specs.Depth.{height}
@@ -16,8 +16,8 @@ use Rattle.sl_syntax.specs.Tree.{Expr}
 use Rattle.sl_syntax.specs.Written as s
 use Rattle.sl_syntax.specs.Written.{prefix_mark, written, list_written}
 use Rattle.sl_grammar.specs.declared.fault.Fault.TheVariants.{Grammar}
-use Rattle.sl_grammar.specs.Expressions.{list_before, arguments, named, library_call, parentheses, prefixed, operand_by, operand}
-use Rattle.sl_grammar.specs.Steps.{Reader, Tall, kind_at, here, is_mark, mark, identifier, library}
+use Rattle.sl_grammar.specs.Means.Expressions.{list_before, arguments, named, library_call, parentheses, prefixed, operand_by, operand}
+use Rattle.sl_grammar.specs.Means.Steps.{Reader, Tall, kind_at, here, is_mark, mark, identifier, library}
 use Rattle.sl_grammar.proofs.SoundOperands.{Finds, arguments_written, list-parts}
 use Rattle.sl_grammar.proofs.SoundSteps.{one_word, mark_plain, identifier_took, library_took, chosen}
 use Rattle.sl_grammar.proofs.ViableLists.{ListLow, list-before-viable}
@@ -92,9 +92,10 @@ module _ (inner smaller : ℕ → Reader (Tall Expr)) (room : ℕ) (f : Finds in
       (λ _ e. viable (t.name x.0) (tt, omega arith, omega arith) (ended first e)))
       (λ alone h2. no_fault _ n P h2))
 
-  library-viable : (ts : List Token) (n : ℕ) → library_call inner smaller room ts ≡ Err (Grammar n) → Viable (Tight room 7) written ts n
+  library-viable : (ts : List Token) (n : ℕ) → kind_at ts ≡ k.Library → library_call inner smaller room ts ≡ Err (Grammar n)
+      → Viable (Tight room 7) written ts n
   unfolding library_call
-  library-viable ts n h =
+  library-viable ts n is h =
       let P : Type 0 = Viable (Tight room 7) written ts n in
       tested (nat_lt 0 room) _ (length ts) n P h
       (λ high h1.
@@ -102,7 +103,7 @@ module _ (inner smaller : ℕ → Reader (Tall Expr)) (room : ℕ) (f : Finds in
       faulted (library ts) _ n P h1
       (λ h2. viable some_expr (tt, omega arith, omega arith) (at_once (written some_expr) ts n (library_fault ts n h2)))
       (λ x name h2.
-      let first = library_took ts x name in
+      let first = library_took ts x is name in
       faulted (arguments inner smaller room x.1) _ n P h2
       (λ h3.
       let v = arguments-viable above x.1 n h3 in
@@ -149,12 +150,12 @@ module _ (inner smaller : ℕ → Reader (Tall Expr)) (room : ℕ) (f : Finds in
       (λ x read h2. no_fault _ n P h2))
       (λ _ e1. viable some_expr (tt, omega arith, omega arith) (at_once (written some_expr) ts n e1))
 
-  operand-by : (kind : Kind) (ts : List Token) (n : ℕ) → kind_at ts ≡ kind → operand_by inner smaller room kind ts ≡ Err (Grammar n)
+  operand-by : (kind : TokenKind) (ts : List Token) (n : ℕ) → kind_at ts ≡ kind → operand_by inner smaller room kind ts ≡ Err (Grammar n)
       → Viable (Tight room 7) written ts n
   operand-by k.Number ts n e h = no_fault _ n (Viable (Tight room 7) written ts n) h
   operand-by (k.Truth v) ts n e h = no_fault _ n (Viable (Tight room 7) written ts n) h
   operand-by k.Name ts n e h = named-viable ts n h
-  operand-by k.Library ts n e h = library-viable ts n h
+  operand-by k.Library ts n e h = library-viable ts n e h
   operand-by (k.Mark m.LeftParenthesis) ts n e h = parentheses-viable ts n e h
   operand-by (k.Mark m.Not) ts n e h = prefixed-viable prefix.Not ts n e h
   operand-by (k.Mark m.Minus) ts n e h = prefixed-viable prefix.Negate ts n e h

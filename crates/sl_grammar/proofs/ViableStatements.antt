@@ -7,8 +7,8 @@ use Rattle.sl_base.specs.declared.place.Place.{Place}
 use Rattle.sl_base.specs.declared.token.Token.{Token}
 use Rattle.sl_base.specs.declared.word.Word.{Word}
 use Rattle.sl_base.specs.declared.word.Word.TheVariants as w
-use Rattle.sl_syntax.specs.declared.kind.Kind.{Kind}
-use Rattle.sl_syntax.specs.declared.kind.Kind.TheVariants as k
+use Rattle.sl_syntax.specs.declared.token_kind.TokenKind.{TokenKind}
+use Rattle.sl_syntax.specs.declared.token_kind.TokenKind.TheVariants as k
 use Rattle.sl_syntax.specs.Depth.{stmt_height}
 use Rattle.sl_syntax.specs.Shaped.{IsStmt, ends_open}
 use Rattle.sl_syntax.specs.Tree as t
@@ -17,10 +17,10 @@ use Rattle.sl_syntax.specs.Written as s
 use Rattle.sl_syntax.specs.Written.{Written, at, from_place, plain, stmt_written, tested}
 use Rattle.sl_syntax.proofs.WrittenLaws.{words_of-from_place}
 use Rattle.sl_grammar.specs.declared.fault.Fault.TheVariants.{Grammar}
-use Rattle.sl_grammar.specs.Effects.{effect}
-use Rattle.sl_grammar.specs.Expressions.{expr}
-use Rattle.sl_grammar.specs.Statements.{block, braced, choice, condition, effect_stmt, is_else, loop, otherwise, return_stmt, stmt, stmt_by, word_stmt}
-use Rattle.sl_grammar.specs.Steps.{Reader, Tall, here, is_mark, kind_at, mark}
+use Rattle.sl_grammar.specs.Means.Effects.{effect}
+use Rattle.sl_grammar.specs.Means.Expressions.{expr}
+use Rattle.sl_grammar.specs.Means.Statements.{block, braced, choice, condition, effect_stmt, is_else, loop, otherwise, return_stmt, stmt, stmt_by, word_stmt}
+use Rattle.sl_grammar.specs.Means.Steps.{Reader, Tall, here, is_mark, kind_at, mark}
 use Rattle.sl_grammar.proofs.SoundBlocks.{Finds, condition-part, condition_written, tested-written}
 use Rattle.sl_grammar.proofs.SoundEffects.{effect-part}
 use Rattle.sl_grammar.proofs.SoundExpressions.{whole-part}
@@ -168,7 +168,7 @@ module _ (inner : Reader (Tall Stmt)) (room : ℕ) (f : Finds inner room) (g : F
       faulted (mark m.Semicolon (drop 1 ts)) _ n P h (λ h1. go (first ⨠ at_once _ (drop 1 ts) n (mark_fault m.Semicolon (drop 1 ts) n h1)))
       (λ u close h1. no_fault _ n P h1)
 
-  stmt-by : (kind : Kind) (ts : List Token) (n : ℕ) → kind_at ts ≡ kind → stmt_by inner room kind ts ≡ Err (Grammar n)
+  stmt-by : (kind : TokenKind) (ts : List Token) (n : ℕ) → kind_at ts ≡ kind → stmt_by inner room kind ts ≡ Err (Grammar n)
       → Viable (LowStmt (room + 1)) stmt_written ts n
   stmt-by (k.Mark m.LeftBrace) ts n e h = block-begun ts n h
   stmt-by k.If ts n e h = choice-begun ts n e h

@@ -1,7 +1,10 @@
-pub mod NameLaws
+-- ## Views and heights of trees
 pub mod Views
+pub mod Heights
+-- ## Turns of loops
 pub mod Fuel
 pub mod RepeatLaws
+-- ## Expressions, statements and programs
 pub mod ListLaws
 pub mod CallLaws
 pub mod ExprLaws

@@ -5,8 +5,8 @@ use Rattle.sl_base.specs.declared.token.Token.{Token}
 use Rattle.sl_syntax.specs.Tree as t
 use Rattle.sl_syntax.specs.Tree.{Expr, Exprs, exprs_from}
 use Rattle.sl_grammar.specs.declared.fault.Fault.{Fault}
-use Rattle.sl_grammar.specs.Expressions.{list_behind, comma_expr}
-use Rattle.sl_grammar.specs.Steps.{Outcome, Reader, Tall, and_then, pure, kind_at, is_mark, repeat}
+use Rattle.sl_grammar.specs.Means.Expressions.{list_behind, comma_expr}
+use Rattle.sl_grammar.specs.Means.Steps.{Outcome, Reader, Tall, and_then, pure, kind_at, is_mark, repeat}
 use Rattle.sl_parser.proofs.RepeatLaws.{repeat-front}
 
 one_ok : {A E : Type 0} {a b : A} → ◌≡◌ {A = Result A E} (Ok a) (Ok b) → a ≡ b
@@ -27,13 +27,13 @@ behind_err : (x : Tall Expr) (o : Outcome (Tall (List Expr))) (e : Fault) → an
 behind_err x (Ok (ys, vs)) e h = absurd cc
 behind_err x (Err f) e h = cc
 
-module _ (one more : Reader (Tall Expr)) (room : ℕ) (x : Tall Expr) (ts : List Token) where
-  pub list_behind-ok : (xs : Tall (List Expr)) (us : List Token) → is_mark m.Comma (kind_at ts) ≡ true → nat_lt x.1 room ≡ true
-      → repeat (is_mark m.Comma) (comma_expr one more room) (length ts) (x.0 ∷ [], 0) ts ≡ Ok (xs, us) → list_behind one more room x ts ≡ Ok ((exprs_from xs.0, max x.1 xs.1 + 1), us)
+module _ (one more : Reader (Tall Expr)) (depth_left : ℕ) (x : Tall Expr) (ts : List Token) where
+  pub list_behind-ok : (xs : Tall (List Expr)) (us : List Token) → is_mark m.Comma (kind_at ts) ≡ true → nat_lt x.1 depth_left ≡ true
+      → repeat (is_mark m.Comma) (comma_expr one more depth_left) (length ts) (x.0 ∷ [], 0) ts ≡ Ok (xs, us) → list_behind one more depth_left x ts ≡ Ok ((exprs_from xs.0, max x.1 xs.1 + 1), us)
   unfolding list_behind
-  list_behind-ok xs us h lt e = rw (h, lt) (behind_ok x _ xs us (sym (repeat-front (is_mark m.Comma) (comma_expr one more room) (x.0 ∷ []) (length ts) ([], 0) ts) ∙ e))
+  list_behind-ok xs us h lt e = rw (h, lt) (behind_ok x _ xs us (sym (repeat-front (is_mark m.Comma) (comma_expr one more depth_left) (x.0 ∷ []) (length ts) ([], 0) ts) ∙ e))
 
-  pub list_behind-err : (e : Fault) → is_mark m.Comma (kind_at ts) ≡ true → nat_lt x.1 room ≡ true
-      → repeat (is_mark m.Comma) (comma_expr one more room) (length ts) (x.0 ∷ [], 0) ts ≡ Err e → list_behind one more room x ts ≡ Err e
+  pub list_behind-err : (e : Fault) → is_mark m.Comma (kind_at ts) ≡ true → nat_lt x.1 depth_left ≡ true
+      → repeat (is_mark m.Comma) (comma_expr one more depth_left) (length ts) (x.0 ∷ [], 0) ts ≡ Err e → list_behind one more depth_left x ts ≡ Err e
   unfolding list_behind
-  list_behind-err e h lt f = rw (h, lt) (behind_err x _ e (sym (repeat-front (is_mark m.Comma) (comma_expr one more room) (x.0 ∷ []) (length ts) ([], 0) ts) ∙ f))
+  list_behind-err e h lt f = rw (h, lt) (behind_err x _ e (sym (repeat-front (is_mark m.Comma) (comma_expr one more depth_left) (x.0 ∷ []) (length ts) ([], 0) ts) ∙ f))

@@ -1,9 +1,9 @@
 -- A turn of a repetition.
 use Rattle.std.proofs.Common.{◌≡◌, refl, ◌∙◌, ◌≤◌, ℕ, zero, suc, ◌+◌, ◌-◌, ◌<◌, max, Bool, true, false, List, [], ◌∷◌, ◌++◌, Ok, Err, cond, append_assoc, arith}
 use Rattle.sl_base.specs.declared.token.Token.{Token}
-use Rattle.sl_syntax.specs.declared.kind.Kind.{Kind}
+use Rattle.sl_syntax.specs.declared.token_kind.TokenKind.{TokenKind}
 use Rattle.sl_grammar.specs.declared.fault.Fault.{Fault}
-use Rattle.sl_grammar.specs.Steps.{Outcome, Reader, Tall, kind_at, refusal, repeat, and_then}
+use Rattle.sl_grammar.specs.Means.Steps.{Outcome, Reader, Tall, kind_at, refusal, repeat, and_then}
 use Rattle.sl_parser.proofs.Fuel.{next_turn}
 
 -- a step after a test
@@ -11,7 +11,7 @@ both : {A B : Type 0} (o q : Outcome A) (o' q' : Outcome B) (f : A → Reader B)
 both o q o' q' f true e h = e
 both o q o' q' f false e h = h
 
-module _ {A : Type 0} (goes : Kind → Bool) (item : Reader (Tall A)) where
+module _ {A : Type 0} (goes : TokenKind → Bool) (item : Reader (Tall A)) where
   -- What a loop has read when it doesn't go on, where so many turns were made of a number of them.
   pub loop-stops : (o : Outcome (Tall (List A))) (total made : ℕ) (done : Tall (List A)) (ts : List Token) → o ≡ repeat goes item (total - made) done ts
       → goes (kind_at ts) ≡ false → o ≡ Ok (done, ts)

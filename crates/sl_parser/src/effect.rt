@@ -1,166 +1,116 @@
-//! Effects, which are reads, prints, assignments and values, and conditions.
-ghost use Rattle.std.specs.Prelude.{◌≡◌, ◌≤◌, ◌<◌, IfOk};
+//! Effects, which are reads, prints, assignments and values, and conditions. None is higher than what is left of the depth.
+ghost use Rattle.std.specs.Prelude.{◌≡◌, ◌≤◌, ◌<◌};
 ghost use Rattle.sl_base.specs.declared.limits.TheConstants.{TREE_DEPTH};
-ghost use Rattle.sl_syntax.specs.declared.kind.Kind.TheVariants.{End};
-ghost use Rattle.sl_grammar.specs.Steps.{Reads, is_mark};
-ghost use Rattle.sl_grammar.specs.Effects as steps;
-ghost use Rattle.sl_parser.specs.EffectViews.{tall_cond, tall_effect};
-ghost use Rattle.sl_parser.specs.Nests.{tall_expr};
-ghost use Rattle.sl_parser.specs.Reader as spec;
+ghost use Rattle.sl_syntax.specs.declared.token_kind.TokenKind.TheVariants.{End};
+ghost use Rattle.sl_syntax.specs.Depth.{height};
+ghost use Rattle.sl_syntax.specs.TreeView.{expr_of};
+ghost use Rattle.sl_grammar.specs.Means.Steps.{Reads};
+ghost use Rattle.sl_grammar.specs.Means.Effects as steps;
+ghost use Rattle.sl_parser.specs.Means.EffectViews.{tall_cond, tall_effect};
+ghost use Rattle.sl_parser.specs.Means.Nests.{tall_expr};
+ghost use Rattle.sl_parser.specs.Means.Reader as spec;
 
 mod printing;
 mod reading;
 
 use crate::effect::printing::print;
 use crate::effect::reading::read;
-use crate::expression::expr;
-use crate::tokens::Tokens;
+use crate::expression::{expr, expr_and_height};
 use sl_base::Mark;
-use sl_grammar::Fault;
-use sl_syntax::{Arithmetic, Assignment, Cond, Effect, Expr, Kind};
+use sl_grammar::{Fault, Tokens, assignment_of};
+use sl_syntax::{Cond, Effect, Expr, TokenKind};
 use std::alloc::Global;
 
-/// What is done for its effect, and its height, which the room bounds.
-#[tactic(auto, unfolding(crate::specs::Reader::effect))]
-pub fn effect(alloc: Global, tokens: &mut Tokens<'_>, room: usize) -> Result<(Effect, usize), Fault>
-    requires small { room ≤ TREE_DEPTH }
-    ensures reads { Reads tall_effect (spec.effect room tokens.old) result tokens.new }
-    ensures low { IfOk result (λ x. x.1 ≤ room) }
+/// What is done for its effect.
+#[tactic(auto, unfolding(crate::specs::Means::Reader::effect))]
+pub fn effect(alloc: Global, tokens: &mut Tokens<'_>, depth_left: usize) -> Result<Effect, Fault>
+    requires small { depth_left ≤ TREE_DEPTH }
+    ensures { Reads tall_effect (spec.effect depth_left tokens.old) result tokens.new }
 {
     match tokens.kind() {
-        Kind::Input => {
-            let (read, height) = read(alloc, tokens, room)?;
-            Ok((Effect::Read(read), height))
+        TokenKind::Input => {
+            let read = read(alloc, tokens, depth_left)?;
+            Ok(Effect::Read(read))
         }
-        Kind::Output => {
-            let (print, height) = print(alloc, tokens, room)?;
-            Ok((Effect::Print(print), height))
+        TokenKind::Output => {
+            let print = print(alloc, tokens, depth_left)?;
+            Ok(Effect::Print(print))
         }
         _ => {
-            let left = expr(alloc, tokens, room + 1, 1)?;
-            assigned(alloc, tokens, room, left)
+            let left = expr_and_height(alloc, tokens, depth_left + 1, 1)?;
+            assigned(alloc, tokens, depth_left, left)
         }
     }
 }
 
 // A left side, or a whole effect.
-#[tactic(auto, unfolding(crate::specs::Reader::assigned))]
+#[tactic(auto, unfolding(crate::specs::Means::Reader::assigned))]
 fn assigned(
     alloc: Global,
     tokens: &mut Tokens<'_>,
-    room: usize,
+    depth_left: usize,
     left: (Expr, usize),
-) -> Result<(Effect, usize), Fault>
-    requires low { left.1 ≤ room }
-    ensures reads { Reads tall_effect (spec.assigned room (tall_expr left) tokens.old) result tokens.new }
-    ensures low { IfOk result (λ x. x.1 ≤ room) }
+) -> Result<Effect, Fault>
+    requires size { left.1 ≡ height (expr_of left.0) }
+    ensures { Reads tall_effect (spec.assigned depth_left (tall_expr left) tokens.old) result tokens.new }
 {
     let (left, height) = left;
     match assignment_of(tokens.kind()) {
         Some(operator) => {
-            if height >= room {
+            if height >= depth_left {
                 return Err(tokens.refuse());
             }
             let place = tokens.place();
             tokens.skip();
-            let (right, other) = expr(alloc, tokens, room, 1)?;
-            Ok((
-                Effect::Assign {
-                    left,
-                    operator,
-                    place,
-                    right,
-                },
-                height.max(other) + 1,
-            ))
+            let right = expr(alloc, tokens, depth_left, 1)?;
+            Ok(Effect::Assign {
+                left,
+                operator,
+                place,
+                right,
+            })
         }
-        None => Ok((Effect::Value(left), height)),
+        None => Ok(Effect::Value(left)),
     }
 }
 
-// The operator of an assignment that a word is.
-fn assignment_of(kind: Kind) -> Option<Assignment>
-    ensures { result ≡ steps.assignment_of 0 kind }
-{
-    match kind {
-        Kind::Mark(Mark::Equal) => Some(Assignment::Set),
-        Kind::Mark(Mark::PlusEqual) => Some(Assignment::Update(Arithmetic::Add)),
-        Kind::Mark(Mark::MinusEqual) => Some(Assignment::Update(Arithmetic::Subtract)),
-        Kind::Mark(Mark::StarEqual) => Some(Assignment::Update(Arithmetic::Multiply)),
-        Kind::Mark(Mark::SlashEqual) => Some(Assignment::Update(Arithmetic::Divide)),
-        Kind::Mark(Mark::PercentEqual) => Some(Assignment::Update(Arithmetic::Remainder)),
-        _ => None,
-    }
-}
-
-/// What is tested, and its height, which the room bounds.
-#[tactic(auto, unfolding(crate::specs::Reader::cond))]
-pub fn cond(alloc: Global, tokens: &mut Tokens<'_>, room: usize) -> Result<(Cond, usize), Fault>
-    requires small { room ≤ TREE_DEPTH }
-    ensures reads { Reads tall_cond (spec.cond room tokens.old) result tokens.new }
-    ensures low { IfOk result (λ x. x.1 ≤ room) }
+/// What is tested.
+#[tactic(auto, unfolding(crate::specs::Means::Reader::cond))]
+pub fn cond(alloc: Global, tokens: &mut Tokens<'_>, depth_left: usize) -> Result<Cond, Fault>
+    requires small { depth_left ≤ TREE_DEPTH }
+    ensures { Reads tall_cond (spec.cond depth_left tokens.old) result tokens.new }
 {
     match tokens.kind() {
-        Kind::Input => {
-            let (read, height) = read(alloc, tokens, room)?;
-            Ok((Cond::Read(read), height))
+        TokenKind::Input => {
+            let read = read(alloc, tokens, depth_left)?;
+            Ok(Cond::Read(read))
         }
-        _ => tested(alloc, tokens, room),
+        _ => tested(alloc, tokens, depth_left),
     }
 }
 
 // What is tested where the first word is not `std::cin`; any such word stands for all of them.
-fn tested(alloc: Global, tokens: &mut Tokens<'_>, room: usize) -> Result<(Cond, usize), Fault>
-    requires small { room ≤ TREE_DEPTH }
-    ensures reads { Reads tall_cond (steps.cond_by room End tokens.old) result tokens.new }
-    ensures low { IfOk result (λ x. x.1 ≤ room) }
+fn tested(alloc: Global, tokens: &mut Tokens<'_>, depth_left: usize) -> Result<Cond, Fault>
+    requires small { depth_left ≤ TREE_DEPTH }
+    ensures { Reads tall_cond (steps.cond_by depth_left End tokens.old) result tokens.new }
 {
-    if room > 1 && begins_no_read(tokens) {
-        return no_read(alloc, tokens, room);
+    if depth_left > 1 && tokens.sees_failed_read() {
+        return no_read(alloc, tokens, depth_left);
     }
-    let (value, height) = expr(alloc, tokens, room + 1, 1)?;
-    Ok((Cond::Value(value), height))
-}
-
-// `!(std::cin` begins.
-fn begins_no_read(tokens: &Tokens<'_>) -> bool
-    ensures { result ≡ steps.begins_no_read 0 tokens.now }
-{
-    is_mark(Mark::Not, tokens.kind())
-        && is_mark(Mark::LeftParenthesis, tokens.kind_behind(1))
-        && is_input(tokens.kind_behind(2))
-}
-
-fn is_mark(mark: Mark, kind: Kind) -> bool
-    ensures { result ≡ is_mark mark kind }
-{
-    match kind {
-        Kind::Mark(next) => next == mark,
-        _ => false,
-    }
-}
-
-// The word is `std::cin`.
-fn is_input(kind: Kind) -> bool
-    ensures { result ≡ steps.is_input kind }
-{
-    match kind {
-        Kind::Input => true,
-        _ => false,
-    }
+    let value = expr(alloc, tokens, depth_left + 1, 1)?;
+    Ok(Cond::Value(value))
 }
 
 // `!(std::cin >> x)`
-#[tactic(auto, unfolding(crate::specs::Reader::no_read))]
-fn no_read(alloc: Global, tokens: &mut Tokens<'_>, room: usize) -> Result<(Cond, usize), Fault>
-    requires some { 1 < room }
-    ensures reads { Reads tall_cond (spec.no_read room tokens.old) result tokens.new }
-    ensures low { IfOk result (λ x. x.1 ≤ room) }
+#[tactic(auto, unfolding(crate::specs::Means::Reader::no_read))]
+fn no_read(alloc: Global, tokens: &mut Tokens<'_>, depth_left: usize) -> Result<Cond, Fault>
+    requires some { 1 < depth_left }
+    ensures { Reads tall_cond (spec.no_read depth_left tokens.old) result tokens.new }
 {
     let place = tokens.place();
     tokens.skip();
     tokens.mark(Mark::LeftParenthesis)?;
-    let (read, _) = read(alloc, tokens, room)?;
+    let read = read(alloc, tokens, depth_left)?;
     tokens.mark(Mark::RightParenthesis)?;
-    Ok((Cond::NotRead { place, read }, 2))
+    Ok(Cond::NotRead { place, read })
 }

@@ -10,7 +10,6 @@ mod function;
 mod params;
 mod program;
 mod statement;
-mod tokens;
 
 pub use error::ParseErr;
 pub use program::parse;

@@ -2,31 +2,30 @@ ghost use Rattle.std.specs.Prelude.{◌≡◌, ◌≤◌, ◌<◌, ◌+◌, ◌-
 ghost use Rattle.sl_base.specs.declared.limits.TheConstants.{TREE_DEPTH};
 ghost use Rattle.sl_base.specs.declared.mark.Mark.TheVariants as m;
 ghost use Rattle.sl_syntax.specs.TreeView.{expr_of};
-ghost use Rattle.sl_grammar.specs.Steps.{Reads, is_mark};
-ghost use Rattle.sl_grammar.specs.Expressions.{comma_expr};
-ghost use Rattle.sl_parser.specs.Nests.{Nests, tall_expr, tall_exprs, tall_list};
-ghost use Rattle.sl_parser.specs.Reader as spec;
+ghost use Rattle.sl_grammar.specs.Means.Steps.{Reads, is_mark};
+ghost use Rattle.sl_grammar.specs.Means.Expressions.{comma_expr};
+ghost use Rattle.sl_parser.specs.Means.Nests.{Nests, listed, tall_expr, tall_exprs, tall_list, whole_exprs};
+ghost use Rattle.sl_parser.specs.Means.Reader as spec;
 
-use crate::expression::expr;
 use crate::expression::nested::Nested;
-use crate::tokens::Tokens;
+use crate::expression::nested_expr;
 use sl_base::Mark;
-use sl_grammar::Fault;
+use sl_grammar::{Fault, Tokens};
 use sl_syntax::Expr;
 use std::alloc::Global;
 
 impl<F: Fn(Global, &mut Tokens<'_>, usize, u8) -> Result<(Expr, usize), Fault>> Nested<F> {
     /// A list that may be empty, before this mark.
-    #[tactic(auto, unfolding(crate::specs::Reader::list_before))]
+    #[tactic(auto, unfolding(crate::specs::Means::Reader::list_before))]
     pub fn list_before(
         &self,
         tokens: &mut Tokens<'_>,
         close: Mark,
     ) -> Result<(Vec<Expr>, usize), Fault>
-        requires reader { Nests self.now.room (F.pre self.now.inner) (F.post self.now.inner) }
-        requires some { 0 < self.now.room }
-        ensures reads { Reads tall_exprs (spec.list_before (spec.expr self.now.room 1) (spec.expr (self.now.room - 1) 1) (self.now.room - 1) close tokens.old) result tokens.new }
-        ensures low { IfOk result (λ x. x.1 < self.now.room) }
+        requires reader { Nests self.now.depth_left (F.pre self.now.inner) (F.post self.now.inner) }
+        requires some { 0 < self.now.depth_left }
+        ensures reads { Reads tall_exprs (listed spec.list_before self.now.depth_left close tokens.old) result tokens.new }
+        ensures low { IfOk result (λ x. x.1 < self.now.depth_left) }
     {
         if tokens.sees(close) {
             return Ok((Vec::new(self.alloc), 0));
@@ -35,28 +34,28 @@ impl<F: Fn(Global, &mut Tokens<'_>, usize, u8) -> Result<(Expr, usize), Fault>> 
     }
 
     /// A list of at least one.
-    #[tactic(auto, unfolding(crate::specs::Reader::list))]
+    #[tactic(auto, unfolding(crate::specs::Means::Reader::list))]
     pub fn list(&self, tokens: &mut Tokens<'_>) -> Result<(Vec<Expr>, usize), Fault>
-        requires reader { Nests self.now.room (F.pre self.now.inner) (F.post self.now.inner) }
-        requires some { 0 < self.now.room }
-        ensures reads { Reads tall_exprs (spec.list (spec.expr self.now.room 1) (spec.expr (self.now.room - 1) 1) (self.now.room - 1) tokens.old) result tokens.new }
-        ensures low { IfOk result (λ x. x.1 < self.now.room) }
+        requires reader { Nests self.now.depth_left (F.pre self.now.inner) (F.post self.now.inner) }
+        requires some { 0 < self.now.depth_left }
+        ensures reads { Reads tall_exprs (listed spec.list self.now.depth_left tokens.old) result tokens.new }
+        ensures low { IfOk result (λ x. x.1 < self.now.depth_left) }
     {
-        let first = self.inner(tokens, self.room, 1)?;
+        let first = self.inner(tokens, self.depth_left, 1)?;
         self.list_behind(tokens, first)
     }
 
     // A list behind its first. With others it is a node.
-    #[tactic(auto, unfolding(crate::specs::Reader::list_behind))]
+    #[tactic(auto, unfolding(crate::specs::Means::Reader::list_behind))]
     fn list_behind(
         &self,
         tokens: &mut Tokens<'_>,
         first: (Expr, usize),
     ) -> Result<(Vec<Expr>, usize), Fault>
-        requires reader { Nests self.now.room (F.pre self.now.inner) (F.post self.now.inner) }
-        requires low { first.1 < self.now.room }
-        ensures reads { Reads tall_exprs (spec.list_behind (spec.expr self.now.room 1) (spec.expr (self.now.room - 1) 1) (self.now.room - 1) (tall_expr first) tokens.old) result tokens.new }
-        ensures low { IfOk result (λ x. x.1 < self.now.room) }
+        requires reader { Nests self.now.depth_left (F.pre self.now.inner) (F.post self.now.inner) }
+        requires low { first.1 < self.now.depth_left }
+        ensures reads { Reads tall_exprs (listed spec.list_behind self.now.depth_left (tall_expr first) tokens.old) result tokens.new }
+        ensures low { IfOk result (λ x. x.1 < self.now.depth_left) }
     {
         let (tree, height) = first;
         let mut list = Vec::new(self.alloc);
@@ -64,7 +63,7 @@ impl<F: Fn(Global, &mut Tokens<'_>, usize, u8) -> Result<(Expr, usize), Fault>> 
         if !tokens.sees(Mark::Comma) {
             return Ok((list, height));
         }
-        if height >= self.room - 1 {
+        if height >= self.depth_left - 1 {
             return Err(tokens.refuse());
         }
         let (list, other) = self.others(tokens, list)?;
@@ -72,16 +71,19 @@ impl<F: Fn(Global, &mut Tokens<'_>, usize, u8) -> Result<(Expr, usize), Fault>> 
     }
 
     // The others of a list, behind those that are there, and their greatest height.
-    #[tactic(auto, unfolding(crate::specs::Reader::repeat))]
+    #[tactic(auto, unfolding(crate::specs::Means::Reader::repeat))]
     fn others(
         &self,
         tokens: &mut Tokens<'_>,
         mut list: Vec<Expr>,
     ) -> Result<(Vec<Expr>, usize), Fault>
-        requires reader { Nests self.now.room (F.pre self.now.inner) (F.post self.now.inner) }
-        requires some { 1 < self.now.room }
-        ensures reads { Reads tall_list (spec.repeat (is_mark m.Comma) (comma_expr (spec.expr self.now.room 1) (spec.expr (self.now.room - 1) 1) (self.now.room - 1)) (length tokens.old) (map expr_of list.items, 0) tokens.old) result tokens.new }
-        ensures low { IfOk result (λ x. x.1 < self.now.room - 1) }
+        requires reader { Nests self.now.depth_left (F.pre self.now.inner) (F.post self.now.inner) }
+        requires some { 1 < self.now.depth_left }
+        ensures reads { Reads tall_list
+            (spec.repeat (is_mark m.Comma) (listed comma_expr self.now.depth_left) (length tokens.old)
+            (map expr_of list.items, 0) tokens.old)
+            result tokens.new }
+        ensures low { IfOk result (λ x. x.1 < self.now.depth_left - 1) }
     {
         let mut height = 0;
         for _turn in 0..tokens.left() {
@@ -100,13 +102,13 @@ impl<F: Fn(Global, &mut Tokens<'_>, usize, u8) -> Result<(Expr, usize), Fault>> 
 
     // A comma, and an expression.
     fn other(&self, tokens: &mut Tokens<'_>) -> Result<(Expr, usize), Fault>
-        requires reader { Nests self.now.room (F.pre self.now.inner) (F.post self.now.inner) }
-        requires some { 1 < self.now.room }
-        ensures reads { Reads tall_expr (comma_expr (spec.expr self.now.room 1) (spec.expr (self.now.room - 1) 1) (self.now.room - 1) tokens.old) result tokens.new }
-        ensures low { IfOk result (λ x. x.1 < self.now.room - 1) }
+        requires reader { Nests self.now.depth_left (F.pre self.now.inner) (F.post self.now.inner) }
+        requires some { 1 < self.now.depth_left }
+        ensures reads { Reads tall_expr (listed comma_expr self.now.depth_left tokens.old) result tokens.new }
+        ensures low { IfOk result (λ x. x.1 < self.now.depth_left - 1) }
     {
         tokens.mark(Mark::Comma)?;
-        self.inner(tokens, self.room - 1, 1)
+        self.inner(tokens, self.depth_left - 1, 1)
     }
 }
 
@@ -114,35 +116,35 @@ impl<F: Fn(Global, &mut Tokens<'_>, usize, u8) -> Result<(Expr, usize), Fault>> 
 pub fn list_before(
     alloc: Global,
     tokens: &mut Tokens<'_>,
-    room: usize,
+    depth_left: usize,
     close: Mark,
-) -> Result<(Vec<Expr>, usize), Fault>
-    requires small { room ≤ TREE_DEPTH }
-    ensures reads { Reads tall_exprs (spec.list_before (spec.expr (room + 1) 1) (spec.expr room 1) room close tokens.old) result tokens.new }
-    ensures low { IfOk result (λ x. x.1 ≤ room) }
+) -> Result<Vec<Expr>, Fault>
+    requires small { depth_left ≤ TREE_DEPTH }
+    ensures { Reads whole_exprs
+        (spec.list_before (spec.expr (depth_left + 1) 1) (spec.expr depth_left 1) depth_left close tokens.old)
+        result tokens.new }
 {
-    Nested {
+    let nested = Nested {
         alloc,
-        room: room + 1,
-        inner: expr,
-    }
-    .list_before(tokens, close)
+        depth_left: depth_left + 1,
+        inner: nested_expr,
+    };
+    let (list, _) = nested.list_before(tokens, close)?;
+    Ok(list)
 }
 
 /// A list of at least one that is at most so high.
-pub fn list(
-    alloc: Global,
-    tokens: &mut Tokens<'_>,
-    room: usize,
-) -> Result<(Vec<Expr>, usize), Fault>
-    requires small { room ≤ TREE_DEPTH }
-    ensures reads { Reads tall_exprs (spec.list (spec.expr (room + 1) 1) (spec.expr room 1) room tokens.old) result tokens.new }
-    ensures low { IfOk result (λ x. x.1 ≤ room) }
+pub fn list(alloc: Global, tokens: &mut Tokens<'_>, depth_left: usize) -> Result<Vec<Expr>, Fault>
+    requires small { depth_left ≤ TREE_DEPTH }
+    ensures { Reads whole_exprs
+        (spec.list (spec.expr (depth_left + 1) 1) (spec.expr depth_left 1) depth_left tokens.old)
+        result tokens.new }
 {
-    Nested {
+    let nested = Nested {
         alloc,
-        room: room + 1,
-        inner: expr,
-    }
-    .list(tokens)
+        depth_left: depth_left + 1,
+        inner: nested_expr,
+    };
+    let (list, _) = nested.list(tokens)?;
+    Ok(list)
 }

@@ -1,20 +1,19 @@
 ghost use Rattle.std.specs.Prelude.{◌≡◌, ◌≤◌, ◌<◌, IfOk};
-ghost use Rattle.sl_grammar.specs.Steps.{Reads};
-ghost use Rattle.sl_parser.specs.Nests.{Nests, tall_expr};
-ghost use Rattle.sl_parser.specs.Reader as spec;
+ghost use Rattle.sl_grammar.specs.Means.Steps.{Reads};
+ghost use Rattle.sl_parser.specs.Means.Nests.{Nests, tall_expr};
+ghost use Rattle.sl_parser.specs.Means.Reader as spec;
 
-use crate::tokens::Tokens;
-use sl_grammar::Fault;
+use sl_grammar::{Fault, Tokens};
 use sl_syntax::Expr;
 use std::alloc::Global;
 
-/// Reads what stands in an expression. `inner` reads expressions that are less high than the number that it is given, so
-/// that each rule is proved by itself.
-#[derive(Clone, Copy)]
+/// Reads what stands in an expression. `inner` reads expressions that are less high than the number that it is given,
+/// so that each rule is proved by itself.
+#[derive(Drop)]
 pub struct Nested<F> {
     pub alloc: Global,
     /// How many nodes may still stand over a leaf.
-    pub room: usize,
+    pub depth_left: usize,
     pub inner: F,
 }
 
@@ -26,8 +25,8 @@ impl<F: Fn(Global, &mut Tokens<'_>, usize, u8) -> Result<(Expr, usize), Fault>> 
         depth: usize,
         least: u8,
     ) -> Result<(Expr, usize), Fault>
-        requires reader { Nests self.now.room (F.pre self.now.inner) (F.post self.now.inner) }
-        requires within { depth ≤ self.now.room }
+        requires reader { Nests self.now.depth_left (F.pre self.now.inner) (F.post self.now.inner) }
+        requires within { depth ≤ self.now.depth_left }
         ensures reads { Reads tall_expr (spec.expr depth least tokens.old) result tokens.new }
         ensures low { IfOk result (λ x. x.1 < depth) }
     {

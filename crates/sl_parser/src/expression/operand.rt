@@ -1,41 +1,40 @@
 ghost use Rattle.std.specs.Prelude.{◌≡◌, ◌≤◌, ◌<◌, ◌-◌, drop, IfOk};
-ghost use Rattle.sl_grammar.specs.Steps.{Reads, here, number_at};
+ghost use Rattle.sl_grammar.specs.Means.Steps.{Reads, here, number_at};
 ghost use Rattle.sl_syntax.specs.Tree.{number, truth};
 ghost use Rattle.sl_syntax.specs.TreeView.{expr_of};
-ghost use Rattle.sl_grammar.specs.Expressions.{call, operand_by};
-ghost use Rattle.sl_parser.specs.Nests.{Nests, tall_expr, tall_exprs};
-ghost use Rattle.sl_parser.specs.Reader as spec;
+ghost use Rattle.sl_grammar.specs.Means.Expressions.{call, operand_by};
+ghost use Rattle.sl_parser.specs.Means.Nests.{Nests, nested, tall_expr, tall_exprs};
+ghost use Rattle.sl_parser.specs.Means.Reader as spec;
 
 use crate::expression::nested::Nested;
-use crate::tokens::Tokens;
 use sl_base::Mark;
-use sl_grammar::Fault;
-use sl_syntax::{Expr, Identifier, Kind, PrefixOperator};
+use sl_grammar::{Fault, Tokens};
+use sl_syntax::{Expr, Identifier, PrefixOperator, TokenKind};
 use std::alloc::Global;
 
 impl<F: Fn(Global, &mut Tokens<'_>, usize, u8) -> Result<(Expr, usize), Fault>> Nested<F> {
     /// What begins an expression: an operand with the operators before it.
-    #[tactic(auto, unfolding(crate::specs::Reader::operand))]
+    #[tactic(auto, unfolding(crate::specs::Means::Reader::operand))]
     pub fn operand(&self, tokens: &mut Tokens<'_>) -> Result<(Expr, usize), Fault>
-        requires { Nests self.now.room (F.pre self.now.inner) (F.post self.now.inner) }
-        ensures reads { Reads tall_expr (spec.operand (spec.expr self.now.room) (spec.expr (self.now.room - 1)) self.now.room tokens.old) result tokens.new }
-        ensures low { IfOk result (λ x. x.1 ≤ self.now.room) }
+        requires { Nests self.now.depth_left (F.pre self.now.inner) (F.post self.now.inner) }
+        ensures reads { Reads tall_expr (nested spec.operand self.now.depth_left tokens.old) result tokens.new }
+        ensures low { IfOk result (λ x. x.1 ≤ self.now.depth_left) }
     {
         match tokens.kind() {
-            Kind::Number => Ok((number(tokens), 0)),
-            Kind::Truth(value) => Ok((truth(tokens, value), 0)),
-            Kind::Name => self.named(tokens),
-            Kind::Library => self.library_call(tokens),
-            Kind::Mark(mark) => self.marked(tokens, mark),
+            TokenKind::Number => Ok((number(tokens), 0)),
+            TokenKind::Truth(value) => Ok((truth(tokens, value), 0)),
+            TokenKind::Name => self.named(tokens),
+            TokenKind::Library => self.library_call(tokens),
+            TokenKind::Mark(mark) => self.marked(tokens, mark),
             _ => Err(tokens.refuse()),
         }
     }
 
     // An expression that begins with this mark.
     fn marked(&self, tokens: &mut Tokens<'_>, mark: Mark) -> Result<(Expr, usize), Fault>
-        requires { Nests self.now.room (F.pre self.now.inner) (F.post self.now.inner) }
-        ensures reads { Reads tall_expr (operand_by (spec.expr self.now.room) (spec.expr (self.now.room - 1)) self.now.room (Kind.Mark mark) tokens.old) result tokens.new }
-        ensures low { IfOk result (λ x. x.1 ≤ self.now.room) }
+        requires { Nests self.now.depth_left (F.pre self.now.inner) (F.post self.now.inner) }
+        ensures reads { Reads tall_expr (nested operand_by self.now.depth_left (TokenKind.Mark mark) tokens.old) result tokens.new }
+        ensures low { IfOk result (λ x. x.1 ≤ self.now.depth_left) }
     {
         match mark {
             Mark::LeftParenthesis => self.parentheses(tokens),
@@ -48,39 +47,39 @@ impl<F: Fn(Global, &mut Tokens<'_>, usize, u8) -> Result<(Expr, usize), Fault>> 
         }
     }
 
-    #[tactic(auto, using(crate::proofs::Views::expr_views), unfolding(crate::specs::Reader::parentheses))]
+    #[tactic(auto, using(crate::proofs::Views::expr_views), unfolding(crate::specs::Means::Reader::parentheses))]
     fn parentheses(&self, tokens: &mut Tokens<'_>) -> Result<(Expr, usize), Fault>
-        requires { Nests self.now.room (F.pre self.now.inner) (F.post self.now.inner) }
-        ensures reads { Reads tall_expr (spec.parentheses (spec.expr self.now.room) (spec.expr (self.now.room - 1)) self.now.room tokens.old) result tokens.new }
-        ensures low { IfOk result (λ x. x.1 ≤ self.now.room) }
+        requires { Nests self.now.depth_left (F.pre self.now.inner) (F.post self.now.inner) }
+        ensures reads { Reads tall_expr (nested spec.parentheses self.now.depth_left tokens.old) result tokens.new }
+        ensures low { IfOk result (λ x. x.1 ≤ self.now.depth_left) }
     {
-        if self.room == 0 {
+        if self.depth_left == 0 {
             return Err(tokens.refuse());
         }
         let place = tokens.place();
         tokens.skip();
-        let (tree, height) = self.inner(tokens, self.room, 1)?;
+        let (tree, height) = self.inner(tokens, self.depth_left, 1)?;
         tokens.mark(Mark::RightParenthesis)?;
         let inner = Box::new(self.alloc, tree)?;
         Ok((Expr::Parentheses { place, inner }, height + 1))
     }
 
-    #[tactic(auto, using(crate::proofs::Views::expr_views), unfolding(crate::specs::Reader::prefixed))]
+    #[tactic(auto, using(crate::proofs::Views::expr_views), unfolding(crate::specs::Means::Reader::prefixed))]
     fn prefixed(
         &self,
         tokens: &mut Tokens<'_>,
         operator: PrefixOperator,
     ) -> Result<(Expr, usize), Fault>
-        requires { Nests self.now.room (F.pre self.now.inner) (F.post self.now.inner) }
-        ensures reads { Reads tall_expr (spec.prefixed (spec.expr self.now.room) (spec.expr (self.now.room - 1)) self.now.room operator tokens.old) result tokens.new }
-        ensures low { IfOk result (λ x. x.1 ≤ self.now.room) }
+        requires { Nests self.now.depth_left (F.pre self.now.inner) (F.post self.now.inner) }
+        ensures reads { Reads tall_expr (nested spec.prefixed self.now.depth_left operator tokens.old) result tokens.new }
+        ensures low { IfOk result (λ x. x.1 ≤ self.now.depth_left) }
     {
-        if self.room == 0 {
+        if self.depth_left == 0 {
             return Err(tokens.refuse());
         }
         let place = tokens.place();
         tokens.skip();
-        let (tree, height) = self.inner(tokens, self.room, 7)?;
+        let (tree, height) = self.inner(tokens, self.depth_left, 7)?;
         let operand = Box::new(self.alloc, tree)?;
         Ok((
             Expr::Prefix {
@@ -93,11 +92,11 @@ impl<F: Fn(Global, &mut Tokens<'_>, usize, u8) -> Result<(Expr, usize), Fault>> 
     }
 
     // A name, or a call of a function of the program.
-    #[tactic(auto, unfolding(crate::specs::Reader::named))]
+    #[tactic(auto, unfolding(crate::specs::Means::Reader::named))]
     fn named(&self, tokens: &mut Tokens<'_>) -> Result<(Expr, usize), Fault>
-        requires { Nests self.now.room (F.pre self.now.inner) (F.post self.now.inner) }
-        ensures reads { Reads tall_expr (spec.named (spec.expr self.now.room) (spec.expr (self.now.room - 1)) self.now.room tokens.old) result tokens.new }
-        ensures low { IfOk result (λ x. x.1 ≤ self.now.room) }
+        requires { Nests self.now.depth_left (F.pre self.now.inner) (F.post self.now.inner) }
+        ensures reads { Reads tall_expr (nested spec.named self.now.depth_left tokens.old) result tokens.new }
+        ensures low { IfOk result (λ x. x.1 ≤ self.now.depth_left) }
     {
         let name = tokens.identifier()?;
         if tokens.sees(Mark::LeftParenthesis) {
@@ -109,11 +108,11 @@ impl<F: Fn(Global, &mut Tokens<'_>, usize, u8) -> Result<(Expr, usize), Fault>> 
 
     #[tactic(auto, using(crate::proofs::Views::expr_views))]
     fn call(&self, tokens: &mut Tokens<'_>, function: Identifier) -> Result<(Expr, usize), Fault>
-        requires { Nests self.now.room (F.pre self.now.inner) (F.post self.now.inner) }
-        ensures reads { Reads tall_expr (call (spec.expr self.now.room) (spec.expr (self.now.room - 1)) self.now.room function tokens.old) result tokens.new }
-        ensures low { IfOk result (λ x. x.1 ≤ self.now.room) }
+        requires { Nests self.now.depth_left (F.pre self.now.inner) (F.post self.now.inner) }
+        ensures reads { Reads tall_expr (nested call self.now.depth_left function tokens.old) result tokens.new }
+        ensures low { IfOk result (λ x. x.1 ≤ self.now.depth_left) }
     {
-        if self.room == 0 {
+        if self.depth_left == 0 {
             return Err(tokens.refuse());
         }
         let (arguments, height) = self.arguments(tokens)?;
@@ -126,13 +125,13 @@ impl<F: Fn(Global, &mut Tokens<'_>, usize, u8) -> Result<(Expr, usize), Fault>> 
         ))
     }
 
-    #[tactic(auto, using(crate::proofs::Views::expr_views), unfolding(crate::specs::Reader::library_call))]
+    #[tactic(auto, using(crate::proofs::Views::expr_views), unfolding(crate::specs::Means::Reader::library_call))]
     fn library_call(&self, tokens: &mut Tokens<'_>) -> Result<(Expr, usize), Fault>
-        requires { Nests self.now.room (F.pre self.now.inner) (F.post self.now.inner) }
-        ensures reads { Reads tall_expr (spec.library_call (spec.expr self.now.room) (spec.expr (self.now.room - 1)) self.now.room tokens.old) result tokens.new }
-        ensures low { IfOk result (λ x. x.1 ≤ self.now.room) }
+        requires { Nests self.now.depth_left (F.pre self.now.inner) (F.post self.now.inner) }
+        ensures reads { Reads tall_expr (nested spec.library_call self.now.depth_left tokens.old) result tokens.new }
+        ensures low { IfOk result (λ x. x.1 ≤ self.now.depth_left) }
     {
-        if self.room == 0 {
+        if self.depth_left == 0 {
             return Err(tokens.refuse());
         }
         let function = tokens.library()?;
@@ -147,12 +146,12 @@ impl<F: Fn(Global, &mut Tokens<'_>, usize, u8) -> Result<(Expr, usize), Fault>> 
     }
 
     /// What stands in parentheses behind the name of a function, with them.
-    #[tactic(auto, unfolding(crate::specs::Reader::arguments))]
+    #[tactic(auto, unfolding(crate::specs::Means::Reader::arguments))]
     pub fn arguments(&self, tokens: &mut Tokens<'_>) -> Result<(Vec<Expr>, usize), Fault>
-        requires reader { Nests self.now.room (F.pre self.now.inner) (F.post self.now.inner) }
-        requires some { 0 < self.now.room }
-        ensures reads { Reads tall_exprs (spec.arguments (spec.expr self.now.room) (spec.expr (self.now.room - 1)) self.now.room tokens.old) result tokens.new }
-        ensures low { IfOk result (λ x. x.1 < self.now.room) }
+        requires reader { Nests self.now.depth_left (F.pre self.now.inner) (F.post self.now.inner) }
+        requires some { 0 < self.now.depth_left }
+        ensures reads { Reads tall_exprs (nested spec.arguments self.now.depth_left tokens.old) result tokens.new }
+        ensures low { IfOk result (λ x. x.1 < self.now.depth_left) }
     {
         tokens.mark(Mark::LeftParenthesis)?;
         let list = self.list_before(tokens, Mark::RightParenthesis)?;

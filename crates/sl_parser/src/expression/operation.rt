@@ -1,118 +1,48 @@
 ghost use Rattle.std.specs.Prelude.{◌≡◌, ◌≤◌, ◌<◌, ◌+◌, ◌-◌, IfOk};
-ghost use Rattle.sl_syntax.specs.Shaped as shaped;
-ghost use Rattle.sl_grammar.specs.Steps.{Reads};
-ghost use Rattle.sl_grammar.specs.Expressions as steps;
-ghost use Rattle.sl_parser.specs.Nests.{Nests, OkOrMemory, called, tall_expr};
+ghost use Rattle.sl_grammar.specs.Means.Steps.{Reads};
+ghost use Rattle.sl_grammar.specs.Means.Expressions as steps;
+ghost use Rattle.sl_parser.specs.Means.Nests.{Nests, OkOrMemory, called, nested, tall_expr};
+ghost use Rattle.sl_parser.specs.Means.Reader as spec;
 ghost use Rattle.sl_syntax.specs.Tree as tree;
-ghost use Rattle.sl_parser.specs.Reader as spec;
 
 use crate::expression::nested::Nested;
-use crate::tokens::Tokens;
 use sl_base::{Mark, Place};
-use sl_grammar::Fault;
-use sl_syntax::{
-    Arithmetic, BinaryOperator, Comparison, Expr, Identifier, Kind, PostfixOperator, Selector,
-};
+use sl_grammar::{Fault, Tokens, binary_level, goes_on, infix_of};
+use sl_syntax::{BinaryOperator, Expr, Identifier, PostfixOperator, Selector, TokenKind};
 use std::alloc::Global;
-
-// How tightly an operator binds.
-fn binary_level(operator: BinaryOperator) -> u8
-    ensures value { result ≡ shaped.binary_level operator }
-    ensures small { result ≤ 6 }
-{
-    match operator {
-        BinaryOperator::Or => 1,
-        BinaryOperator::And => 2,
-        BinaryOperator::Comparison(Comparison::Equal | Comparison::NotEqual) => 3,
-        BinaryOperator::Comparison(_) => 4,
-        BinaryOperator::Arithmetic(Arithmetic::Add | Arithmetic::Subtract) => 5,
-        BinaryOperator::Arithmetic(_) => 6,
-    }
-}
-
-// The operator that a word is between two operands.
-fn infix_of(kind: Kind) -> Option<BinaryOperator>
-    ensures { result ≡ steps.infix_of kind }
-{
-    match kind {
-        Kind::Mark(mark) => infix_mark(mark),
-        _ => None,
-    }
-}
-
-fn infix_mark(mark: Mark) -> Option<BinaryOperator>
-    ensures { result ≡ steps.infix_of (Kind.Mark mark) }
-{
-    match mark {
-        Mark::OrOr => Some(BinaryOperator::Or),
-        Mark::AndAnd => Some(BinaryOperator::And),
-        Mark::EqualEqual => Some(BinaryOperator::Comparison(Comparison::Equal)),
-        Mark::NotEqual => Some(BinaryOperator::Comparison(Comparison::NotEqual)),
-        Mark::Less => Some(BinaryOperator::Comparison(Comparison::Less)),
-        Mark::LessEqual => Some(BinaryOperator::Comparison(Comparison::LessEqual)),
-        Mark::Greater => Some(BinaryOperator::Comparison(Comparison::Greater)),
-        Mark::GreaterEqual => Some(BinaryOperator::Comparison(Comparison::GreaterEqual)),
-        Mark::Plus => Some(BinaryOperator::Arithmetic(Arithmetic::Add)),
-        Mark::Minus => Some(BinaryOperator::Arithmetic(Arithmetic::Subtract)),
-        Mark::Star => Some(BinaryOperator::Arithmetic(Arithmetic::Multiply)),
-        Mark::Slash => Some(BinaryOperator::Arithmetic(Arithmetic::Divide)),
-        Mark::Percent => Some(BinaryOperator::Arithmetic(Arithmetic::Remainder)),
-        _ => None,
-    }
-}
-
-// How tightly a piece behind an operand binds that begins with this word, and 0 where none does.
-fn piece_level(kind: Kind) -> u8
-    ensures value { result ≡ steps.piece_level kind }
-{
-    match kind {
-        Kind::Mark(
-            Mark::PlusPlus | Mark::MinusMinus | Mark::LeftBracket | Mark::Dot | Mark::Arrow,
-        ) => 8,
-        _ => 0,
-    }
-}
-
-// How tightly a word that goes on with an expression binds, and 0 where it does not.
-fn goes_on(kind: Kind) -> u8
-    ensures { result ≡ steps.goes_on kind }
-{
-    match infix_of(kind) {
-        Some(operator) => binary_level(operator),
-        None => piece_level(kind),
-    }
-}
 
 impl<F: Fn(Global, &mut Tokens<'_>, usize, u8) -> Result<(Expr, usize), Fault>> Nested<F> {
     /// An expression whose operators bind at least so tightly.
-    #[tactic(auto, unfolding(crate::specs::Reader::from_operand))]
+    #[tactic(auto, unfolding(crate::specs::Means::Reader::from_operand))]
     pub fn from_operand(&self, tokens: &mut Tokens<'_>, least: u8) -> Result<(Expr, usize), Fault>
-        requires { Nests self.now.room (F.pre self.now.inner) (F.post self.now.inner) }
-        ensures reads { Reads tall_expr (spec.from_operand (spec.expr self.now.room) (spec.expr (self.now.room - 1)) self.now.room least tokens.old) result tokens.new }
-        ensures low { IfOk result (λ x. x.1 ≤ self.now.room) }
+        requires { Nests self.now.depth_left (F.pre self.now.inner) (F.post self.now.inner) }
+        ensures reads { Reads tall_expr (nested spec.from_operand self.now.depth_left least tokens.old) result tokens.new }
+        ensures low { IfOk result (λ x. x.1 ≤ self.now.depth_left) }
     {
         let first = self.operand(tokens)?;
         self.climb(tokens, least, first)
     }
 
     // Goes on as long as an operator binds tightly enough. Each turn makes the tree higher.
-    #[tactic(auto, unfolding(crate::specs::Reader::climb))]
+    #[tactic(auto, unfolding(crate::specs::Means::Reader::climb))]
     fn climb(
         &self,
         tokens: &mut Tokens<'_>,
         least: u8,
         mut left: (Expr, usize),
     ) -> Result<(Expr, usize), Fault>
-        requires reader { Nests self.now.room (F.pre self.now.inner) (F.post self.now.inner) }
-        requires room { left.1 ≤ self.now.room }
-        ensures reads { Reads tall_expr (spec.climb (spec.expr self.now.room) (spec.expr (self.now.room - 1)) self.now.room least self.now.room (tall_expr left) tokens.old) result tokens.new }
-        ensures low { IfOk result (λ x. x.1 ≤ self.now.room) }
+        requires reader { Nests self.now.depth_left (F.pre self.now.inner) (F.post self.now.inner) }
+        requires lower { left.1 ≤ self.now.depth_left }
+        ensures reads { Reads tall_expr
+            (nested spec.climb self.now.depth_left least self.now.depth_left (tall_expr left) tokens.old)
+            result tokens.new }
+        ensures low { IfOk result (λ x. x.1 ≤ self.now.depth_left) }
     {
-        for _turn in 0..self.room {
+        for _turn in 0..self.depth_left {
             if goes_on(tokens.kind()) < least {
                 return Ok(left);
             }
-            if left.1 >= self.room {
+            if left.1 >= self.depth_left {
                 return Err(tokens.refuse());
             }
             left = self.operation(tokens, left)?;
@@ -124,16 +54,16 @@ impl<F: Fn(Global, &mut Tokens<'_>, usize, u8) -> Result<(Expr, usize), Fault>> 
     }
 
     // The left side and what goes on with it.
-    #[tactic(auto, unfolding(crate::specs::Reader::operation))]
+    #[tactic(auto, unfolding(crate::specs::Means::Reader::operation))]
     fn operation(
         &self,
         tokens: &mut Tokens<'_>,
         left: (Expr, usize),
     ) -> Result<(Expr, usize), Fault>
-        requires reader { Nests self.now.room (F.pre self.now.inner) (F.post self.now.inner) }
-        requires room { left.1 < self.now.room }
-        ensures reads { Reads tall_expr (spec.operation (spec.expr self.now.room) (spec.expr (self.now.room - 1)) self.now.room (tall_expr left) tokens.old) result tokens.new }
-        ensures low { IfOk result (λ x. x.1 ≤ self.now.room) }
+        requires reader { Nests self.now.depth_left (F.pre self.now.inner) (F.post self.now.inner) }
+        requires lower { left.1 < self.now.depth_left }
+        ensures reads { Reads tall_expr (nested spec.operation self.now.depth_left (tall_expr left) tokens.old) result tokens.new }
+        ensures low { IfOk result (λ x. x.1 ≤ self.now.depth_left) }
     {
         match infix_of(tokens.kind()) {
             Some(operator) => self.combined(tokens, left, operator),
@@ -141,22 +71,24 @@ impl<F: Fn(Global, &mut Tokens<'_>, usize, u8) -> Result<(Expr, usize), Fault>> 
         }
     }
 
-    #[tactic(auto, using(crate::proofs::Views::expr_views), unfolding(crate::specs::Reader::combined))]
+    #[tactic(auto, using(crate::proofs::Views::expr_views), unfolding(crate::specs::Means::Reader::combined))]
     fn combined(
         &self,
         tokens: &mut Tokens<'_>,
         left: (Expr, usize),
         operator: BinaryOperator,
     ) -> Result<(Expr, usize), Fault>
-        requires reader { Nests self.now.room (F.pre self.now.inner) (F.post self.now.inner) }
-        requires room { left.1 < self.now.room }
-        ensures reads { Reads tall_expr (spec.combined (spec.expr self.now.room) (spec.expr (self.now.room - 1)) self.now.room (tall_expr left) operator tokens.old) result tokens.new }
-        ensures low { IfOk result (λ x. x.1 ≤ self.now.room) }
+        requires reader { Nests self.now.depth_left (F.pre self.now.inner) (F.post self.now.inner) }
+        requires lower { left.1 < self.now.depth_left }
+        ensures reads { Reads tall_expr
+            (nested spec.combined self.now.depth_left (tall_expr left) operator tokens.old)
+            result tokens.new }
+        ensures low { IfOk result (λ x. x.1 ≤ self.now.depth_left) }
     {
         let (tree, height) = left;
         let place = tokens.place();
         tokens.skip();
-        let (right, other) = self.inner(tokens, self.room, binary_level(operator) + 1)?;
+        let (right, other) = self.inner(tokens, self.depth_left, binary_level(operator) + 1)?;
         let left = Box::new(self.alloc, tree)?;
         let right = Box::new(self.alloc, right)?;
         Ok((
@@ -171,23 +103,27 @@ impl<F: Fn(Global, &mut Tokens<'_>, usize, u8) -> Result<(Expr, usize), Fault>> 
     }
 
     // A piece behind an operand.
-    #[tactic(auto, unfolding(crate::specs::Reader::piece))]
+    #[tactic(auto, unfolding(crate::specs::Means::Reader::piece))]
     fn piece(&self, tokens: &mut Tokens<'_>, left: (Expr, usize)) -> Result<(Expr, usize), Fault>
-        requires reader { Nests self.now.room (F.pre self.now.inner) (F.post self.now.inner) }
-        requires room { left.1 < self.now.room }
-        ensures reads { Reads tall_expr (spec.piece (spec.expr self.now.room) (spec.expr (self.now.room - 1)) self.now.room (tall_expr left) tokens.old) result tokens.new }
-        ensures low { IfOk result (λ x. x.1 ≤ self.now.room) }
+        requires reader { Nests self.now.depth_left (F.pre self.now.inner) (F.post self.now.inner) }
+        requires lower { left.1 < self.now.depth_left }
+        ensures reads { Reads tall_expr (nested spec.piece self.now.depth_left (tall_expr left) tokens.old) result tokens.new }
+        ensures low { IfOk result (λ x. x.1 ≤ self.now.depth_left) }
     {
         match tokens.kind() {
-            Kind::Mark(Mark::PlusPlus) => self.postfixed(tokens, left, PostfixOperator::Increment),
-            Kind::Mark(Mark::MinusMinus) => self.postfixed(
+            TokenKind::Mark(Mark::PlusPlus) => self.postfixed(
+                tokens,
+                left,
+                PostfixOperator::Increment,
+            ),
+            TokenKind::Mark(Mark::MinusMinus) => self.postfixed(
                 tokens,
                 left,
                 PostfixOperator::Decrement,
             ),
-            Kind::Mark(Mark::LeftBracket) => self.indexed(tokens, left),
-            Kind::Mark(Mark::Dot) => self.dotted(tokens, left),
-            Kind::Mark(Mark::Arrow) => self.pointed(tokens, left),
+            TokenKind::Mark(Mark::LeftBracket) => self.indexed(tokens, left),
+            TokenKind::Mark(Mark::Dot) => self.dotted(tokens, left),
+            TokenKind::Mark(Mark::Arrow) => self.pointed(tokens, left),
             _ => Err(tokens.refuse()),
         }
     }
@@ -199,9 +135,11 @@ impl<F: Fn(Global, &mut Tokens<'_>, usize, u8) -> Result<(Expr, usize), Fault>> 
         left: (Expr, usize),
         operator: PostfixOperator,
     ) -> Result<(Expr, usize), Fault>
-        requires room { left.1 < self.now.room }
-        ensures reads { Reads tall_expr (steps.postfixed (spec.expr self.now.room) (spec.expr (self.now.room - 1)) self.now.room (tall_expr left) operator tokens.old) result tokens.new }
-        ensures low { IfOk result (λ x. x.1 ≤ self.now.room) }
+        requires lower { left.1 < self.now.depth_left }
+        ensures reads { Reads tall_expr
+            (nested steps.postfixed self.now.depth_left (tall_expr left) operator tokens.old)
+            result tokens.new }
+        ensures low { IfOk result (λ x. x.1 ≤ self.now.depth_left) }
     {
         let (tree, height) = left;
         let place = tokens.place();
@@ -217,17 +155,17 @@ impl<F: Fn(Global, &mut Tokens<'_>, usize, u8) -> Result<(Expr, usize), Fault>> 
         ))
     }
 
-    #[tactic(auto, using(crate::proofs::Views::expr_views), unfolding(crate::specs::Reader::indexed))]
+    #[tactic(auto, using(crate::proofs::Views::expr_views), unfolding(crate::specs::Means::Reader::indexed))]
     fn indexed(&self, tokens: &mut Tokens<'_>, left: (Expr, usize)) -> Result<(Expr, usize), Fault>
-        requires reader { Nests self.now.room (F.pre self.now.inner) (F.post self.now.inner) }
-        requires room { left.1 < self.now.room }
-        ensures reads { Reads tall_expr (spec.indexed (spec.expr self.now.room) (spec.expr (self.now.room - 1)) self.now.room (tall_expr left) tokens.old) result tokens.new }
-        ensures low { IfOk result (λ x. x.1 ≤ self.now.room) }
+        requires reader { Nests self.now.depth_left (F.pre self.now.inner) (F.post self.now.inner) }
+        requires lower { left.1 < self.now.depth_left }
+        ensures reads { Reads tall_expr (nested spec.indexed self.now.depth_left (tall_expr left) tokens.old) result tokens.new }
+        ensures low { IfOk result (λ x. x.1 ≤ self.now.depth_left) }
     {
         let (tree, height) = left;
         let place = tokens.place();
         tokens.skip();
-        let (index, other) = self.inner(tokens, self.room, 1)?;
+        let (index, other) = self.inner(tokens, self.depth_left, 1)?;
         tokens.mark(Mark::RightBracket)?;
         let object = Box::new(self.alloc, tree)?;
         let index = Box::new(self.alloc, index)?;
@@ -242,12 +180,12 @@ impl<F: Fn(Global, &mut Tokens<'_>, usize, u8) -> Result<(Expr, usize), Fault>> 
     }
 
     // `.` and a member, or a call of it.
-    #[tactic(auto, unfolding(crate::specs::Reader::dotted))]
+    #[tactic(auto, unfolding(crate::specs::Means::Reader::dotted))]
     fn dotted(&self, tokens: &mut Tokens<'_>, left: (Expr, usize)) -> Result<(Expr, usize), Fault>
-        requires reader { Nests self.now.room (F.pre self.now.inner) (F.post self.now.inner) }
-        requires room { left.1 < self.now.room }
-        ensures reads { Reads tall_expr (spec.dotted (spec.expr self.now.room) (spec.expr (self.now.room - 1)) self.now.room (tall_expr left) tokens.old) result tokens.new }
-        ensures low { IfOk result (λ x. x.1 ≤ self.now.room) }
+        requires reader { Nests self.now.depth_left (F.pre self.now.inner) (F.post self.now.inner) }
+        requires lower { left.1 < self.now.depth_left }
+        ensures reads { Reads tall_expr (nested spec.dotted self.now.depth_left (tall_expr left) tokens.old) result tokens.new }
+        ensures low { IfOk result (λ x. x.1 ≤ self.now.depth_left) }
     {
         let place = tokens.place();
         tokens.skip();
@@ -260,11 +198,11 @@ impl<F: Fn(Global, &mut Tokens<'_>, usize, u8) -> Result<(Expr, usize), Fault>> 
     }
 
     // `->` and a member.
-    #[tactic(auto, unfolding(crate::specs::Reader::pointed))]
+    #[tactic(auto, unfolding(crate::specs::Means::Reader::pointed))]
     fn pointed(&self, tokens: &mut Tokens<'_>, left: (Expr, usize)) -> Result<(Expr, usize), Fault>
-        requires room { left.1 < self.now.room }
-        ensures reads { Reads tall_expr (spec.pointed (spec.expr self.now.room) (spec.expr (self.now.room - 1)) self.now.room (tall_expr left) tokens.old) result tokens.new }
-        ensures low { IfOk result (λ x. x.1 ≤ self.now.room) }
+        requires lower { left.1 < self.now.depth_left }
+        ensures reads { Reads tall_expr (nested spec.pointed self.now.depth_left (tall_expr left) tokens.old) result tokens.new }
+        ensures low { IfOk result (λ x. x.1 ≤ self.now.depth_left) }
     {
         let place = tokens.place();
         tokens.skip();
@@ -280,9 +218,9 @@ impl<F: Fn(Global, &mut Tokens<'_>, usize, u8) -> Result<(Expr, usize), Fault>> 
         place: Place,
         member: Identifier,
     ) -> Result<(Expr, usize), Fault>
-        requires room { left.1 < self.now.room }
+        requires lower { left.1 < self.now.depth_left }
         ensures reads { OkOrMemory result (λ x. tall_expr x ≡ (tree.member (tall_expr left).0 selector place member, left.1 + 1)) }
-        ensures low { IfOk result (λ x. x.1 ≤ self.now.room) }
+        ensures low { IfOk result (λ x. x.1 ≤ self.now.depth_left) }
     {
         let (tree, height) = left;
         let object = Box::new(self.alloc, tree)?;
@@ -304,10 +242,10 @@ impl<F: Fn(Global, &mut Tokens<'_>, usize, u8) -> Result<(Expr, usize), Fault>> 
         left: (Expr, usize),
         function: Identifier,
     ) -> Result<(Expr, usize), Fault>
-        requires reader { Nests self.now.room (F.pre self.now.inner) (F.post self.now.inner) }
-        requires room { left.1 < self.now.room }
-        ensures reads { Reads tall_expr (called (spec.expr self.now.room) (spec.expr (self.now.room - 1)) self.now.room (tall_expr left) function tokens.old) result tokens.new }
-        ensures low { IfOk result (λ x. x.1 ≤ self.now.room) }
+        requires reader { Nests self.now.depth_left (F.pre self.now.inner) (F.post self.now.inner) }
+        requires lower { left.1 < self.now.depth_left }
+        ensures reads { Reads tall_expr (nested called self.now.depth_left (tall_expr left) function tokens.old) result tokens.new }
+        ensures low { IfOk result (λ x. x.1 ≤ self.now.depth_left) }
     {
         let (tree, height) = left;
         let (arguments, other) = self.arguments(tokens)?;

@@ -1,8 +1,8 @@
 use Rattle.std.proofs.Common.{◌≡◌, ◌-◌, length}
 use Rattle.sl_base.specs.declared.mark.Mark.TheVariants as m
-use Rattle.sl_grammar.specs.Steps.{is_mark, repeat}
-use Rattle.sl_grammar.specs.Effects.{shifted_name}
-use Rattle.sl_parser.specs.EffectViews.{flat}
+use Rattle.sl_grammar.specs.Means.Steps.{is_mark, repeat}
+use Rattle.sl_grammar.specs.Means.Effects.{shifted_name}
+use Rattle.sl_parser.specs.Means.EffectViews.{flat}
 use Rattle.sl_parser.proofs.effect.reading.variables_behind.Given as goal
 
 abbrev pub invariant-loop-turn : goal.invariant-loop-turn
