@@ -15,6 +15,7 @@ zeros zero k = refl
 zeros (suc n) zero = refl
 zeros (suc n) (suc k) = zeros n k
 
+-- no word of the empty set has a bit
 no_bit_in_zeros : (n s : ℕ) → has_bit (record { words = replicate n 0 }) s ≡ false
 unfolding has_bit
 no_bit_in_zeros n s = let e : get_or (replicate n 0) (s / 64) 0 ≡ 0 = zeros n (s / 64) in rw (e, bit_at-zero)

@@ -47,6 +47,7 @@ by_order P Less less equal greater = less refl
 by_order P Equal less equal greater = equal refl
 by_order P Greater less equal greater = greater refl
 
+-- what comes before each of a report, and before one warning more, comes before each of the two together
 after_added : (u w : Warning) (vs : List Warning) → warning_cmp u w ≡ Less → AllByRecursion (λ y. warning_cmp u y ≡ Less) vs
     → AllByRecursion (λ y. warning_cmp u y ≡ Less) (added w vs)
 after_added u w [] first rest = (first, tt)
@@ -57,11 +58,13 @@ after_added u w (v ∷ vs) first rest =
     (λ h. subst P (sym (added-equal w v vs h)) (rest.0, rest.1))
     (λ h. subst P (sym (added-greater w v vs h)) (first, rest))
 
+-- what comes before a warning comes before each behind that one
 after_through : (w v : Warning) (vs : List Warning) → warning_cmp w v ≡ Less → AllByRecursion (λ y. warning_cmp v y ≡ Less) vs
     → AllByRecursion (λ y. warning_cmp w y ≡ Less) vs
 after_through w v [] h rest = tt
 after_through w v (u ∷ us) h rest = (warning_cmp_total.trans w v u h rest.0, after_through w v us h rest.1)
 
+-- further killers change no place in the order
 after_joined : (v : Warning) (more : List ℕ) (vs : List Warning) → AllByRecursion (λ y. warning_cmp v y ≡ Less) vs
     → AllByRecursion (λ y. warning_cmp (with_killers v more) y ≡ Less) vs
 after_joined v more vs h = h
@@ -75,6 +78,7 @@ added-ascending w (v ∷ vs) asc = by_order (IsAscending (added w (v ∷ vs))) (
     (λ h. subst IsAscending (sym (added-equal w v vs h)) (after_joined v w.killers vs asc.0, asc.1))
     (λ h. subst IsAscending (sym (added-greater w v vs h)) ((greater_first v w h, after_through w v vs (greater_first v w h) asc.0), asc))
 
+-- what holds of the first and of each other one holds of all
 all-cons : (P : Warning → Type 0) (w : Warning) (ws : List Warning) → P w → All P ws → All P (w ∷ ws)
 all-cons P w ws h rest zero d lt = h
 all-cons P w ws h rest (suc k) d lt = rest k d (omega arith)

@@ -32,12 +32,15 @@ tells_joined names v w t spot need h = record {
   killer = λ site e. joined-second site v.killers w.killers (h.killer site e);
 }
 
+-- a report covers what its first warning tells of
 covers_first : (names : List (List ℕ)) (w : Warning) (ws : List Warning) (t : Trap) → Tells names w t → Covers names (w ∷ ws) t
 covers_first names w ws t h = record { index = 0; warning = w; there = refl; tells = h }
 
+-- a report covers what its other warnings cover
 covers_rest : (names : List (List ℕ)) (w : Warning) (ws : List Warning) (t : Trap) → Covers names ws t → Covers names (w ∷ ws) t
 covers_rest names w ws t h = record { index = suc h.index; warning = h.warning; there = h.there; tells = h.tells }
 
+-- what a warning at an index tells of is covered after one warning more
 covers_at : (names : List (List ℕ)) (w : Warning) (t : Trap) (vs : List Warning) (i : ℕ) (x : Warning) → slice_get vs i ≡ Some x → Tells names x t
     → Covers names (added w vs) t
 covers_at names w t [] i x there tells = absurd cc
@@ -57,9 +60,11 @@ covers_at names w t (v ∷ vs) (suc i) x there tells =
     (λ h. subst C (sym (added-equal w v vs h)) (covers_rest names (with_killers v w.killers) vs t rest))
     (λ h. subst C (sym (added-greater w v vs h)) (covers_rest names w (v ∷ vs) t (covers_rest names v vs t rest)))
 
+-- what was covered is covered after one warning more
 pub covers_old : (names : List (List ℕ)) (w : Warning) (ws : List Warning) (t : Trap) → Covers names ws t → Covers names (added w ws) t
 covers_old names w ws t h = covers_at names w t ws h.index h.warning h.there h.tells
 
+-- what the new warning tells of is covered, where those with its place, kind and argument are of its need
 pub covers_new : (names : List (List ℕ)) (w : Warning) (ws : List Warning) (t : Trap) → Agrees w ws → Tells names w t → Covers names (added w ws) t
 covers_new names w [] t agrees h = covers_first names w [] t h
 covers_new names w (v ∷ vs) t agrees h =

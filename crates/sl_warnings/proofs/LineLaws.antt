@@ -28,6 +28,7 @@ pub regrouped : (out file a line b col c kind d call e who killers end : List �
     ≡ out ++ (file ++ (a ++ (line ++ (b ++ (col ++ (c ++ (kind ++ (d ++ (call ++ (e ++ (who ++ (killers ++ end))))))))))))
 regrouped out file a line b col c kind d call e who killers end = simp append_assoc
 
+-- the warnings from an index on begin with the one there
 drop-there : (ws : List Warning) (i : ℕ) (w : Warning) → slice_get ws i ≡ Some w → drop i ws ≡ w ∷ drop (i + 1) ws
 drop-there [] i w h = absurd cc
 drop-there (v ∷ vs) zero w h = let same : v ≡ w = cc in ap (λ x. x ∷ vs) same
