@@ -11,7 +11,8 @@ use Rattle.sl_syntax.specs.Depth.{declaration_height, stmt_height}
 use Rattle.sl_syntax.specs.Shaped.{IsCond, IsStmt, IsItem}
 use Rattle.sl_syntax.specs.Tree as t
 use Rattle.sl_syntax.specs.Tree.{Cond, Declaration, Stmt, Item}
-use Rattle.sl_syntax.specs.Written.{Written, cond_written, declaration_written, container_written, effect_written, stmt_written, item_written, from_place}
+use Rattle.sl_syntax.specs.Written.{Written, cond_written, declaration_written, container_written, effect_written, stmt_written, item_written}
+use Rattle.sl_syntax.specs.Written.{from_place}
 use Rattle.sl_syntax.specs.Written as v
 use Rattle.sl_grammar.specs.Means.Effects.{effect}
 use Rattle.sl_grammar.specs.Means.Statements.{is_else, is_item, declared, item_by, for_behind, for_by, effect_stmt, stmt_by}
@@ -23,10 +24,12 @@ use Rattle.sl_grammar.proofs.KindLaws.{not_mark}
 use Rattle.sl_grammar.proofs.Spelling.{Spelled, split, at_word, from_word}
 
 pub semicolon-ends : EndsEffect (k.Mark m.Semicolon)
-semicolon-ends = record { ends = record { stops = omega arith; not_call = refl }; no_read = refl; no_print = refl; no_assignment = λ room. refl }
+semicolon-ends =
+    record { ends = record { stops = omega arith; not_call = refl }; no_read = refl; no_print = refl; no_assignment = λ depth_left. refl }
 
 pub parenthesis-ends : EndsEffect (k.Mark m.RightParenthesis)
-parenthesis-ends = record { ends = record { stops = omega arith; not_call = refl }; no_read = refl; no_print = refl; no_assignment = λ room. refl }
+parenthesis-ends =
+    record { ends = record { stops = omega arith; not_call = refl }; no_read = refl; no_print = refl; no_assignment = λ depth_left. refl }
 
 pub effect-not_semicolon : (kind : TokenKind) → begins_effect kind ≡ true → is_mark m.Semicolon kind ≡ false
 effect-not_semicolon kind h = not_mark begins_effect m.Semicolon kind refl h
@@ -129,29 +132,29 @@ pub item-some : (x : Item) → 1 ≤ length (item_written x)
 item-some (t.declares d) = rw length-append (omega (arith, declaration-some d))
 item-some (t.states x) = stmt-some x
 
-module _ (inner : Reader (Tall Stmt)) (room : ℕ) where
+module _ (inner : Reader (Tall Stmt)) (depth_left : ℕ) where
   pub declared-kind : (d : Declaration) (ts rest : List Token) → Spelled (declaration_written d) ts rest
-      → item_by room inner (kind_at ts) ≡ only (nat_lt 1 room) (declared room (reader_of (room - 2) d))
+      → item_by depth_left inner (kind_at ts) ≡ only (nat_lt 1 depth_left) (declared depth_left (reader_of (depth_left - 2) d))
   declared-kind (t.declares_scalar place s x None) ts rest h = at_word h (λ o us e a. rw (e, scalar-kind s) refl)
   declared-kind (t.declares_scalar place s x (Some y)) ts rest h = at_word h (λ o us e a. rw (e, scalar-kind s) refl)
   declared-kind (t.declares_auto place x y) ts rest h = at_word h (λ o us e a. rw e refl)
   declared-kind (t.declares_container c x i) ts rest h = split (container_written c) h (λ mid a b. rw (type-kind c ts mid a) refl)
 
-  pub stated-kind : (kind : TokenKind) → begins_stmt kind ≡ true → item_by room inner kind ≡ (inner >>= (λ s. pure (t.states s.0, s.1)))
+  pub stated-kind : (kind : TokenKind) → begins_stmt kind ≡ true → item_by depth_left inner kind ≡ (inner >>= (λ s. pure (t.states s.0, s.1)))
   stated-kind (k.Scalar s) h = absurd (false≢true h)
   stated-kind k.Auto h = absurd (false≢true h)
   stated-kind (k.Container f) h = absurd (false≢true h)
   stated-kind _ h = refl
 
   pub for-kind : (place : Place) (kind : TokenKind) → begins_effect kind ≡ true
-      → for_by inner room place kind ≡ (effect room >>= (λ e. for_behind inner room place (Some (t.first_effect e.0), e.1)))
+      → for_by inner depth_left place kind ≡ (effect depth_left >>= (λ e. for_behind inner depth_left place (Some (t.first_effect e.0), e.1)))
   for-kind place (k.Scalar s) h = absurd (false≢true h)
   for-kind place k.Auto h = absurd (false≢true h)
   for-kind place (k.Mark m.Semicolon) h = absurd (false≢true h)
   for-kind place (k.Mark _) h = refl
   for-kind place _ h = refl
 
-  pub does-kind : (kind : TokenKind) → begins_effect kind ≡ true → stmt_by inner room kind ≡ effect_stmt inner room
+  pub does-kind : (kind : TokenKind) → begins_effect kind ≡ true → stmt_by inner depth_left kind ≡ effect_stmt inner depth_left
   does-kind (k.Mark m.LeftBrace) h = absurd (false≢true h)
   does-kind (k.Mark _) h = refl
   does-kind k.If h = absurd (false≢true h)

@@ -59,10 +59,10 @@ binary-not_call (b.Comparison l.Equal) = refl
 binary-not_call (b.Arithmetic a.Add) = refl
 binary-not_call _ = refl
 
-pub assignment-mark : (room : ℕ) (op : Assignment) → assignment_of room (k.Mark (assignment_mark op)) ≡ Some op
-assignment-mark room g.Set = refl
-assignment-mark room (g.Update a.Add) = refl
-assignment-mark room _ = refl
+pub assignment-mark : (depth_left : ℕ) (op : Assignment) → assignment_of depth_left (k.Mark (assignment_mark op)) ≡ Some op
+assignment-mark depth_left g.Set = refl
+assignment-mark depth_left (g.Update a.Add) = refl
+assignment-mark depth_left _ = refl
 
 -- What follows an expression, after which it goes on by no operator that binds so tightly, and not as a call.
 pub record Ends (least : ℕ) (kind : TokenKind) : Type 0 where

@@ -1,5 +1,6 @@
 -- What the tokens are that spell some words, and how a row of items is read.
-use Rattle.std.proofs.Common.{append-nil, subst, ◌≡◌, ℕ, zero, suc, ◌<◌, ◌≤◌, max, Bool, true, false, List, [], ◌∷◌, ◌++◌, length, flat_map, Ok, refl, sym, ◌∙◌, arith, append_assoc}
+use Rattle.std.proofs.Common.{append-nil, subst, ◌≡◌, ℕ, zero, suc, ◌<◌, ◌≤◌, max, Bool, true, false, List, [], ◌∷◌, ◌++◌, length, flat_map, Ok, refl}
+use Rattle.std.proofs.Common.{sym, ◌∙◌, arith, append_assoc}
 use Rattle.sl_base.specs.declared.token.Token.{Token}
 use Rattle.sl_syntax.specs.declared.token_kind.TokenKind.{TokenKind}
 use Rattle.sl_syntax.specs.Depth.{highest}
@@ -64,4 +65,9 @@ module _ {A : Type 0} (goes : TokenKind → Bool) (item : Reader (Tall A)) (h : 
     row [] ts rest p f e s = (s.spells, e)
     row (x ∷ xs) ts rest p f e s =
         split (w x) s
-        (λ mid a b. (mid, turn x ts mid p.0 (fits xs mid rest p.1 f b) a, omega (arith, some x, spells-length (w x) ts mid a.spells), row xs mid rest p.1 f e b))
+        (λ mid a b. (
+          mid,
+          turn x ts mid p.0 (fits xs mid rest p.1 f b) a,
+          omega (arith, some x, spells-length (w x) ts mid a.spells),
+          row xs mid rest p.1 f e b,
+        ))

@@ -47,6 +47,7 @@ sum_program = record {
 } ∷ []
 
 sum_is_read : program sum_words ≡ Ok ((sum_program, 6), [])
-unfolding program function function_behind params braced repeat item scalar_declaration optional_value expr from_operand operand climb operation combined
+unfolding program function function_behind params braced repeat item scalar_declaration optional_value expr from_operand operand climb operation
+    combined
     mark identifier stmt sum_words sum_program
 sum_is_read = refl

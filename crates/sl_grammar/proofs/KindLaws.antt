@@ -47,7 +47,8 @@ fixed (k.Mark m) = Some (w.Mark m)
 fixed _ = None
 
 -- what a row gives: its kind where its bytes are those, and else what the others give
-row_gives : (Q : List ℕ → TokenKind → Type 0) (bytes : List ℕ) (instead : TokenKind) (row : List ℕ × TokenKind) (others : Option (List ℕ × TokenKind)) (test : Bool)
+row_gives : (Q : List ℕ → TokenKind → Type 0) (bytes : List ℕ) (instead : TokenKind) (row : List ℕ × TokenKind) (others : Option (List ℕ × TokenKind))
+    (test : Bool)
     → (test ≡ true → row.0 ≡ bytes) → Q row.0 row.1 → Q bytes (kind_or instead (option_map (λ m. m.1) others))
     → Q bytes (kind_or instead (option_map (λ m. m.1) (cond test (Some row) others)))
 row_gives Q bytes instead row others true same here there = subst (λ (b : List ℕ). Q b row.1) (same refl) here
@@ -117,7 +118,8 @@ each_passes test (row ∷ rows) h =
 key_passes : (test : TokenKind → Bool) (bytes : List ℕ) → test k.Other ≡ true → all_pass test keys ≡ true → test (kind_in keys k.Other bytes) ≡ true
 key_passes test bytes other all = in_rows (λ _ kind. test kind ≡ true) bytes k.Other other keys (each_passes test keys all)
 
-lib_passes : (test : TokenKind → Bool) (bytes : List ℕ) → test k.Library ≡ true → all_pass test libs ≡ true → test (kind_in libs k.Library bytes) ≡ true
+lib_passes : (test : TokenKind → Bool) (bytes : List ℕ) → test k.Library ≡ true → all_pass test libs ≡ true
+    → test (kind_in libs k.Library bytes) ≡ true
 lib_passes test bytes other all = in_rows (λ _ kind. test kind ≡ true) bytes k.Library other libs (each_passes test libs all)
 
 -- two kinds that a test tells apart

@@ -1,5 +1,6 @@
 -- Two readings of the same words do the same up to a point: what is said of steps, and of how they are put together.
-use Rattle.std.proofs.Common.{◌≡◌, ℕ, zero, suc, ◌+◌, ◌<◌, ◌≤◌, max, Bool, true, false, if◌then◌else◌, List, [], ◌∷◌, ◌++◌, length, drop, Ok, Err, refl, ap, subst, arith, length-drop}
+use Rattle.std.proofs.Common.{◌≡◌, ℕ, zero, suc, ◌+◌, ◌<◌, ◌≤◌, max, Bool, true, false, if◌then◌else◌, List, [], ◌∷◌, ◌++◌, length, drop, Ok, Err}
+use Rattle.std.proofs.Common.{refl, ap, subst, arith, length-drop}
 use Rattle.sl_base.specs.declared.mark.Mark.{Mark}
 use Rattle.sl_base.specs.declared.place.Place.{Place}
 use Rattle.sl_base.specs.declared.token.Token.{Token}
@@ -9,7 +10,8 @@ use Rattle.sl_syntax.specs.declared.token_kind.TokenKind.{TokenKind}
 use Rattle.sl_syntax.specs.declared.token_kind.TokenKind.TheVariants as k
 use Rattle.sl_syntax.specs.TokenKinds.{kind_of}
 use Rattle.sl_grammar.specs.declared.fault.Fault.TheVariants.{Memory, Grammar}
-use Rattle.sl_grammar.specs.Means.Steps.{refusal, Outcome, Reader, Tall, and_then, kind_at, here, is_mark, mark, by_word, identifier, identifier_by, library, library_by, repeat, all_behind}
+use Rattle.sl_grammar.specs.Means.Steps.{refusal, Outcome, Reader, Tall, and_then, kind_at, here, is_mark, mark, by_word, identifier, identifier_by}
+use Rattle.sl_grammar.specs.Means.Steps.{library, library_by, repeat, all_behind}
 
 -- how many tokens are left where a reader stops
 abbrev pub left_over : {A : Type 0} → Outcome A → ℕ
@@ -185,7 +187,8 @@ module _ {b : ℕ} where
   }
 
   -- a choice by the next word
-  pub choose : {A : Type 0} {d : ℕ} {R : A → A → Type 0} {s s' : List Token} (F G : TokenKind → Outcome A) → ((k : TokenKind) → Near b d R s s' (F k) (G k))
+  pub choose : {A : Type 0} {d : ℕ} {R : A → A → Type 0} {s s' : List Token} (F G : TokenKind → Outcome A)
+      → ((k : TokenKind) → Near b d R s s' (F k) (G k))
       → Near b d R s s' (F (kind_at s)) (G (kind_at s'))
   choose {A} {d} {R} {s} {s'} F G h = record {
     agrees = λ e. elim (meets b s s' e) as (λ _. Agree b R (F (kind_at s)) (G (kind_at s'))) [

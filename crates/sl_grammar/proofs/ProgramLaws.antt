@@ -1,5 +1,6 @@
 -- The laws of the reader of programs, put together: what it reads and where it stops, against the definitions of the grammar.
-use Rattle.std.proofs.Common.{◌≡◌, ℕ, zero, suc, ◌+◌, ◌-◌, ◌<◌, ◌≤◌, List, [], ◌∷◌, ◌++◌, length, take, map, Ok, Err, refl, sym, ap, ◌∙◌, subst, arith, length-append}
+use Rattle.std.proofs.Common.{◌≡◌, ℕ, zero, suc, ◌+◌, ◌-◌, ◌<◌, ◌≤◌, List, [], ◌∷◌, ◌++◌, length, take, map, Ok, Err, refl, sym, ap, ◌∙◌, subst}
+use Rattle.std.proofs.Common.{arith, length-append}
 use Rattle.std.proofs.lemmas.List.{length-map, map-append}
 use Rattle.std.proofs.Math.Seq.{take-append_seam}
 use Rattle.sl_base.specs.declared.token.Token.{Token}
@@ -83,7 +84,8 @@ same_read a b h k e = ap (λ (y : Tall Program × List Token). y.0.0) (ok_one e)
 -- the words before the last of two lists, where the first has all the others
 words_before : (ts front rest : List Token) → ts ≡ front ++ rest → take (length ts - length rest) (words_in ts) ≡ words_in front
 words_before ts front rest e =
-    let n : length ts - length rest ≡ length (words_in front) = omega (arith, ap length e, length-append front rest, length-map front (λ (t : Token). t.word)) in
+    let n : length ts - length rest ≡ length (words_in front) =
+    omega (arith, ap length e, length-append front rest, length-map front (λ (t : Token). t.word)) in
     let ws : words_in ts ≡ words_in front ++ words_in rest = ap words_in e ∙ map-append (λ (t : Token). t.word) front rest in
     rw (n, ws) (take-append_seam (words_in front) (words_in rest))
 

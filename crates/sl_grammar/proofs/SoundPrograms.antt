@@ -26,7 +26,7 @@ use Rattle.sl_grammar.proofs.Spelling.{Spelled, ◌⨾◌}
 
 -- what is read from these tokens
 abbrev pub FunctionAt : ℕ → List Token → Took Function → Type 0
-FunctionAt room ts y = Part function_written IsFunction function_height room ts y.0 y.1
+FunctionAt depth_left ts y = Part function_written IsFunction function_height depth_left ts y.0 y.1
 
 abbrev pub result_kind : ResultType → TokenKind
 result_kind z.Void = k.Void

@@ -1,5 +1,6 @@
 -- What follows from the answer of a step: which words it took.
-use Rattle.std.proofs.Common.{drop, length, ◌≡◌, ℕ, zero, suc, ◌≤◌, max, Bool, true, false, cond, List, [], ◌∷◌, ◌++◌, Some, Result, Ok, Err, refl, sym, ap, subst, ◌∙◌, arith, append_assoc}
+use Rattle.std.proofs.Common.{drop, length, ◌≡◌, ℕ, zero, suc, ◌≤◌, max, Bool, true, false, cond, List, [], ◌∷◌, ◌++◌, Some, Result, Ok, Err, refl}
+use Rattle.std.proofs.Common.{sym, ap, subst, ◌∙◌, arith, append_assoc}
 use Rattle.std.specs.Prelude.{flat_map}
 use Rattle.std.proofs.lemmas.Bool.{false≢true}
 use Rattle.std.proofs.lemmas.List.{append-nil}
@@ -18,7 +19,8 @@ use Rattle.sl_syntax.specs.Shaped.{Each, AreSome}
 use Rattle.sl_syntax.specs.Written.{Written, at, plain, named}
 use Rattle.sl_syntax.specs.Written as s
 use Rattle.sl_grammar.specs.declared.fault.Fault.{Fault}
-use Rattle.sl_grammar.specs.Means.Steps.{Outcome, Reader, Tall, and_then, kind_at, here, is_mark, mark, number_at, text_at, identifier_by, identifier, library_by, library, repeat, all_behind}
+use Rattle.sl_grammar.specs.Means.Steps.{Outcome, Reader, Tall, and_then, kind_at, here, is_mark, mark, number_at, text_at, identifier_by, identifier}
+use Rattle.sl_grammar.specs.Means.Steps.{library_by, library, repeat, all_behind}
 use Rattle.sl_grammar.proofs.KindLaws.{fixed, word_of_kind, number_word, text_word, is_mark_kind}
 use Rattle.sl_grammar.proofs.Spelling.{Spelled, ◌⨾◌, no_words}
 
@@ -50,7 +52,8 @@ pub answered : {A : Type 0} (a y : A × List Token) (P : A × List Token → Typ
 answered a y P h p = subst P (ok_one h) p
 
 -- one word, at its place
-pub one_word : (ts : List Token) (kind : TokenKind) (x : Word) → kind_at ts ≡ kind → fixed kind ≡ Some x → Spelled (at (here ts) x ∷ []) ts (drop 1 ts)
+pub one_word : (ts : List Token) (kind : TokenKind) (x : Word) → kind_at ts ≡ kind → fixed kind ≡ Some x
+    → Spelled (at (here ts) x ∷ []) ts (drop 1 ts)
 one_word [] kind x h e = absurd cc
 one_word (t ∷ ts) kind x h e = record { spells = ((word_of_kind t.word kind x h e, (refl, tt)), refl) }
 
@@ -124,32 +127,33 @@ unfolding library
 library_took [] y is h = absurd cc
 library_took (t ∷ ts) y is h = lib_took t.word t ts y refl is h
 
--- What is read: its words, that it fits, and its height, which is at most the room.
-pub record Part {A : Type 0} (written : A → List Written) (Fits : A → Type 0) (height : A → ℕ) (room : ℕ) (ts : List Token) (p : Tall A)
+-- What is read: its words, that it fits, and its height, which is at most what is left of the depth.
+pub record Part {A : Type 0} (written : A → List Written) (Fits : A → Type 0) (height : A → ℕ) (depth_left : ℕ) (ts : List Token) (p : Tall A)
     (rest : List Token) : Type 0 where
   pub spelled : Spelled (written p.0) ts rest
   pub fits : Fits p.0
   pub size : p.1 ≡ height p.0
-  pub low : p.1 ≤ room
+  pub low : p.1 ≤ depth_left
 
 -- what a reader answers is such a part
 abbrev pub Parts : {A : Type 0} → (A → List Written) → (A → Type 0) → (A → ℕ) → ℕ → Reader (Tall A) → Type 0
-Parts {A} written Fits height room item = (ts : List Token) (y : Took A) → item ts ≡ Ok y → Part written Fits height room ts y.0 y.1
+Parts {A} written Fits height depth_left item = (ts : List Token) (y : Took A) → item ts ≡ Ok y → Part written Fits height depth_left ts y.0 y.1
 
 -- the items that were read behind those that are done
-pub record More {A : Type 0} (written : A → List Written) (Fits : A → Type 0) (height : A → ℕ) (room : ℕ) (goes : TokenKind → Bool)
+pub record More {A : Type 0} (written : A → List Written) (Fits : A → Type 0) (height : A → ℕ) (depth_left : ℕ) (goes : TokenKind → Bool)
     (done : Tall (List A)) (ts : List Token) (p : Tall (List A)) (rest : List Token) : Type 0 where
   pub items : List A
   pub all : p.0 ≡ done.0 ++ items
   pub spelled : Spelled (flat_map written items) ts rest
   pub each : Each Fits items
   pub size : p.1 ≡ max done.1 (highest height items)
-  pub low : highest height items ≤ room
+  pub low : highest height items ≤ depth_left
   pub stops : goes (kind_at rest) ≡ false
 
-module _ {A : Type 0} (written : A → List Written) (Fits : A → Type 0) (height : A → ℕ) (room : ℕ) (goes : TokenKind → Bool) (item : Reader (Tall A))
-    (f : Parts written Fits height room item) where
-  stopped : (done : Tall (List A)) (ts : List Token) → goes (kind_at ts) ≡ false → More written Fits height room goes done ts done ts
+module _ {A : Type 0} (written : A → List Written) (Fits : A → Type 0) (height : A → ℕ) (depth_left : ℕ) (goes : TokenKind → Bool)
+    (item : Reader (Tall A))
+    (f : Parts written Fits height depth_left item) where
+  stopped : (done : Tall (List A)) (ts : List Token) → goes (kind_at ts) ≡ false → More written Fits height depth_left goes done ts done ts
   stopped done ts stop = record {
     items = [];
     all = sym (append-nil done.0);
@@ -161,13 +165,13 @@ module _ {A : Type 0} (written : A → List Written) (Fits : A → Type 0) (heig
   }
 
   repeat-more : (turns : ℕ) (done : Tall (List A)) (ts : List Token) (y : Took (List A)) → repeat goes item turns done ts ≡ Ok y
-      → More written Fits height room goes done ts y.0 y.1
+      → More written Fits height depth_left goes done ts y.0 y.1
   unfolding repeat
   repeat-more zero done ts y h =
-      let P : Took (List A) → Type 0 = λ z. More written Fits height room goes done ts z.0 z.1 in
+      let P : Took (List A) → Type 0 = λ z. More written Fits height depth_left goes done ts z.0 z.1 in
       chosen (goes (kind_at ts)) _ _ _ (P y) h (λ on h1. absurd cc) (λ stop h1. answered _ y P h1 (stopped done ts stop))
   repeat-more (suc n) done ts y h =
-      let P : Took (List A) → Type 0 = λ z. More written Fits height room goes done ts z.0 z.1 in
+      let P : Took (List A) → Type 0 = λ z. More written Fits height depth_left goes done ts z.0 z.1 in
       chosen (goes (kind_at ts)) _ _ _ (P y) h
       (λ on h1.
       bound (item ts) _ y P h1 (λ x read h2.
@@ -186,7 +190,7 @@ module _ {A : Type 0} (written : A → List Written) (Fits : A → Type 0) (heig
 
   -- the items that follow
   pub behind : (done : Tall (List A)) (ts : List Token) (y : Took (List A)) → all_behind goes item done ts ≡ Ok y
-      → More written Fits height room goes done ts y.0 y.1
+      → More written Fits height depth_left goes done ts y.0 y.1
   behind done ts y h = repeat-more (length ts) done ts y h
 
 -- where the first word goes on and the last doesn't, there is an item

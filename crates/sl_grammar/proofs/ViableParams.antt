@@ -18,14 +18,16 @@ use Rattle.sl_syntax.specs.Depth.{highest, param_height}
 use Rattle.sl_syntax.specs.Written as s
 use Rattle.sl_syntax.specs.Written.{Written, container_written, param_written, params_written, scalar_word}
 use Rattle.sl_grammar.specs.declared.fault.Fault.TheVariants.{Grammar}
-use Rattle.sl_grammar.specs.Means.Declarations.{comma_param, const_param, container_by, container_param, container_type, param, param_by, params, scalar_param}
+use Rattle.sl_grammar.specs.Means.Declarations.{comma_param, const_param, container_by, container_param, container_type, param, param_by, params}
+use Rattle.sl_grammar.specs.Means.Declarations.{scalar_param}
 use Rattle.sl_grammar.specs.Means.Steps.{here, identifier, is_mark, kind_at, mark}
 use Rattle.sl_grammar.proofs.Rows.{Anything, comma_param_written}
 use Rattle.sl_grammar.proofs.SoundDeclarations.{by-took, comma-part, param-part, type-took}
 use Rattle.sl_grammar.proofs.SoundSteps.{mark_plain, one_word, seen, chosen}
 use Rattle.sl_grammar.proofs.Spelling.{◌⨾◌}
 use Rattle.sl_grammar.proofs.ViableDeclarations.{type-begun}
-use Rattle.sl_grammar.proofs.ViableSteps.{Stops, Viable, at_once, begun, behind-viable, faulted, identifier_fault, mark_fault, no_fault, one_fault, some_name, unfinished, viable, ◌⨠◌}
+use Rattle.sl_grammar.proofs.ViableSteps.{Stops, Viable, at_once, begun, behind-viable, faulted, identifier_fault, mark_fault, no_fault, one_fault}
+use Rattle.sl_grammar.proofs.ViableSteps.{some_name, unfinished, viable, ◌⨠◌}
 
 -- a parameter that is no higher than any
 abbrev LowParam : Param → Type 0
@@ -133,5 +135,6 @@ params-begun ts n h =
     viable (v.tree ∷ []) (tt, omega (arith, v.fits.1)) (unfinished (begun v) []))
     (λ x one h2.
     let first = param-part ts x one in
-    let v = behind-viable comma_param_written Anything param_height 2 (is_mark m.Comma) comma_param comma-part comma-begun (x.0.0 ∷ [], x.0.1) x.1 n h2 in
+    let v = behind-viable comma_param_written Anything param_height 2 (is_mark m.Comma) comma_param comma-part comma-begun
+    (x.0.0 ∷ [], x.0.1) x.1 n h2 in
     viable (x.0.0 ∷ v.tree) (tt, omega (arith, first.size, first.low, v.fits.1)) (first.spelled ⨠ begun v)))

@@ -30,7 +30,8 @@ use Rattle.sl_grammar.proofs.Spelling.{◌⨾◌}
 use Rattle.sl_grammar.proofs.ViableBlocks.{braced-begun}
 use Rattle.sl_grammar.proofs.ViableParams.{params-begun}
 use Rattle.sl_grammar.proofs.ViableStatements.{stmt-faults}
-use Rattle.sl_grammar.proofs.ViableSteps.{Viable, at_once, begun, behind-viable, faulted, identifier_fault, mark_fault, no_fault, one_fault, some_name, unfinished, viable, ◌⨠◌}
+use Rattle.sl_grammar.proofs.ViableSteps.{Viable, at_once, begun, behind-viable, faulted, identifier_fault, mark_fault, no_fault, one_fault}
+use Rattle.sl_grammar.proofs.ViableSteps.{some_name, unfinished, viable, ◌⨠◌}
 
 -- a block, for one that is missing
 abbrev some_block : Place × Items × Place

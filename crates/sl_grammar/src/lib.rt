@@ -1,6 +1,6 @@
-//! How tokens are read as a program: a cursor over them, what words do there, and the reader as a definition, which reads
-//! by the first word of each part, with its laws. What it reads is a program that follows the grammar; each such program
-//! is read; and where it stops, no such program goes on.
+//! How tokens are read as a program: a cursor over them, the operators that words are, and the reader as a definition,
+//! which reads by the first word of each part, with its laws. What it reads is a program that follows the grammar; each
+//! such program is read; and where it stops, no such program goes on.
 #![tactic(auto)]
 
 mod fault;

@@ -10,10 +10,12 @@ use Rattle.sl_grammar.specs.Means.Steps.{Reader, Tall, library}
 use Rattle.sl_parser.specs.Means.Nests.{called}
 
 module _ (inner smaller : ℕ → Reader (Tall Expr)) (depth_left : ℕ) where
-  pub call-ok : (f : Identifier) (xs : Tall Exprs) (ts us : List Token) → 0 < depth_left → arguments inner smaller depth_left ts ≡ Ok (xs, us) → call inner smaller depth_left f ts ≡ Ok ((t.call f xs.0, xs.1 + 1), us)
+  pub call-ok : (f : Identifier) (xs : Tall Exprs) (ts us : List Token) → 0 < depth_left → arguments inner smaller depth_left ts ≡ Ok (xs, us)
+      → call inner smaller depth_left f ts ≡ Ok ((t.call f xs.0, xs.1 + 1), us)
   call-ok f xs ts us h e = rw (lt-ltb 0 depth_left h, e) refl
 
-  pub library_call-ok : (f : Identifier) (xs : Tall Exprs) (ts us vs : List Token) → 0 < depth_left → library ts ≡ Ok (f, us) → arguments inner smaller depth_left us ≡ Ok (xs, vs)
+  pub library_call-ok : (f : Identifier) (xs : Tall Exprs) (ts us vs : List Token) → 0 < depth_left → library ts ≡ Ok (f, us)
+      → arguments inner smaller depth_left us ≡ Ok (xs, vs)
       → library_call inner smaller depth_left ts ≡ Ok ((t.library_call f xs.0, xs.1 + 1), vs)
   unfolding library_call
   library_call-ok f xs ts us vs h e k = rw (lt-ltb 0 depth_left h, e, k) refl

@@ -9,7 +9,8 @@ unfolding stmt
 stmt-none zero ts h = refl
 stmt-none (suc depth_left) ts h = absurd (omega arith)
 
-pub stmt-first : (depth_left : ℕ) (ts : List Token) → 0 < depth_left → stmt depth_left ts ≡ stmt_by (stmt (depth_left - 1)) (depth_left - 1) (kind_at ts) ts
+pub stmt-first : (depth_left : ℕ) (ts : List Token) → 0 < depth_left
+    → stmt depth_left ts ≡ stmt_by (stmt (depth_left - 1)) (depth_left - 1) (kind_at ts) ts
 unfolding stmt
 stmt-first zero ts h = absurd (omega arith)
 stmt-first (suc depth_left) ts h = let e : suc depth_left - 1 ≡ depth_left = omega arith in rw e refl

@@ -1,6 +1,18 @@
 -- The views of the tree's variants.
-pub use Rattle.sl_syntax.proofs.TreeViews.{expr_of-Call, expr_of-LibraryCall, expr_of-Parentheses, expr_of-Prefix, expr_of-Binary, expr_of-Postfix, expr_of-Index, expr_of-MemberCall, expr_of-Member, stmt_of-Block, stmt_of-If, stmt_of-If_else, stmt_of-While, stmt_of-For, stmt_of-RangeFor}
+pub use Rattle.sl_syntax.proofs.TreeViews.{expr_of-Call, expr_of-LibraryCall, expr_of-Parentheses, expr_of-Prefix, expr_of-Binary, expr_of-Postfix}
+pub use Rattle.sl_syntax.proofs.TreeViews.{expr_of-Index, expr_of-MemberCall, expr_of-Member, stmt_of-Block, stmt_of-If, stmt_of-If_else}
+pub use Rattle.sl_syntax.proofs.TreeViews.{stmt_of-While, stmt_of-For, stmt_of-RangeFor}
 
-pub ruleset expr_views = (expr_of-Call, expr_of-LibraryCall, expr_of-Parentheses, expr_of-Prefix, expr_of-Binary, expr_of-Postfix, expr_of-Index, expr_of-MemberCall, expr_of-Member)
+pub ruleset expr_views = (
+  expr_of-Call,
+  expr_of-LibraryCall,
+  expr_of-Parentheses,
+  expr_of-Prefix,
+  expr_of-Binary,
+  expr_of-Postfix,
+  expr_of-Index,
+  expr_of-MemberCall,
+  expr_of-Member,
+)
 
 pub ruleset stmt_views = (stmt_of-Block, stmt_of-If, stmt_of-If_else, stmt_of-While, stmt_of-For, stmt_of-RangeFor)

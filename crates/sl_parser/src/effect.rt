@@ -1,4 +1,5 @@
-//! Effects, which are reads, prints, assignments and values, and conditions. None is higher than what is left of the depth.
+//! Effects, which are reads, prints, assignments and values, and conditions. None is higher than the depth that is left
+//! for it.
 ghost use Rattle.std.specs.Prelude.{◌≡◌, ◌≤◌, ◌<◌};
 ghost use Rattle.sl_base.specs.declared.limits.TheConstants.{TREE_DEPTH};
 ghost use Rattle.sl_syntax.specs.declared.token_kind.TokenKind.TheVariants.{End};

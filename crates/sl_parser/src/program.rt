@@ -13,8 +13,8 @@ use sl_grammar::{Fault, Tokens};
 use sl_syntax::Program;
 use std::alloc::Global;
 
-/// The program whose words these tokens are, of at most 1,048,576 tokens: the one that follows the grammar, with its depth
-/// of at most 64, placed by the tokens.
+/// The program whose words these tokens are, of at most 1,048,576 tokens: the one that follows the grammar, with its
+/// depth of at most 64, placed by the tokens.
 ///
 /// `ParseErr::Memory` comes where memory runs out; `ParseErr::Grammar` exactly where the words are those of no such
 /// program, at the first with which they begin none.

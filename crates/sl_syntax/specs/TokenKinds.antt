@@ -11,15 +11,20 @@ use Rattle.sl_syntax.specs.declared.token_kind.TokenKind.TheVariants as kind
 
 abbrev pub keys : List (List ℕ × TokenKind)
 keys =
-    (codes "int", kind.Scalar scalar.Int) ∷ (codes "bool", kind.Scalar scalar.Bool) ∷ (codes "true", kind.Truth true) ∷ (codes "false", kind.Truth false)
+    (codes "int", kind.Scalar scalar.Int) ∷ (codes "bool", kind.Scalar scalar.Bool) ∷ (codes "true", kind.Truth true)
+    ∷ (codes "false", kind.Truth false)
     ∷ (codes "void", kind.Void) ∷ (codes "const", kind.Const) ∷ (codes "auto", kind.Auto) ∷ (codes "if", kind.If) ∷ (codes "else", kind.Else)
-    ∷ (codes "while", kind.While) ∷ (codes "for", kind.For) ∷ (codes "break", kind.Break) ∷ (codes "continue", kind.Continue) ∷ (codes "return", kind.Return) ∷ []
+    ∷ (codes "while", kind.While) ∷ (codes "for", kind.For) ∷ (codes "break", kind.Break) ∷ (codes "continue", kind.Continue)
+    ∷ (codes "return", kind.Return) ∷ []
 
 abbrev pub libs : List (List ℕ × TokenKind)
 libs =
-    (codes "size_t", kind.Scalar scalar.Size) ∷ (codes "ptrdiff_t", kind.Scalar scalar.Diff) ∷ (codes "vector", kind.Container form.Vector) ∷ (codes "deque", kind.Container form.Deque)
-    ∷ (codes "list", kind.Container form.List) ∷ (codes "set", kind.Container form.Set) ∷ (codes "map", kind.Container form.Map) ∷ (codes "unordered_set", kind.Container form.HashSet)
-    ∷ (codes "unordered_map", kind.Container form.HashMap) ∷ (codes "cin", kind.Input) ∷ (codes "cout", kind.Output) ∷ (codes "endl", kind.EndLine) ∷ []
+    (codes "size_t", kind.Scalar scalar.Size) ∷ (codes "ptrdiff_t", kind.Scalar scalar.Diff) ∷ (codes "vector", kind.Container form.Vector)
+    ∷ (codes "deque", kind.Container form.Deque)
+    ∷ (codes "list", kind.Container form.List) ∷ (codes "set", kind.Container form.Set) ∷ (codes "map", kind.Container form.Map)
+    ∷ (codes "unordered_set", kind.Container form.HashSet)
+    ∷ (codes "unordered_map", kind.Container form.HashMap) ∷ (codes "cin", kind.Input) ∷ (codes "cout", kind.Output) ∷ (codes "endl", kind.EndLine)
+    ∷ []
 
 abbrev pub kind_or : TokenKind → Option TokenKind → TokenKind
 kind_or instead None = instead

@@ -12,7 +12,8 @@ use Rattle.sl_syntax.specs.declared.tree.identifier.Identifier.{Identifier}
 use Rattle.sl_syntax.specs.Tree as t
 use Rattle.sl_syntax.specs.Tree.{Expr, Out, Effect, Cond}
 use Rattle.sl_grammar.specs.Means.Expressions.{expr}
-use Rattle.sl_grammar.specs.Means.Steps.{Reader, Tall, and_then, ◌>>=◌, ◌>>◌, pure, only, skip, kind_at, here, is_mark, mark, identifier, text_at, all_behind}
+use Rattle.sl_grammar.specs.Means.Steps.{Reader, Tall, and_then, ◌>>=◌, ◌>>◌, pure, only, skip, kind_at, here, is_mark, mark, identifier, text_at}
+use Rattle.sl_grammar.specs.Means.Steps.{all_behind}
 
 -- `>> x`
 unfoldable pub shifted_name : Reader (Tall Identifier)

@@ -18,7 +18,8 @@ use Rattle.sl_syntax.specs.declared.tree.identifier.Identifier.{Identifier}
 use Rattle.sl_syntax.specs.Shaped.{binary_level}
 use Rattle.sl_syntax.specs.Tree as t
 use Rattle.sl_syntax.specs.Tree.{Expr, Exprs, exprs_from}
-use Rattle.sl_grammar.specs.Means.Steps.{Reader, Tall, ◌>>=◌, ◌>>◌, pure, refuse, refusal, only, skip, kind_at, here, is_mark, mark, identifier, library, number_at, all_behind}
+use Rattle.sl_grammar.specs.Means.Steps.{Reader, Tall, ◌>>=◌, ◌>>◌, pure, refuse, refusal, only, skip, kind_at, here, is_mark, mark, identifier}
+use Rattle.sl_grammar.specs.Means.Steps.{library, number_at, all_behind}
 
 -- the operator that a word is between two operands
 abbrev pub infix_of : TokenKind → Option BinaryOperator
@@ -63,7 +64,8 @@ module _ (one more : Reader (Tall Expr)) (depth_left : ℕ) where
   unfoldable pub list_behind : Tall Expr → Reader (Tall Exprs)
   list_behind x = λ ts.
       if is_mark m.Comma (kind_at ts) then
-      only (nat_lt x.1 depth_left) (all_behind (is_mark m.Comma) comma_expr ([], 0) >>= (λ xs. pure (t.with x.0 (exprs_from xs.0), max x.1 xs.1 + 1))) ts
+      only (nat_lt x.1 depth_left)
+      (all_behind (is_mark m.Comma) comma_expr ([], 0) >>= (λ xs. pure (t.with x.0 (exprs_from xs.0), max x.1 xs.1 + 1))) ts
       else Ok ((t.with x.0 t.none, x.1), ts)
 
   unfoldable pub list : Reader (Tall Exprs)

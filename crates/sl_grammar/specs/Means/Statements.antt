@@ -1,4 +1,4 @@
--- How statements, blocks, functions and programs are read. A statement that holds another needs depth_left for two nodes before its first word.
+-- How statements, blocks, functions and programs are read. A statement that holds another needs depth for two nodes before its first word.
 use Rattle.std.specs.Prelude.{ℕ, zero, suc, ◌+◌, ◌-◌, ◌&&◌, max, not, nat_lt, Bool, true, false, [], ◌∷◌, Option, Some, None, if◌then◌else◌, Ok}
 use Rattle.sl_base.specs.declared.limits.TheConstants.{TREE_DEPTH}
 use Rattle.sl_base.specs.declared.mark.Mark.TheVariants as m
@@ -15,7 +15,8 @@ use Rattle.sl_syntax.specs.Tree.{Expr, Effect, Cond, Declaration, First, Stmt, I
 use Rattle.sl_grammar.specs.Means.Declarations.{scalar_declaration, auto_declaration, container_declaration, params}
 use Rattle.sl_grammar.specs.Means.Effects.{effect, cond}
 use Rattle.sl_grammar.specs.Means.Expressions.{expr}
-use Rattle.sl_grammar.specs.Means.Steps.{Reader, Tall, and_then, ◌>>=◌, ◌>>◌, pure, refuse, only, skip, kind_at, here, is_mark, mark, identifier, all_behind}
+use Rattle.sl_grammar.specs.Means.Steps.{Reader, Tall, and_then, ◌>>=◌, ◌>>◌, pure, refuse, only, skip, kind_at, here, is_mark, mark, identifier}
+use Rattle.sl_grammar.specs.Means.Steps.{all_behind}
 
 abbrev pub is_else : TokenKind → Bool
 is_else k.Else = true
@@ -112,7 +113,8 @@ module _ (inner : Reader (Tall Stmt)) (depth_left : ℕ) where
   optional_cond = λ ts. if is_mark m.Semicolon (kind_at ts) then Ok ((None, 0), ts) else and_then (cond depth_left ts) (λ c. pure (Some c.0, c.1))
 
   unfoldable pub optional_effect : Reader (Tall (Option Effect))
-  optional_effect = λ ts. if is_mark m.RightParenthesis (kind_at ts) then Ok ((None, 0), ts) else and_then (effect depth_left ts) (λ e. pure (Some e.0, e.1))
+  optional_effect =
+      λ ts. if is_mark m.RightParenthesis (kind_at ts) then Ok ((None, 0), ts) else and_then (effect depth_left ts) (λ e. pure (Some e.0, e.1))
 
   -- a `for` behind its first part
   unfoldable pub for_behind : Place → Tall (Option First) → Reader (Tall Stmt)

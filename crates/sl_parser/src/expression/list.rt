@@ -24,7 +24,8 @@ impl<F: Fn(Global, &mut Tokens<'_>, usize, u8) -> Result<(Expr, usize), Fault>> 
     ) -> Result<(Vec<Expr>, usize), Fault>
         requires reader { Nests self.now.depth_left (F.pre self.now.inner) (F.post self.now.inner) }
         requires some { 0 < self.now.depth_left }
-        ensures reads { Reads tall_exprs (listed spec.list_before self.now.depth_left close tokens.old) result tokens.new }
+        ensures reads { Reads tall_exprs (listed spec.list_before self.now.depth_left close tokens.old)
+            result tokens.new }
         ensures low { IfOk result (λ x. x.1 < self.now.depth_left) }
     {
         if tokens.sees(close) {
@@ -54,7 +55,8 @@ impl<F: Fn(Global, &mut Tokens<'_>, usize, u8) -> Result<(Expr, usize), Fault>> 
     ) -> Result<(Vec<Expr>, usize), Fault>
         requires reader { Nests self.now.depth_left (F.pre self.now.inner) (F.post self.now.inner) }
         requires low { first.1 < self.now.depth_left }
-        ensures reads { Reads tall_exprs (listed spec.list_behind self.now.depth_left (tall_expr first) tokens.old) result tokens.new }
+        ensures reads { Reads tall_exprs (listed spec.list_behind self.now.depth_left (tall_expr first) tokens.old)
+            result tokens.new }
         ensures low { IfOk result (λ x. x.1 < self.now.depth_left) }
     {
         let (tree, height) = first;

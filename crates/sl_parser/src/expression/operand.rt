@@ -33,7 +33,8 @@ impl<F: Fn(Global, &mut Tokens<'_>, usize, u8) -> Result<(Expr, usize), Fault>> 
     // An expression that begins with this mark.
     fn marked(&self, tokens: &mut Tokens<'_>, mark: Mark) -> Result<(Expr, usize), Fault>
         requires { Nests self.now.depth_left (F.pre self.now.inner) (F.post self.now.inner) }
-        ensures reads { Reads tall_expr (nested operand_by self.now.depth_left (TokenKind.Mark mark) tokens.old) result tokens.new }
+        ensures reads { Reads tall_expr (nested operand_by self.now.depth_left (TokenKind.Mark mark) tokens.old)
+            result tokens.new }
         ensures low { IfOk result (λ x. x.1 ≤ self.now.depth_left) }
     {
         match mark {
@@ -71,7 +72,8 @@ impl<F: Fn(Global, &mut Tokens<'_>, usize, u8) -> Result<(Expr, usize), Fault>> 
         operator: PrefixOperator,
     ) -> Result<(Expr, usize), Fault>
         requires { Nests self.now.depth_left (F.pre self.now.inner) (F.post self.now.inner) }
-        ensures reads { Reads tall_expr (nested spec.prefixed self.now.depth_left operator tokens.old) result tokens.new }
+        ensures reads { Reads tall_expr (nested spec.prefixed self.now.depth_left operator tokens.old)
+            result tokens.new }
         ensures low { IfOk result (λ x. x.1 ≤ self.now.depth_left) }
     {
         if self.depth_left == 0 {

@@ -16,7 +16,8 @@ impl<F: Fn(Global, &mut Tokens<'_>, usize, u8) -> Result<(Expr, usize), Fault>> 
     #[tactic(auto, unfolding(crate::specs::Means::Reader::from_operand))]
     pub fn from_operand(&self, tokens: &mut Tokens<'_>, least: u8) -> Result<(Expr, usize), Fault>
         requires { Nests self.now.depth_left (F.pre self.now.inner) (F.post self.now.inner) }
-        ensures reads { Reads tall_expr (nested spec.from_operand self.now.depth_left least tokens.old) result tokens.new }
+        ensures reads { Reads tall_expr (nested spec.from_operand self.now.depth_left least tokens.old)
+            result tokens.new }
         ensures low { IfOk result (λ x. x.1 ≤ self.now.depth_left) }
     {
         let first = self.operand(tokens)?;
@@ -62,7 +63,8 @@ impl<F: Fn(Global, &mut Tokens<'_>, usize, u8) -> Result<(Expr, usize), Fault>> 
     ) -> Result<(Expr, usize), Fault>
         requires reader { Nests self.now.depth_left (F.pre self.now.inner) (F.post self.now.inner) }
         requires lower { left.1 < self.now.depth_left }
-        ensures reads { Reads tall_expr (nested spec.operation self.now.depth_left (tall_expr left) tokens.old) result tokens.new }
+        ensures reads { Reads tall_expr (nested spec.operation self.now.depth_left (tall_expr left) tokens.old)
+            result tokens.new }
         ensures low { IfOk result (λ x. x.1 ≤ self.now.depth_left) }
     {
         match infix_of(tokens.kind()) {
@@ -107,7 +109,8 @@ impl<F: Fn(Global, &mut Tokens<'_>, usize, u8) -> Result<(Expr, usize), Fault>> 
     fn piece(&self, tokens: &mut Tokens<'_>, left: (Expr, usize)) -> Result<(Expr, usize), Fault>
         requires reader { Nests self.now.depth_left (F.pre self.now.inner) (F.post self.now.inner) }
         requires lower { left.1 < self.now.depth_left }
-        ensures reads { Reads tall_expr (nested spec.piece self.now.depth_left (tall_expr left) tokens.old) result tokens.new }
+        ensures reads { Reads tall_expr (nested spec.piece self.now.depth_left (tall_expr left) tokens.old)
+            result tokens.new }
         ensures low { IfOk result (λ x. x.1 ≤ self.now.depth_left) }
     {
         match tokens.kind() {
@@ -159,7 +162,8 @@ impl<F: Fn(Global, &mut Tokens<'_>, usize, u8) -> Result<(Expr, usize), Fault>> 
     fn indexed(&self, tokens: &mut Tokens<'_>, left: (Expr, usize)) -> Result<(Expr, usize), Fault>
         requires reader { Nests self.now.depth_left (F.pre self.now.inner) (F.post self.now.inner) }
         requires lower { left.1 < self.now.depth_left }
-        ensures reads { Reads tall_expr (nested spec.indexed self.now.depth_left (tall_expr left) tokens.old) result tokens.new }
+        ensures reads { Reads tall_expr (nested spec.indexed self.now.depth_left (tall_expr left) tokens.old)
+            result tokens.new }
         ensures low { IfOk result (λ x. x.1 ≤ self.now.depth_left) }
     {
         let (tree, height) = left;
@@ -184,7 +188,8 @@ impl<F: Fn(Global, &mut Tokens<'_>, usize, u8) -> Result<(Expr, usize), Fault>> 
     fn dotted(&self, tokens: &mut Tokens<'_>, left: (Expr, usize)) -> Result<(Expr, usize), Fault>
         requires reader { Nests self.now.depth_left (F.pre self.now.inner) (F.post self.now.inner) }
         requires lower { left.1 < self.now.depth_left }
-        ensures reads { Reads tall_expr (nested spec.dotted self.now.depth_left (tall_expr left) tokens.old) result tokens.new }
+        ensures reads { Reads tall_expr (nested spec.dotted self.now.depth_left (tall_expr left) tokens.old)
+            result tokens.new }
         ensures low { IfOk result (λ x. x.1 ≤ self.now.depth_left) }
     {
         let place = tokens.place();
@@ -201,7 +206,8 @@ impl<F: Fn(Global, &mut Tokens<'_>, usize, u8) -> Result<(Expr, usize), Fault>> 
     #[tactic(auto, unfolding(crate::specs::Means::Reader::pointed))]
     fn pointed(&self, tokens: &mut Tokens<'_>, left: (Expr, usize)) -> Result<(Expr, usize), Fault>
         requires lower { left.1 < self.now.depth_left }
-        ensures reads { Reads tall_expr (nested spec.pointed self.now.depth_left (tall_expr left) tokens.old) result tokens.new }
+        ensures reads { Reads tall_expr (nested spec.pointed self.now.depth_left (tall_expr left) tokens.old)
+            result tokens.new }
         ensures low { IfOk result (λ x. x.1 ≤ self.now.depth_left) }
     {
         let place = tokens.place();
@@ -244,7 +250,8 @@ impl<F: Fn(Global, &mut Tokens<'_>, usize, u8) -> Result<(Expr, usize), Fault>> 
     ) -> Result<(Expr, usize), Fault>
         requires reader { Nests self.now.depth_left (F.pre self.now.inner) (F.post self.now.inner) }
         requires lower { left.1 < self.now.depth_left }
-        ensures reads { Reads tall_expr (nested called self.now.depth_left (tall_expr left) function tokens.old) result tokens.new }
+        ensures reads { Reads tall_expr (nested called self.now.depth_left (tall_expr left) function tokens.old)
+            result tokens.new }
         ensures low { IfOk result (λ x. x.1 ≤ self.now.depth_left) }
     {
         let (tree, height) = left;

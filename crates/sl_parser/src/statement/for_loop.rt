@@ -209,7 +209,8 @@ impl<F: Fn(Global, &mut Tokens<'_>, usize) -> Result<Stmt, Fault>> Within<F> {
     #[tactic(auto, unfolding(crate::specs::Means::Reader::optional_cond))]
     fn optional_cond(&self, tokens: &mut Tokens<'_>) -> Result<Option<Cond>, Fault>
         requires { self.now.depth_left < TREE_DEPTH }
-        ensures { Reads tall_optional_cond (within spec.optional_cond self.now.depth_left tokens.old) result tokens.new }
+        ensures { Reads tall_optional_cond (within spec.optional_cond self.now.depth_left tokens.old)
+            result tokens.new }
     {
         if tokens.sees(Mark::Semicolon) {
             return Ok(None);
@@ -222,7 +223,8 @@ impl<F: Fn(Global, &mut Tokens<'_>, usize) -> Result<Stmt, Fault>> Within<F> {
     #[tactic(auto, unfolding(crate::specs::Means::Reader::optional_effect))]
     fn optional_effect(&self, tokens: &mut Tokens<'_>) -> Result<Option<Effect>, Fault>
         requires { self.now.depth_left < TREE_DEPTH }
-        ensures { Reads tall_optional_effect (within spec.optional_effect self.now.depth_left tokens.old) result tokens.new }
+        ensures { Reads tall_optional_effect (within spec.optional_effect self.now.depth_left tokens.old)
+            result tokens.new }
     {
         if tokens.sees(Mark::RightParenthesis) {
             return Ok(None);

@@ -28,7 +28,8 @@ impl<F: Fn(Global, &mut Tokens<'_>, usize) -> Result<Stmt, Fault>> Within<F> {
 
     #[tactic(auto, unfolding(crate::specs::Means::Reader::word_stmt))]
     pub fn continue_stmt(&self, tokens: &mut Tokens<'_>) -> Result<Stmt, Fault>
-        ensures { Reads tall_stmt (within spec.word_stmt self.now.depth_left tree.continue tokens.old) result tokens.new }
+        ensures { Reads tall_stmt (within spec.word_stmt self.now.depth_left tree.continue tokens.old)
+            result tokens.new }
     {
         let place = tokens.place();
         tokens.skip();

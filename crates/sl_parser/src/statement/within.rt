@@ -33,7 +33,8 @@ impl<F: Fn(Global, &mut Tokens<'_>, usize) -> Result<Stmt, Fault>> Within<F> {
     pub fn stmt(&self, tokens: &mut Tokens<'_>) -> Result<Stmt, Fault>
         requires reader { Holds self.now.depth_left (F.pre self.now.inner) (F.post self.now.inner) }
         requires small { self.now.depth_left < TREE_DEPTH }
-        ensures { Reads tall_stmt (within stmt_by self.now.depth_left (kind_at tokens.old) tokens.old) result tokens.new }
+        ensures { Reads tall_stmt (within stmt_by self.now.depth_left (kind_at tokens.old) tokens.old)
+            result tokens.new }
     {
         match tokens.kind() {
             TokenKind::Mark(mark) => self.marked(tokens, mark),

@@ -12,4 +12,6 @@ returns-in_err-list-clause-reads g c =
 
 pub returns-clause-reads : goal.returns-clause-reads
 returns-clause-reads g c =
-    rw c.max.ensures (list_behind-ok _ _ _ _ _ _ _ (sym c.sees.ensures ∙ c.if-not-sees.false) (lt-ltb _ _ (omega arith)) (rw (c.in_ok-push.ensures.items, c.new-list.ensures.items) at c.in_ok-list.ensures.reads))
+    rw c.max.ensures
+    (list_behind-ok _ _ _ _ _ _ _ (sym c.sees.ensures ∙ c.if-not-sees.false) (lt-ltb _ _ (omega arith))
+    (rw (c.in_ok-push.ensures.items, c.new-list.ensures.items) at c.in_ok-list.ensures.reads))

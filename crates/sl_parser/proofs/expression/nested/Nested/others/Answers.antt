@@ -10,7 +10,9 @@ returns-then-not-sees-clause-reads g c = loop-stops _ _ _ _ _ _ _ c.loop-turn.in
 pub returns-in_err-tree-clause-reads : goal.returns-in_err-tree-clause-reads
 returns-in_err-tree-clause-reads g c =
     let p = err_from_is_err_and c.from_residual.result c.from_residual.ensures.1 in
-    rw (p.1, p.2) (λ some. loop-fault _ _ _ _ _ _ _ _ c.loop-turn-test.true c.loop-turn.invariant.1 (sym c.sees.ensures ∙ c.if-not-sees.false) (c.in_err-tree.ensures.reads some))
+    rw (p.1, p.2)
+    (λ some. loop-fault _ _ _ _ _ _ _ _ c.loop-turn-test.true c.loop-turn.invariant.1 (sym c.sees.ensures ∙ c.if-not-sees.false)
+    (c.in_err-tree.ensures.reads some))
 
 pub loop-turn-preserved : goal.loop-turn-preserved
 loop-turn-preserved g c = (
@@ -20,4 +22,5 @@ loop-turn-preserved g c = (
 )
 
 pub returns-then-sees-clause-reads : goal.returns-then-sees-clause-reads
-returns-then-sees-clause-reads g c some = rw c.refuse.ensures (loop-spent _ _ _ _ _ _ _ c.loop-turn-test.false c.loop-turn.invariant.1 (sym c.if-sees.ensures))
+returns-then-sees-clause-reads g c some =
+    rw c.refuse.ensures (loop-spent _ _ _ _ _ _ _ c.loop-turn-test.false c.loop-turn.invariant.1 (sym c.if-sees.ensures))
