@@ -1,5 +1,5 @@
 -- Each warning is of a `*` of the text, and each site that it names is that of a `push_back` before it.
-use Rattle.std.proofs.Common.{arith, ◌≡◌, ℕ, zero, suc, ◌+◌, ◌≤◌, Bool, true, false, List, [], ◌∷◌, ◌++◌, length, drop, Some, ◌⊎◌, inl, inr, refl, ap, sym, ◌∙◌, if◌then◌else◌}
+use Rattle.std.proofs.Common.{arith, ◌≡◌, ℕ, zero, suc, ◌+◌, ◌≤◌, Bool, true, false, List, [], ◌∷◌, ◌++◌, length, drop, Option, Some, None, ◌⊎◌, inl, inr, refl, ap, sym, ◌∙◌, if◌then◌else◌}
 use Rattle.std.specs.Prelude.{slice_get, ◌==◌, Contains}
 use Rattle.sl_base.specs.declared.place.Place.{Place}
 use Rattle.sl_syntax.specs.declared.typed.Stmt.{Stmt}
@@ -7,8 +7,9 @@ use Rattle.sl_syntax.specs.declared.typed.Stmt.TheVariants.{Vector, PushBack, Be
 use Rattle.sl_tool.specs.declared.analysis.Standing.{Standing}
 use Rattle.sl_tool.specs.declared.analysis.Push.{Push}
 use Rattle.sl_tool.specs.declared.analysis.Warning.{Warning}
+use Rattle.sl_tool.specs.declared.analysis.Fault.{Fault}
 use Rattle.sl_tool.specs.declared.analysis.Fault.TheVariants.{InvalidIterator, EndIterator}
-use Rattle.sl_tool.specs.Analysis.{Known, nothing_known, sites_on, killers_of, standing_at, is_filled, invalid_at, end_at, warned, known_after, warnings_of}
+use Rattle.sl_tool.specs.Analysis.{Known, nothing_known, sites_on, killers_of, standing_at, fault_in, told_at, goes_on, warned, known_after, warnings_of}
 use Rattle.sl_tool.specs.Exactness.{IsPushBefore, IsOfNode}
 use Rattle.sl_tool.proofs.Lists.{pushed}
 use Rattle.sl_model.proofs.Getting.{get_drop}
@@ -51,22 +52,29 @@ killer_before stmts n k standing site are h =
     let r = site_of_call standing.vector (drop standing.since k.pushes) site h in
     rw (← r.3) (are (standing.since + r.0) r.1 (sym (get_drop standing.since k.pushes r.0) ∙ r.2))
 
--- the warning of an invalid iterator is of its node
-of_invalid : (stmts : List Stmt) (n it name : ℕ) (place : Place) (killers : List ℕ) (i : ℕ) (w : Warning) → slice_get stmts n ≡ Some (Dereference place it name) → ((site : ℕ) → Contains killers site → IsPushBefore stmts n site)
-    → slice_get (invalid_at place name killers) i ≡ Some w → IsOfNode stmts n w
-of_invalid stmts n it name place [] i w there before h = absurd cc
-of_invalid stmts n it name place (x ∷ xs) zero w there before h =
-    let e : record { place = place; name = name; fault = InvalidIterator (x ∷ xs) } ≡ w = cc in
-    rw (← e) (record { iterator = it; there = there; cause = (omega arith, before) })
-of_invalid stmts n it name place (x ∷ xs) (suc i) w there before h = absurd cc
-
--- the warning of an iterator at the end is of its node
-of_end : (stmts : List Stmt) (n it name : ℕ) (place : Place) (filled : Bool) (i : ℕ) (w : Warning) → slice_get stmts n ≡ Some (Dereference place it name) → slice_get (end_at place name filled) i ≡ Some w → IsOfNode stmts n w
-of_end stmts n it name place true i w there h = absurd cc
-of_end stmts n it name place false zero w there h =
+-- the warning of a fault is of its node
+of_fault : (stmts : List Stmt) (n it name : ℕ) (place : Place) (killers : List ℕ) (at_element : Bool) (i : ℕ) (w : Warning) → slice_get stmts n ≡ Some (Dereference place it name)
+    → ((site : ℕ) → Contains killers site → IsPushBefore stmts n site) → slice_get (told_at place name (fault_in killers at_element)) i ≡ Some w → IsOfNode stmts n w
+of_fault stmts n it name place [] true i w there before h = absurd cc
+of_fault stmts n it name place [] false zero w there before h =
     let e : record { place = place; name = name; fault = EndIterator } ≡ w = cc in
     rw (← e) (record { iterator = it; there = there; cause = tt })
-of_end stmts n it name place false (suc i) w there h = absurd cc
+of_fault stmts n it name place [] false (suc i) w there before h = absurd cc
+of_fault stmts n it name place (x ∷ xs) at_element zero w there before h =
+    let e : record { place = place; name = name; fault = InvalidIterator (x ∷ xs) } ≡ w = cc in
+    rw (← e) (record { iterator = it; there = there; cause = (omega arith, before) })
+of_fault stmts n it name place (x ∷ xs) at_element (suc i) w there before h = absurd cc
+
+-- at most one warning tells of a fault
+pub told_first : (place : Place) (name : ℕ) (fault : Option Fault) (i : ℕ) (w : Warning) → slice_get (told_at place name fault) i ≡ Some w → i ≡ 0
+told_first place name None i w h = absurd cc
+told_first place name (Some fault) zero w h = refl
+told_first place name (Some fault) (suc i) w h = absurd cc
+
+-- what is warned of behind a statement, if a run may go on there
+pub if_more : (may : Bool) (ws : List Warning) (i : ℕ) (w : Warning) → slice_get (if may then ws else []) i ≡ Some w → slice_get ws i ≡ Some w
+if_more true ws i w h = h
+if_more false ws i w h = absurd cc
 
 -- what is warned of at a statement is of its node
 pub of_node : (stmts : List Stmt) (n : ℕ) (k : Known) (s : Stmt) (i : ℕ) (w : Warning) → slice_get stmts n ≡ Some s → ArePushes stmts n k.pushes → slice_get (warned k s) i ≡ Some w → IsOfNode stmts n w
@@ -74,10 +82,8 @@ of_node stmts n k (Vector place) i w there are h = absurd cc
 of_node stmts n k (PushBack place v name site z) i w there are h = absurd cc
 of_node stmts n k (Begin place v name) i w there are h = absurd cc
 of_node stmts n k (Dereference place it name) i w there are h =
-    elim (joined (invalid_at place name (killers_of k (standing_at k it))) (end_at place name (is_filled k (standing_at k it).vector)) i w h) [
-      | inl first ↦ of_invalid stmts n it name place (killers_of k (standing_at k it)) i w there (λ site c. killer_before stmts n k (standing_at k it) site are c) first
-      | inr second ↦ of_end stmts n it name place (is_filled k (standing_at k it).vector) second.0 w there second.2
-    ]
+    let standing : Standing = standing_at k it in
+    of_fault stmts n it name place (killers_of k standing) standing.at_element i w there (λ site c. killer_before stmts n k standing site are c) h
 
 -- one statement more
 pushes_more : (stmts : List Stmt) (n : ℕ) (pushes : List Push) → ArePushes stmts n pushes → ArePushes stmts (suc n) pushes
@@ -98,9 +104,12 @@ pub of_one : (all : List Stmt) (ss : List Stmt) (n : ℕ) (k : Known) → drop n
 of_one all [] n k e are i w h = absurd cc
 of_one all (s ∷ ss) n k e are i w h =
     let there : slice_get all n ≡ Some s = first_behind all n s ss e in
-    elim (joined (warned k s) (warnings_of (known_after k s) ss) i w h) [
+    elim (joined (warned k s) (if goes_on k s then warnings_of (known_after k s) ss else []) i w h) [
       | inl now ↦ (n, omega arith, of_node all n k s i w there are now)
-      | inr later ↦ let r = of_one all ss (suc n) (known_after k s) (rest_behind all n s ss e) (pushes_after all n k s there are) later.0 w later.2 in (r.0, (let le = r.1 in omega arith), r.2)
+      | inr later ↦
+          let more = if_more (goes_on k s) (warnings_of (known_after k s) ss) later.0 w later.2 in
+          let r = of_one all ss (suc n) (known_after k s) (rest_behind all n s ss e) (pushes_after all n k s there are) later.0 w more in
+          (r.0, (let le = r.1 in omega arith), r.2)
     ]
 
 -- each warning is of a node of the text

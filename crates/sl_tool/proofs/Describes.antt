@@ -1,5 +1,5 @@
 -- What is known describes a state of a run.
-use Rattle.std.proofs.Common.{◌≡◌, ℕ, ◌≤◌, false, List, length, Some, ◌⊎◌}
+use Rattle.std.proofs.Common.{◌≡◌, ℕ, ◌≤◌, Bool, false, List, [], length, Some, ◌⊎◌}
 use Rattle.std.specs.Prelude.{slice_get, slice_index_or, nat_lt, Contains}
 use Rattle.sl_base.specs.declared.form.Form.TheVariants as f
 use Rattle.sl_model.specs.Containers.{Memory, Cont, size, killer}
@@ -7,11 +7,19 @@ use Rattle.sl_model.specs.Edits.{numbers}
 use Rattle.sl_model.specs.Good.{IsAt, IsSound}
 use Rattle.sl_model.specs.State.{Frame}
 use Rattle.sl_tool.specs.declared.analysis.Standing.{Standing}
-use Rattle.sl_tool.specs.Analysis.{Known, killers_of}
+use Rattle.sl_tool.specs.Analysis.{Known, is_filled, killers_of}
 
--- an iterator stands at the begin of its vector, or one of the calls since then dropped it
+-- An iterator stands at the begin of its vector, which has elements or hasn't as it was when the iterator was made; where it hadn't, no call
+-- came since.
+pub record Stays (m : Memory) (stamp : ℕ) (filled : Bool) (killers : List ℕ) (standing : Standing) : Type 0 where
+  pub here : IsAt m standing.vector 0 stamp
+  pub same : filled ≡ standing.at_element
+  pub still : standing.at_element ≡ false → killers ≡ []
+
+-- an iterator stays where it was made, or one of the calls since then dropped it
 abbrev pub IsHere : Memory → ℕ → Known → Standing → Type 0
-IsHere m stamp k standing = IsAt m standing.vector 0 stamp ⊎ ((site : ℕ) × (killer m stamp ≡ Some site) × Contains (killers_of k standing) site)
+IsHere m stamp k standing = Stays m stamp (is_filled k standing.vector) (killers_of k standing) standing
+    ⊎ ((site : ℕ) × (killer m stamp ≡ Some site) × Contains (killers_of k standing) site)
 
 pub record Describes (k : Known) (m : Memory) (frame : Frame) (iters : List ℕ) : Type 0 where
   pub sound : IsSound m

@@ -24,9 +24,9 @@ use Rattle.sl_model.specs.Covers.{Tells}
 use Rattle.sl_tool.specs.declared.analysis.Warning.{Warning}
 use Rattle.sl_tool.specs.declared.analysis.Fault.TheVariants.{InvalidIterator}
 use Rattle.sl_tool.specs.declared.analysis.Standing.{Standing}
-use Rattle.sl_tool.specs.Analysis.{Known, killers_of, standing_at, is_filled, with_vector, with_push, with_iterator, found_valid, dereferenced, invalid_at, end_at}
+use Rattle.sl_tool.specs.Analysis.{Known, killers_of, standing_at, is_filled, with_vector, with_push, with_iterator, found_valid, dereferenced, fault_in, told_at}
 use Rattle.sl_tool.specs.Told.{warning_of}
-use Rattle.sl_tool.proofs.Describes.{Describes}
+use Rattle.sl_tool.proofs.Describes.{Describes, Stays}
 use Rattle.sl_tool.proofs.Lists.{there, get_or-there}
 use Rattle.sl_tool.proofs.Calls.{lib-begin, lib-push_back, pushed_back, lib-star_valid, lib-star_invalid, at_element, cont_at-there}
 use Rattle.sl_tool.proofs.Kept.{kept-vector, kept-begin, kept-valid, kept-push, after_push}
@@ -49,10 +49,10 @@ abbrev pub EndsTrapped : List (List ℕ) → Warning → Flow → Type 0
 EndsTrapped names w (Over e s) = IsTrap names w e
 EndsTrapped names w flow = ⊥
 
--- where nothing is warned of, a statement goes on; else the run ends in a trap that the first warning tells of
-abbrev pub GoesOrTraps : List (List ℕ) → Known → ℕ → List Warning → Flow → Type 0
-GoesOrTraps names k n [] flow = GoesOn k n flow
-GoesOrTraps names k n (w ∷ ws) flow = EndsTrapped names w flow
+-- where nothing is warned of, the run may go on behind a statement, and does; else it ends in a trap that the first warning tells of
+abbrev pub GoesOrTraps : List (List ℕ) → Known → ℕ → Bool → List Warning → Flow → Type 0
+GoesOrTraps names k n may [] flow = (may ≡ true) × GoesOn k n flow
+GoesOrTraps names k n may (w ∷ ws) flow = EndsTrapped names w flow
 
 -- where a step is left, it is taken
 pub steps-on : (P : Flow → Type 0) (go : Meaning) (n : ℕ) (s : State) → n + 1 ≤ s.steps → ((m : ℕ) → n ≤ m → P (go (record s { steps = m }))) → P (tick go s)
@@ -137,22 +137,27 @@ star_gone names place name stamp site x xs killers s some e h = record {
 }
 
 -- `*` of an iterator that stands at the begin of its vector, which has elements or hasn't
-star_here : (names : List (List ℕ)) (k : Known) (place : Place) (name it stamp n : ℕ) (standing : Standing) (s : State) (filled : Bool) → IsPlain k n s → slice_get s.iters it ≡ Some stamp → IsAt s.memory standing.vector 0 stamp → is_filled k standing.vector ≡ filled
-    → GoesOrTraps names (found_valid k it standing) n (end_at place name filled) (star_flow place name stamp s (at_element standing.vector 0 (size (cont_at s.memory standing.vector)) s.memory s.picks))
-star_here names k place name it stamp n standing s filled p at here e =
-    let c : Cont = here.cont in
-    subst (λ (d : Cont). GoesOrTraps names (found_valid k it standing) n (end_at place name filled) (star_flow place name stamp s (at_element standing.vector 0 (size d) s.memory s.picks)))
-    (sym (cont_at-there s.memory standing.vector c here.there))
-    (by_filled filled (sym e ∙ p.described.filled standing.vector c here.there))
+star_here : (names : List (List ℕ)) (k : Known) (place : Place) (name it stamp n : ℕ) (standing : Standing) (s : State) (filled : Bool) → IsPlain k n s → slice_get s.iters it ≡ Some stamp
+    → Stays s.memory stamp (is_filled k standing.vector) (killers_of k standing) standing → standing.at_element ≡ filled
+    → GoesOrTraps names (found_valid k it standing) n filled (told_at place name (fault_in [] filled)) (star_flow place name stamp s (at_element standing.vector 0 (size (cont_at s.memory standing.vector)) s.memory s.picks))
+star_here names k place name it stamp n standing s filled p at stays e =
+    let c : Cont = stays.here.cont in
+    subst (λ (d : Cont). GoesOrTraps names (found_valid k it standing) n filled (told_at place name (fault_in [] filled)) (star_flow place name stamp s (at_element standing.vector 0 (size d) s.memory s.picks)))
+    (sym (cont_at-there s.memory standing.vector c stays.here.there))
+    (by_filled filled (sym e ∙ sym stays.same ∙ p.described.filled standing.vector c stays.here.there))
   where
-    by_filled : (b : Bool) → b ≡ nat_lt 0 (size here.cont) → GoesOrTraps names (found_valid k it standing) n (end_at place name b) (star_flow place name stamp s (at_element standing.vector 0 (size here.cont) s.memory s.picks))
-    by_filled true q = rw (ne_eqb 0 (size here.cont) (λ none. let some = ltb-true 0 (size here.cont) (sym q) in omega arith)) (record {
-      described = kept-valid k s.memory s.frame s.iters (s.frame.scalars ++ length s.scalars ∷ []) it stamp standing p.described at here;
-      full = full-valid k s.memory s.iters it standing p.full;
-      picks = p.picks;
-      steps = p.steps;
-    })
-    by_filled false q = rw (eq-eqb 0 (size here.cont) (let none = ltb-false 0 (size here.cont) (sym q) in omega arith))
+    by_filled : (b : Bool) → b ≡ nat_lt 0 (size stays.here.cont)
+        → GoesOrTraps names (found_valid k it standing) n b (told_at place name (fault_in [] b)) (star_flow place name stamp s (at_element standing.vector 0 (size stays.here.cont) s.memory s.picks))
+    by_filled true q = rw (ne_eqb 0 (size stays.here.cont) (λ none. let some = ltb-true 0 (size stays.here.cont) (sym q) in omega arith)) (
+      refl,
+      record {
+        described = kept-valid k s.memory s.frame s.iters (s.frame.scalars ++ length s.scalars ∷ []) it stamp standing p.described at stays;
+        full = full-valid k s.memory s.iters it standing p.full;
+        picks = p.picks;
+        steps = p.steps;
+      },
+    )
+    by_filled false q = rw (eq-eqb 0 (size stays.here.cont) (let none = ltb-false 0 (size stays.here.cont) (sym q) in omega arith))
         (record { place = refl; kind = refl; call = refl; argument = refl; name = refl; killer = λ other r. absurd cc })
 
 -- what the library gives at `*` of an iterator
@@ -161,12 +166,12 @@ star_out stamp s = lib (operator star) (record { site = 0; object = None; values
 
 -- `*` of an iterator, by the calls that are behind its standing
 star_plain : (names : List (List ℕ)) (k : Known) (place : Place) (name it stamp n : ℕ) (standing : Standing) (s : State) (killers : List ℕ) → IsPlain k n s → slice_get s.iters it ≡ Some stamp → slice_get k.iterators it ≡ Some standing → killers_of k standing ≡ killers
-    → GoesOrTraps names (found_valid k it standing) n (invalid_at place name killers ++ end_at place name (is_filled k standing.vector)) (star_flow place name stamp s (star_out stamp s))
+    → GoesOrTraps names (found_valid k it standing) n standing.at_element (told_at place name (fault_in killers standing.at_element)) (star_flow place name stamp s (star_out stamp s))
 star_plain names k place name it stamp n standing s [] p at known no_killers =
-    let here : IsAt s.memory standing.vector 0 stamp = stands_still k s.memory s.frame s.iters it stamp standing p.described at known no_killers in
-    subst (λ (out : LibOut). GoesOrTraps names (found_valid k it standing) n (end_at place name (is_filled k standing.vector)) (star_flow place name stamp s out))
-    (sym (lib-star_valid s.memory stamp standing.vector 0 s.picks (locate-at s.memory standing.vector 0 stamp p.described.sound here)))
-    (star_here names k place name it stamp n standing s (is_filled k standing.vector) p at here refl)
+    let stays : Stays s.memory stamp (is_filled k standing.vector) (killers_of k standing) standing = stands_still k s.memory s.frame s.iters it stamp standing p.described at known no_killers in
+    subst (λ (out : LibOut). GoesOrTraps names (found_valid k it standing) n standing.at_element (told_at place name (fault_in [] standing.at_element)) (star_flow place name stamp s out))
+    (sym (lib-star_valid s.memory stamp standing.vector 0 s.picks (locate-at s.memory standing.vector 0 stamp p.described.sound stays.here)))
+    (star_here names k place name it stamp n standing s standing.at_element p at stays refl)
 star_plain names k place name it stamp n standing s (x ∷ xs) p at known some =
     let gone : IsGone s.memory stamp k standing = p.full.gone it stamp standing at known x xs some in
     subst (λ (out : LibOut). EndsTrapped names (record { place = place; name = name; fault = InvalidIterator (x ∷ xs) }) (star_flow place name stamp s out))
@@ -174,7 +179,7 @@ star_plain names k place name it stamp n standing s (x ∷ xs) p at known some =
     (star_gone names place name stamp gone.0 x xs (killers_of k standing) s some gone.1 gone.2)
 
 pub plain-star : (names : List (List ℕ)) (k : Known) (own : Oracle) (place : Place) (it name n : ℕ) (s : State) → IsPlain k (n + 1) s → it < length k.iterators
-    → GoesOrTraps names (found_valid k it (standing_at k it)) n (dereferenced k place name (standing_at k it)) (exec (world_of own) (stmt_of (Dereference place it name)) s)
+    → GoesOrTraps names (found_valid k it (standing_at k it)) n (standing_at k it).at_element (dereferenced k place name (standing_at k it)) (exec (world_of own) (stmt_of (Dereference place it name)) s)
 plain-star names k own place it name n s p lt =
     let d : Describes k s.memory s.frame s.iters = p.described in
     let standing : Standing = standing_at k it in
@@ -182,9 +187,9 @@ plain-star names k own place it name n s p lt =
     let stamp = there s.iters it (let e = d.iterators in omega arith) in
     let at : iter_of s it ≡ it = located s.frame.iters (length k.iterators) it d.iters_frame lt in
     let same : stamp_of s it ≡ stamp.0 = ap (λ l. get_or s.iters l 0) at ∙ get_or-there s.iters it stamp.0 0 stamp.1 in
-    let is : standing ≡ known.0 = get_or-there k.iterators it known.0 (record { vector = 0; since = 0 }) known.1 in
-    steps-on (GoesOrTraps names (found_valid k it standing) n (dereferenced k place name standing)) (declared (world_of own) (set_scalar t.Int (held (element (free_call (operator star) place (None ∷ Some name ∷ [])) (with (iterator_operand it) none))))) n s p.steps (λ m left.
+    let is : standing ≡ known.0 = get_or-there k.iterators it known.0 (record { vector = 0; at_element = true; since = 0 }) known.1 in
+    steps-on (GoesOrTraps names (found_valid k it standing) n standing.at_element (dereferenced k place name standing)) (declared (world_of own) (set_scalar t.Int (held (element (free_call (operator star) place (None ∷ Some name ∷ [])) (with (iterator_operand it) none))))) n s p.steps (λ m left.
     let now : State = record s { steps = m } in
-    subst (λ (x : ℕ). GoesOrTraps names (found_valid k it standing) n (dereferenced k place name standing) (star_flow place name x now (star_out x now)))
+    subst (λ (x : ℕ). GoesOrTraps names (found_valid k it standing) n standing.at_element (dereferenced k place name standing) (star_flow place name x now (star_out x now)))
     (sym same)
     (star_plain names k place name it stamp.0 n standing now (killers_of k standing) (record { described = d; full = p.full; picks = p.picks; steps = left }) stamp.1 (rw is known.1) refl))

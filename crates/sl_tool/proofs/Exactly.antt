@@ -11,12 +11,12 @@ use Rattle.sl_model.specs.Schedule.{pick}
 use Rattle.sl_model.specs.Good.{IsAt, IsSound}
 use Rattle.sl_model.specs.State.{State, Frame}
 use Rattle.sl_tool.specs.declared.analysis.Standing.{Standing}
-use Rattle.sl_tool.specs.Analysis.{Known, killers_of, with_vector, with_push, with_iterator, found_valid}
-use Rattle.sl_tool.proofs.Describes.{Describes}
+use Rattle.sl_tool.specs.Analysis.{Known, is_filled, killers_of, with_vector, with_push, with_iterator, found_valid}
+use Rattle.sl_tool.proofs.Describes.{Describes, Stays}
 use Rattle.sl_tool.proofs.Killers.{killers_of-more, killers_of-last}
 use Rattle.sl_tool.proofs.NoKillers.{killers_of-new, killers_of-other, none_among}
 use Rattle.sl_tool.proofs.Lists.{pushed, written}
-use Rattle.sl_tool.proofs.Kept.{length-more, push_edit, after_push}
+use Rattle.sl_tool.proofs.Kept.{length-more, valid, push_edit, after_push}
 use Rattle.sl_model.proofs.AfterEdit.{after-killed, after-dead, size-after}
 
 -- one of the calls since an iterator was made dropped it
@@ -38,9 +38,9 @@ pub record IsPlain (k : Known) (n : ℕ) (s : State) : Type 0 where
 
 -- an iterator behind whose standing no call is stands at the begin of its vector
 pub stands_still : (k : Known) (m : Memory) (frame : Frame) (iters : List ℕ) (i stamp : ℕ) (standing : Standing) → Describes k m frame iters
-    → slice_get iters i ≡ Some stamp → slice_get k.iterators i ≡ Some standing → killers_of k standing ≡ [] → IsAt m standing.vector 0 stamp
+    → slice_get iters i ≡ Some stamp → slice_get k.iterators i ≡ Some standing → killers_of k standing ≡ [] → Stays m stamp (is_filled k standing.vector) (killers_of k standing) standing
 stands_still k m frame iters i stamp standing d at known none = elim (d.stands i stamp standing at known) [
-  | inl here ↦ here
+  | inl stays ↦ stays
   | inr dead ↦ absurd (none_among (killers_of k standing) dead.0 none dead.2)
 ]
 
@@ -57,7 +57,7 @@ full-vector k m iters room none d =
 -- A new iterator.
 pub full-begin : (k : Known) (m : Memory) (iters : List ℕ) (v stamp : ℕ) → length iters ≡ length k.iterators → IsFull k m iters → IsFull (with_iterator k v) m (iters ++ stamp ∷ [])
 full-begin k m iters v stamp same d =
-    let new : Standing = record { vector = v; since = length k.pushes } in
+    let new : Standing = record { vector = v; at_element = is_filled k v; since = length k.pushes } in
     record {
       full = d.full;
       few = d.few;
@@ -66,19 +66,19 @@ full-begin k m iters v stamp same d =
           | inl there ↦ d.gone i old standing there before x xs some
           | inr last ↦ absurd (let lt = slice_get_within k.iterators i standing before in let q = last.0 in omega arith)
         ]
-        | inr last ↦ absurd (let e : killers_of k standing ≡ [] = rw last.1 (killers_of-new k v) in cc)
+        | inr last ↦ absurd (let e : killers_of k standing ≡ [] = rw last.1 (killers_of-new k v (is_filled k v)) in cc)
       ];
     }
 
 -- An iterator that was found valid.
 pub full-valid : (k : Known) (m : Memory) (iters : List ℕ) (it : ℕ) (standing : Standing) → IsFull k m iters → IsFull (found_valid k it standing) m iters
 full-valid k m iters it standing d =
-    let new : Standing = record { vector = standing.vector; since = length k.pushes } in
+    let new : Standing = valid k standing in
     record {
       full = d.full;
       few = d.few;
       gone = λ i stamp known_at at known x xs some. elim (written k.iterators it new known_at i known) [
-        | inl same ↦ absurd (let e : killers_of k known_at ≡ [] = rw same.1 (killers_of-new k standing.vector) in cc)
+        | inl same ↦ absurd (let e : killers_of k known_at ≡ [] = rw same.1 (killers_of-new k standing.vector standing.at_element) in cc)
         | inr old ↦ d.gone i stamp known_at at old.1 x xs some
       ];
     }
@@ -121,7 +121,7 @@ full-push k m frame iters v c z picks site d there none h =
         | inr old ↦ let before = h.few j x old.1 in omega arith
       ];
       gone = λ i stamp standing at known x xs some. elim (d.stands i stamp standing at known) [
-        | inl here ↦ ⊎_elim (λ (same : v ≡ standing.vector). gone-own k m v c z picks site stamp standing d.sound there (h.full v c there) same (d.since i standing known) here)
+        | inl stays ↦ ⊎_elim (λ (same : v ≡ standing.vector). gone-own k m v c z picks site stamp standing d.sound there (h.full v c there) same (d.since i standing known) stays.here)
             (λ (other : v ≡ standing.vector → ⊥).
             gone-still k m v c z picks site stamp standing d.sound there (d.since i standing known)
             (h.gone i stamp standing at known x xs (sym (killers_of-other k standing v site other (d.since i standing known)) ∙ some))) (cases_eq v standing.vector)

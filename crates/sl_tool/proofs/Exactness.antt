@@ -1,5 +1,5 @@
 -- The report on a text of the form is exact: the plainest run meets its first warning.
-use Rattle.std.proofs.Common.{arith, ◌≡◌, ℕ, suc, ◌+◌, ◌≤◌, true, false, List, [], ◌∷◌, ◌++◌, length, refl, sym, length-append, add-one}
+use Rattle.std.proofs.Common.{arith, ◌≡◌, ℕ, suc, ◌+◌, ◌≤◌, Bool, true, false, if◌then◌else◌, List, [], ◌∷◌, ◌++◌, length, refl, sym, length-append, add-one}
 use Rattle.std.specs.Prelude.{unwrap_or, All, ◌^◌, ◌<◌}
 use Rattle.std.proofs.Math.ListN.{length-set}
 use Rattle.sl_base.specs.declared.limits.TheConstants.{ELEMENTS, STATEMENTS}
@@ -19,11 +19,12 @@ use Rattle.sl_model.specs.Run.{empty_state, finished, run}
 use Rattle.sl_model.specs.Library.{lib}
 use Rattle.sl_model.specs.Covers.{Tells, Safe, Warning as WarningValue}
 use Rattle.sl_tool.specs.declared.analysis.Warning.{Warning}
-use Rattle.sl_tool.specs.Analysis.{Known, nothing_known, standing_at, warned, warnings_of, with_vector, with_push, with_iterator, found_valid}
+use Rattle.sl_tool.specs.Analysis.{Known, nothing_known, standing_at, is_filled, warned, warnings_of, with_vector, with_push, with_iterator, found_valid}
 use Rattle.sl_tool.specs.Form.{UsesDeclared}
 use Rattle.sl_tool.specs.Told.{report_of, warning_of}
 use Rattle.sl_tool.specs.Exactness.{IsMet, IsExact}
 use Rattle.sl_tool.proofs.Soundness.{same_uses, begins, safe as safe_if_empty}
+use Rattle.sl_tool.proofs.Kept.{valid}
 use Rattle.sl_tool.proofs.Steps.{world_of}
 use Rattle.sl_tool.proofs.Exactly.{IsPlain}
 use Rattle.sl_tool.proofs.ExactSteps.{GoesOn, GoesOrTraps, IsTrap, EndsTrapped, plain-vector, plain-push, plain-begin, plain-star}
@@ -45,10 +46,11 @@ after_trap names w (Returned v s) rest h = absurd h
 after_trap names w (Over e s) rest h = h
 
 -- one statement and then others, by what is warned of at the statement
-goes-or-traps : (names : List (List ℕ)) (k : Known) (n : ℕ) (now later : List Warning) (w : Warning) (ws : List Warning) (flow : Flow) (rest : Meaning) → now ++ later ≡ w ∷ ws → GoesOrTraps names k n now flow
+goes-or-traps : (names : List (List ℕ)) (k : Known) (n : ℕ) (may : Bool) (now later : List Warning) (w : Warning) (ws : List Warning) (flow : Flow) (rest : Meaning)
+    → now ++ (if may then later else []) ≡ w ∷ ws → GoesOrTraps names k n may now flow
     → ((s : State) → IsPlain k n s → later ≡ w ∷ ws → EndsTrapped names w (rest s)) → EndsTrapped names w (and_then flow rest)
-goes-or-traps names k n [] later w ws flow rest e h go = after_on names k n w flow rest h (λ s p. go s p e)
-goes-or-traps names k n (v ∷ vs) later w ws flow rest e h go = let same : v ≡ w = cc in after_trap names w flow rest (rw (← same) h)
+goes-or-traps names k n may [] later w ws flow rest e h go = let next : later ≡ w ∷ ws = rw h.0 at e in after_on names k n w flow rest h.1 (λ s p. go s p next)
+goes-or-traps names k n may (v ∷ vs) later w ws flow rest e h go = let same : v ≡ w = cc in after_trap names w flow rest (rw (← same) h)
 
 -- a statement more to come
 one_more : (k : Known) (n : ℕ) (s : State) → IsPlain k (suc n) s → IsPlain k (n + 1) s
@@ -59,17 +61,17 @@ walk_exact : (names : List (List ℕ)) (own : Oracle) (ss : List Stmt) (k : Know
     → EndsTrapped names w (exec_all (world_of own) (stmts_of ss) s)
 walk_exact names own [] k s w ws p u few e = absurd cc
 walk_exact names own (Vector place ∷ ss) k s w ws p u few e =
-    goes-or-traps names (with_vector k) (length ss) [] (warnings_of (with_vector k) ss) w ws (exec (world_of own) (stmt_of (Vector place)) s) (exec_all (world_of own) (stmts_of ss)) e (plain-vector k own place (length ss) s (one_more k (length ss) s p))
+    goes-or-traps names (with_vector k) (length ss) true [] (warnings_of (with_vector k) ss) w ws (exec (world_of own) (stmt_of (Vector place)) s) (exec_all (world_of own) (stmts_of ss)) e (refl, plain-vector k own place (length ss) s (one_more k (length ss) s p))
     (λ t q r. walk_exact names own ss (with_vector k) t w ws q (same_uses _ _ _ _ ss (sym (length-append k.filled (false ∷ []))) refl u) (omega arith) r)
 walk_exact names own (PushBack place v name site z ∷ ss) k s w ws p u few e =
-    goes-or-traps names (with_push k v site) (length ss) [] (warnings_of (with_push k v site) ss) w ws (exec (world_of own) (stmt_of (PushBack place v name site z)) s) (exec_all (world_of own) (stmts_of ss)) e (plain-push k own place v name site z (length ss) s (one_more k (length ss) s p) u.0 (omega arith))
+    goes-or-traps names (with_push k v site) (length ss) true [] (warnings_of (with_push k v site) ss) w ws (exec (world_of own) (stmt_of (PushBack place v name site z)) s) (exec_all (world_of own) (stmts_of ss)) e (refl, plain-push k own place v name site z (length ss) s (one_more k (length ss) s p) u.0 (omega arith))
     (λ t q r. walk_exact names own ss (with_push k v site) t w ws q (same_uses _ _ _ _ ss (sym (length-set k.filled v true)) refl u.1) (let more = length-append k.pushes (record { vector = v; site = site } ∷ []) in omega arith) r)
 walk_exact names own (Begin place v name ∷ ss) k s w ws p u few e =
-    goes-or-traps names (with_iterator k v) (length ss) [] (warnings_of (with_iterator k v) ss) w ws (exec (world_of own) (stmt_of (Begin place v name)) s) (exec_all (world_of own) (stmts_of ss)) e (plain-begin k own place v name (length ss) s (one_more k (length ss) s p) u.0)
-    (λ t q r. walk_exact names own ss (with_iterator k v) t w ws q (same_uses _ _ _ _ ss refl (sym (length-append k.iterators (record { vector = v; since = length k.pushes } ∷ []))) u.1) (omega arith) r)
+    goes-or-traps names (with_iterator k v) (length ss) true [] (warnings_of (with_iterator k v) ss) w ws (exec (world_of own) (stmt_of (Begin place v name)) s) (exec_all (world_of own) (stmts_of ss)) e (refl, plain-begin k own place v name (length ss) s (one_more k (length ss) s p) u.0)
+    (λ t q r. walk_exact names own ss (with_iterator k v) t w ws q (same_uses _ _ _ _ ss refl (sym (length-append k.iterators (record { vector = v; at_element = is_filled k v; since = length k.pushes } ∷ []))) u.1) (omega arith) r)
 walk_exact names own (Dereference place it name ∷ ss) k s w ws p u few e =
-    goes-or-traps names (found_valid k it (standing_at k it)) (length ss) (warned k (Dereference place it name)) (warnings_of (found_valid k it (standing_at k it)) ss) w ws (exec (world_of own) (stmt_of (Dereference place it name)) s) (exec_all (world_of own) (stmts_of ss)) e (plain-star names k own place it name (length ss) s (one_more k (length ss) s p) u.0)
-    (λ t q r. walk_exact names own ss (found_valid k it (standing_at k it)) t w ws q (same_uses _ _ _ _ ss refl (sym (length-set k.iterators it (record { vector = (standing_at k it).vector; since = length k.pushes }))) u.1) (omega arith) r)
+    goes-or-traps names (found_valid k it (standing_at k it)) (length ss) (standing_at k it).at_element (warned k (Dereference place it name)) (warnings_of (found_valid k it (standing_at k it)) ss) w ws (exec (world_of own) (stmt_of (Dereference place it name)) s) (exec_all (world_of own) (stmts_of ss)) e (plain-star names k own place it name (length ss) s (one_more k (length ss) s p) u.0)
+    (λ t q r. walk_exact names own ss (found_valid k it (standing_at k it)) t w ws q (same_uses _ _ _ _ ss refl (sym (length-set k.iterators it (valid k (standing_at k it)))) u.1) (omega arith) r)
 
 -- the end of `main` is that of its body
 finished_trap : (names : List (List ℕ)) (w : Warning) (f : Function) (before start : State) (site : ℕ) (flow : Flow) → EndsTrapped names w flow → IsTrap names w (finished (called true f before (scoped site start flow))).end

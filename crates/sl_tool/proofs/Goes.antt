@@ -1,5 +1,5 @@
 -- Where a statement goes: on to a state that is described, or to an end that is told.
-use Rattle.std.proofs.Common.{arith, ◌≡◌, ℕ, zero, suc, List, [], ◌∷◌, ◌++◌, length, ◌+◌, Some, ap, ◌∙◌}
+use Rattle.std.proofs.Common.{arith, ◌≡◌, ℕ, zero, suc, Bool, true, if◌then◌else◌, List, [], ◌∷◌, ◌++◌, length, ◌+◌, Some, ap, ◌∙◌}
 use Rattle.std.specs.Prelude.{slice_get}
 use Rattle.std.proofs.lemmas.List.{map-append}
 use Rattle.sl_model.specs.Ends.{Trap, End, Done, Trapped, OutOfSteps, Language, Thrown, NoMeaning}
@@ -17,13 +17,13 @@ IsTold names ws (Trapped t) = Covers names (report_of names ws) t
 IsTold names ws (NoMeaning place) = ⊥
 IsTold names ws end = Unit {0}
 
--- what is known next describes the state that a statement goes on to, and each end is told
-abbrev pub Goes : List (List ℕ) → Known → List Warning → Flow → Type 0
-Goes names k ws (Next s) = Describes k s.memory s.frame s.iters
-Goes names k ws (Over e s) = IsTold names ws e
-Goes names k ws (Broke s) = Unit {0}
-Goes names k ws (Continued s) = Unit {0}
-Goes names k ws (Returned v s) = Unit {0}
+-- a run goes on behind a statement only if it may, and what is known next describes its state then; each end is told
+abbrev pub Goes : List (List ℕ) → Known → Bool → List Warning → Flow → Type 0
+Goes names k may ws (Next s) = (may ≡ true) × Describes k s.memory s.frame s.iters
+Goes names k may ws (Over e s) = IsTold names ws e
+Goes names k may ws (Broke s) = Unit {0}
+Goes names k may ws (Continued s) = Unit {0}
+Goes names k may ws (Returned v s) = Unit {0}
 
 -- each end is told
 abbrev pub EndsTold : List (List ℕ) → List Warning → Flow → Type 0
@@ -31,8 +31,10 @@ EndsTold names ws (Over e s) = IsTold names ws e
 EndsTold names ws flow = Unit {0}
 
 -- a step is taken, or the run is out of steps
-pub ticked : (names : List (List ℕ)) (k : Known) (ws : List Warning) (go : Meaning) (s : State) → ((n : ℕ) → Goes names k ws (go (record s { steps = n }))) → Goes names k ws (tick go s)
-ticked names k ws go s next = elim s.steps as (λ n. Goes names k ws (elim n as (λ _. Flow) [ zero ↦ Over OutOfSteps s | suc m ↦ go (record s { steps = m }) ])) [ zero ↦ tt | suc n ↦ next n ]
+pub ticked : (names : List (List ℕ)) (k : Known) (may : Bool) (ws : List Warning) (go : Meaning) (s : State)
+    → ((n : ℕ) → Goes names k may ws (go (record s { steps = n }))) → Goes names k may ws (tick go s)
+ticked names k may ws go s next =
+    elim s.steps as (λ n. Goes names k may ws (elim n as (λ _. Flow) [ zero ↦ Over OutOfSteps s | suc m ↦ go (record s { steps = m }) ])) [ zero ↦ tt | suc n ↦ next n ]
 
 pub get-left : {A : Type 0} (xs ys : List A) (x : A) (i : ℕ) → slice_get xs i ≡ Some x → slice_get (xs ++ ys) i ≡ Some x
 get-left [] ys x i h = absurd cc
@@ -84,10 +86,10 @@ EndsTold-right names ws vs (Returned v s) h = tt
 EndsTold-right names ws vs (Over e s) h = IsTold-right names ws vs e h
 
 -- one statement and then others
-pub goes-on : (names : List (List ℕ)) (k : Known) (ws vs : List Warning) (flow : Flow) (rest : Meaning) → Goes names k ws flow
-    → ((s : State) → Describes k s.memory s.frame s.iters → EndsTold names vs (rest s)) → EndsTold names (ws ++ vs) (and_then flow rest)
-goes-on names k ws vs (Next s) rest h go = EndsTold-right names ws vs (rest s) (go s h)
-goes-on names k ws vs (Broke s) rest h go = tt
-goes-on names k ws vs (Continued s) rest h go = tt
-goes-on names k ws vs (Returned v s) rest h go = tt
-goes-on names k ws vs (Over e s) rest h go = IsTold-left names ws vs e h
+pub goes-on : (names : List (List ℕ)) (k : Known) (may : Bool) (ws vs : List Warning) (flow : Flow) (rest : Meaning) → Goes names k may ws flow
+    → ((s : State) → Describes k s.memory s.frame s.iters → EndsTold names vs (rest s)) → EndsTold names (ws ++ (if may then vs else [])) (and_then flow rest)
+goes-on names k may ws vs (Next s) rest h go = rw h.0 (EndsTold-right names ws vs (rest s) (go s h.1))
+goes-on names k may ws vs (Broke s) rest h go = tt
+goes-on names k may ws vs (Continued s) rest h go = tt
+goes-on names k may ws vs (Returned v s) rest h go = tt
+goes-on names k may ws vs (Over e s) rest h go = IsTold-left names ws (if may then vs else []) e h

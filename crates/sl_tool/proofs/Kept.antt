@@ -16,9 +16,10 @@ use Rattle.sl_model.specs.Good.{IsAt, IsSound}
 use Rattle.sl_model.specs.State.{Frame}
 use Rattle.sl_model.specs.Rows.{insertion}
 use Rattle.sl_tool.specs.declared.analysis.Standing.{Standing}
-use Rattle.sl_tool.specs.Analysis.{Known, with_vector, with_push, with_iterator, found_valid}
-use Rattle.sl_tool.proofs.Describes.{Describes, IsHere}
+use Rattle.sl_tool.specs.Analysis.{Known, is_filled, killers_of, with_vector, with_push, with_iterator, found_valid}
+use Rattle.sl_tool.proofs.Describes.{Describes, IsHere, Stays}
 use Rattle.sl_tool.proofs.Killers.{killers_of-more, killers_of-last}
+use Rattle.sl_tool.proofs.NoKillers.{killers_of-new, killers_of-other}
 use Rattle.sl_tool.proofs.Lists.{pushed, written, there, numbers-more}
 use Rattle.sl_tool.proofs.Calls.{cont_at-there}
 use Rattle.sl_model.proofs.Making.{made-sound, made-at}
@@ -48,7 +49,12 @@ kept-vector k m frame iters room d =
         | inr last ↦ rw (last.0 ∙ d.vectors, last.1) (get_or-append_seam k.filled false [] false)
       ];
       stands = λ i stamp standing at known. elim (d.stands i stamp standing at known) [
-        | inl here ↦ inl (made-at f.Vector room m standing.vector 0 stamp here)
+        | inl stays ↦ inl (record {
+          here = made-at f.Vector room m standing.vector 0 stamp stays.here;
+          same = get_or_append_left k.filled (false ∷ []) false standing.vector
+              (let lt = slice_get_within m.conts standing.vector stays.here.cont stays.here.there in let e = d.vectors in omega arith) ∙ stays.same;
+          still = stays.still;
+        })
         | inr dead ↦ inr dead
       ];
       since = d.since;
@@ -66,7 +72,7 @@ begin_at m j c h = record { cont = c; there = h; stands = first c.cells ∙ ap (
 pub kept-begin : (k : Known) (m : Memory) (frame : Frame) (iters : List ℕ) (v : ℕ) (c : Cont) → Describes k m frame iters → slice_get m.conts v ≡ Some c
     → Describes (with_iterator k v) m (record frame { iters = frame.iters ++ length iters ∷ [] }) (iters ++ begin_of m v ∷ [])
 kept-begin k m frame iters v c d there =
-    let new : Standing = record { vector = v; since = length k.pushes } in
+    let new : Standing = record { vector = v; at_element = is_filled k v; since = length k.pushes } in
     record {
       sound = d.sound;
       vectors = d.vectors;
@@ -82,20 +88,28 @@ kept-begin k m frame iters v c d there =
         ]
         | inr end ↦ elim (pushed k.iterators new standing i known) [
           | inl before ↦ absurd (let lt = slice_get_within k.iterators i standing before in let e = d.iterators in let q = end.0 in omega arith)
-          | inr last ↦ inl (rw (last.1, end.1) (begin_at m v c there))
+          | inr last ↦ inl (rw (last.1, end.1) (record { here = begin_at m v c there; same = refl; still = λ e. killers_of-new k v (is_filled k v) }))
         ]
       ];
       since = λ i standing known. elim (pushed k.iterators new standing i known) [ inl before ↦ d.since i standing before | inr last ↦ rw last.1 (omega arith) ];
     }
 
-same_stamp : (m : Memory) (v : ℕ) (standing : Standing) (iters : List ℕ) (it i stamp other : ℕ) → slice_get iters it ≡ Some stamp → slice_get iters it ≡ Some other → standing.vector ≡ v → IsAt m v 0 stamp → IsAt m standing.vector 0 other
-same_stamp m v standing iters it i stamp other p q e h = let same : stamp ≡ other = cc in rw e (rw same at h)
+-- the standing of an iterator that was found valid
+abbrev pub valid : Known → Standing → Standing
+valid k standing = record { vector = standing.vector; at_element = standing.at_element; since = length k.pushes }
+
+-- it stays where it was
+stays_valid : (k : Known) (m : Memory) (standing other : Standing) (iters : List ℕ) (it stamp also : ℕ) → slice_get iters it ≡ Some stamp → slice_get iters it ≡ Some also → other ≡ valid k standing
+    → Stays m stamp (is_filled k standing.vector) (killers_of k standing) standing → Stays m also (is_filled k other.vector) (killers_of k other) other
+stays_valid k m standing other iters it stamp also p q e stays =
+    let same : also ≡ stamp = cc in
+    rw (e, same) (record { here = stays.here; same = stays.same; still = λ none. killers_of-new k standing.vector standing.at_element })
 
 -- An iterator that was found valid.
-pub kept-valid : (k : Known) (m : Memory) (frame : Frame) (iters scalars : List ℕ) (it stamp : ℕ) (standing : Standing) → Describes k m frame iters → slice_get iters it ≡ Some stamp → IsAt m standing.vector 0 stamp
-    → Describes (found_valid k it standing) m (record frame { scalars = scalars }) iters
-kept-valid k m frame iters scalars it stamp standing d at here =
-    let new : Standing = record { vector = standing.vector; since = length k.pushes } in
+pub kept-valid : (k : Known) (m : Memory) (frame : Frame) (iters scalars : List ℕ) (it stamp : ℕ) (standing : Standing) → Describes k m frame iters → slice_get iters it ≡ Some stamp
+    → Stays m stamp (is_filled k standing.vector) (killers_of k standing) standing → Describes (found_valid k it standing) m (record frame { scalars = scalars }) iters
+kept-valid k m frame iters scalars it stamp standing d at stays =
+    let new : Standing = valid k standing in
     record {
       sound = d.sound;
       vectors = d.vectors;
@@ -105,7 +119,7 @@ kept-valid k m frame iters scalars it stamp standing d at here =
       forms = d.forms;
       filled = d.filled;
       stands = λ i other known_at at_i known. elim (written k.iterators it new known_at i known) [
-        | inl same ↦ inl (same_stamp m standing.vector known_at iters it i stamp other at (rw same.0 at at_i) (ap (λ (x : Standing). x.vector) same.1) here)
+        | inl same ↦ inl (stays_valid k m standing known_at iters it stamp other at (rw same.0 at at_i) same.1 stays)
         | inr old ↦ d.stands i other known_at at_i old.1
       ];
       since = λ i known_at known. elim (written k.iterators it new known_at i known) [ inl same ↦ rw same.1 (omega arith) | inr old ↦ d.since i known_at old.1 ];
@@ -123,20 +137,38 @@ after_push m v c z picks site = after (change_of VectorInsert c (push_edit c z p
 begin_survives : (n room : ℕ) → vector_insert_kills n room n 1 0 ≡ false → 0 < n
 begin_survives n room h = grind (arith, nat_tests)
 
+-- a vector has elements behind a `push_back`
+filled-own : (k : Known) (v x : ℕ) (site : ℕ) → v < length k.filled → v ≡ x → is_filled (with_push k v site) x ≡ true
+filled-own k v x site lt same = rw (← same) (get_or-set_same k.filled v true false lt)
+
 -- An iterator behind a `push_back` of its vector.
-here-own : (k : Known) (m : Memory) (v : ℕ) (c : Cont) (z : ℤ) (picks : List ℕ) (site stamp : ℕ) (standing : Standing) → IsSound m → slice_get m.conts v ≡ Some c → v ≡ standing.vector → standing.since ≤ length k.pushes → IsAt m standing.vector 0 stamp
-    → IsHere (after_push m v c z picks site) stamp (with_push k v site) standing
-here-own k m v c z picks site stamp standing sound there same since here = by_kill (kills VectorInsert (size c) c.room (push_edit c z picks) 0) refl
+here-own : (k : Known) (m : Memory) (v : ℕ) (c : Cont) (z : ℤ) (picks : List ℕ) (site stamp : ℕ) (standing : Standing) → IsSound m → slice_get m.conts v ≡ Some c → v < length k.filled → is_filled k v ≡ nat_lt 0 (size c)
+    → v ≡ standing.vector → standing.since ≤ length k.pushes → Stays m stamp (is_filled k standing.vector) (killers_of k standing) standing → IsHere (after_push m v c z picks site) stamp (with_push k v site) standing
+here-own k m v c z picks site stamp standing sound there lt filled same since stays = by_kill (kills VectorInsert (size c) c.room (push_edit c z picks) 0) refl
   where
     at : IsAt m v 0 stamp
-    at = rw same here
+    at = rw same stays.here
 
     by_kill : (b : Bool) → kills VectorInsert (size c) c.room (push_edit c z picks) 0 ≡ b → IsHere (after_push m v c z picks site) stamp (with_push k v site) standing
     by_kill true e = inr (site, after-killed VectorInsert m v 0 stamp c (push_edit c z picks) site sound there at e, rw same (killers_of-last k standing site since))
     by_kill false e =
         let some : 0 < size c = begin_survives (size c) c.room e in
         let first : shifted (push_edit c z picks) 0 ≡ 0 = cond-true (nat_lt 0 (size c)) 0 1 (lt-ltb 0 (size c) some) in
-        inl (rw (← same) (rw first at (after-at-own VectorInsert m v 0 stamp c (push_edit c z picks) site there at (omega arith) e (inl some))))
+        let element : standing.at_element ≡ true = sym stays.same ∙ ap (is_filled k) (sym same) ∙ filled ∙ lt-ltb 0 (size c) some in
+        inl (record {
+          here = rw (← same) (rw first at (after-at-own VectorInsert m v 0 stamp c (push_edit c z picks) site there at (omega arith) e (inl some)));
+          same = filled-own k v standing.vector site lt same ∙ sym element;
+          still = λ none. absurd (let no : true ≡ false = sym element ∙ none in cc);
+        })
+
+-- An iterator behind a `push_back` of another vector.
+here-other : (k : Known) (m : Memory) (v : ℕ) (c : Cont) (z : ℤ) (picks : List ℕ) (site stamp : ℕ) (standing : Standing) → (v ≡ standing.vector → ⊥) → standing.since ≤ length k.pushes
+    → Stays m stamp (is_filled k standing.vector) (killers_of k standing) standing → IsHere (after_push m v c z picks site) stamp (with_push k v site) standing
+here-other k m v c z picks site stamp standing other since stays = inl (record {
+  here = after-at-other VectorInsert m v standing.vector 0 stamp c (push_edit c z picks) site other stays.here;
+  same = get_or-set_other k.filled v standing.vector true false (λ e. other (sym e)) ∙ stays.same;
+  still = λ none. killers_of-other k standing v site other since ∙ stays.still none;
+})
 
 -- A `push_back`.
 pub kept-push : (k : Known) (m : Memory) (frame : Frame) (iters : List ℕ) (v : ℕ) (c : Cont) (z : ℤ) (picks : List ℕ) (site : ℕ) → Describes k m frame iters → slice_get m.conts v ≡ Some c → size c + 1 ≤ ELEMENTS
@@ -155,8 +187,11 @@ kept-push k m frame iters v c z picks site d there few =
         | inr old ↦ get_or-set_other k.filled v j true false (λ e. old.0 (sym e)) ∙ d.filled j x old.1
       ];
       stands = λ i stamp standing at known. elim (d.stands i stamp standing at known) [
-        | inl here ↦ ⊎_elim (λ (same : v ≡ standing.vector). here-own k m v c z picks site stamp standing d.sound there same (d.since i standing known) here)
-            (λ (other : v ≡ standing.vector → ⊥). inl (after-at-other VectorInsert m v standing.vector 0 stamp c (push_edit c z picks) site other here)) (cases_eq v standing.vector)
+        | inl stays ↦ ⊎_elim
+            (λ (same : v ≡ standing.vector).
+            here-own k m v c z picks site stamp standing d.sound there (let lt = slice_get_within m.conts v c there in let e = d.vectors in omega arith) (d.filled v c there) same
+            (d.since i standing known) stays)
+            (λ (other : v ≡ standing.vector → ⊥). here-other k m v c z picks site stamp standing other (d.since i standing known) stays) (cases_eq v standing.vector)
         | inr dead ↦ inr (dead.0, after-dead VectorInsert m v stamp dead.0 c (push_edit c z picks) site d.sound there dead.1, killers_of-more k standing v site dead.0 (d.since i standing known) dead.2)
       ];
       since = λ i standing known. let old = d.since i standing known in let more = length-more k.pushes (record { vector = v; site = site }) in omega arith;

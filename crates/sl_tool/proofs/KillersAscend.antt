@@ -5,12 +5,13 @@ use Rattle.sl_base.specs.declared.place.Place.{Place}
 use Rattle.sl_base.specs.declared.token.Token.{Token}
 use Rattle.sl_tool.specs.declared.analysis.Push.{Push}
 use Rattle.sl_tool.specs.declared.analysis.Standing.{Standing}
+use Rattle.sl_tool.specs.declared.analysis.Fault.TheVariants.{InvalidIterator, EndIterator}
 use Rattle.sl_tool.specs.declared.analysis.Warning.{Warning}
-use Rattle.sl_tool.specs.Analysis.{Known, nothing_known, sites_on, killers_of, standing_at, is_filled, invalid_at, end_at, with_vector, with_push, with_iterator, found_valid, warnings_of}
+use Rattle.sl_tool.specs.Analysis.{Known, nothing_known, sites_on, killers_of, standing_at, fault_in, told_at, dereferenced, with_vector, with_push, with_iterator, found_valid, warnings_of}
 use Rattle.sl_tool.specs.Told.{killers_in}
 use Rattle.sl_tool.specs.Form.{Item, vector_item, push_back_item, begin_item, dereference_item, item_words, Scope, no_scope, after_item, place_in, number_of_name, typed_items}
 use Rattle.sl_tool.specs.Exactness.{Ascend}
-use Rattle.sl_tool.proofs.Causes.{joined}
+use Rattle.sl_tool.proofs.Causes.{joined, if_more}
 use Rattle.sl_tool.proofs.Kept.{length-more}
 use Rattle.sl_tool.proofs.Lists.{pushed}
 use Rattle.sl_model.proofs.Getting.{get_drop}
@@ -54,23 +55,20 @@ ascend_killers k standing h = sites_ascend standing.vector (drop standing.since 
     let b = h (standing.since + j) q (sym (get_drop standing.since k.pushes j) ∙ y) in
     omega arith)
 
+no_sites : Ascend []
+no_sites i j a b lt x y = absurd cc
+
 -- the killers that are told of ascend
-ascend_told : (place : Place) (name : ℕ) (killers : List ℕ) (i : ℕ) (w : Warning) → Ascend killers → slice_get (invalid_at place name killers) i ≡ Some w → Ascend (killers_in w.fault)
-ascend_told place name [] i w h e = absurd cc
-ascend_told place name (x ∷ xs) zero w h e = rw (← same_warning _ w e) h
-  where
-    same_warning : (v w : Warning) → Some v ≡ Some w → v ≡ w
-    same_warning v w e = cc
-ascend_told place name (x ∷ xs) (suc i) w h e = absurd cc
-
-no_killers : (place : Place) (name : ℕ) (filled : Bool) (i : ℕ) (w : Warning) → slice_get (end_at place name filled) i ≡ Some w → killers_in w.fault ≡ []
-no_killers place name true i w e = absurd cc
-no_killers place name false zero w e = let same : Some (killers_in w.fault) ≡ Some [] = cc in cc
-no_killers place name false (suc i) w e = absurd cc
-
-ascend_none : (ns : List ℕ) → ns ≡ [] → Ascend ns
-ascend_none [] e = λ i j a b lt x y. absurd cc
-ascend_none (n ∷ ns) e = absurd cc
+ascend_told : (place : Place) (name : ℕ) (killers : List ℕ) (at_element : Bool) (i : ℕ) (w : Warning) → Ascend killers → slice_get (told_at place name (fault_in killers at_element)) i ≡ Some w → Ascend (killers_in w.fault)
+ascend_told place name [] true i w h e = absurd cc
+ascend_told place name [] false zero w h e =
+    let same : record { place = place; name = name; fault = EndIterator } ≡ w = cc in
+    rw (← same) no_sites
+ascend_told place name [] false (suc i) w h e = absurd cc
+ascend_told place name (x ∷ xs) at_element zero w h e =
+    let same : record { place = place; name = name; fault = InvalidIterator (x ∷ xs) } ≡ w = cc in
+    rw (← same) h
+ascend_told place name (x ∷ xs) at_element (suc i) w h e = absurd cc
 
 -- one call more, which has the next number
 numbered_more : (k : Known) (v site : ℕ) → length k.pushes ≡ site → AreNumbered k.pushes → AreNumbered (with_push k v site).pushes
@@ -93,13 +91,10 @@ ascend_in s tokens (dereference_item a b ∷ is) k e h i w at =
     let name = number_of_name s.names b in
     let standing : Standing = standing_at k it in
     let rest : List Token = drop (length (item_words (dereference_item a b))) tokens in
-    let now : List Warning = invalid_at place name (killers_of k standing) ++ end_at place name (is_filled k standing.vector) in
-    elim (joined now (warnings_of (found_valid k it standing) (typed_items (after_item s (dereference_item a b)) rest is)) i w at) [
-      | inl here ↦ elim (joined (invalid_at place name (killers_of k standing)) (end_at place name (is_filled k standing.vector)) i w here) [
-        | inl first ↦ ascend_told place name (killers_of k standing) i w (ascend_killers k standing h) first
-        | inr second ↦ ascend_none (killers_in w.fault) (no_killers place name (is_filled k standing.vector) second.0 w second.2)
-      ]
-      | inr later ↦ ascend_in (after_item s (dereference_item a b)) rest is (found_valid k it standing) e h later.0 w later.2
+    let later : List Warning = warnings_of (found_valid k it standing) (typed_items (after_item s (dereference_item a b)) rest is) in
+    elim (joined (dereferenced k place name standing) (if standing.at_element then later else []) i w at) [
+      | inl here ↦ ascend_told place name (killers_of k standing) standing.at_element i w (ascend_killers k standing h) here
+      | inr more ↦ ascend_in (after_item s (dereference_item a b)) rest is (found_valid k it standing) e h more.0 w (if_more standing.at_element later more.0 w more.2)
     ]
 
 -- the killers of each warning of a body ascend

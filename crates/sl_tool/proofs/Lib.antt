@@ -1,4 +1,6 @@
+pub mod RefusalLaws
 pub mod AnswerLaws
+pub mod OutcomeLaws
 pub mod Describes
 pub mod Lists
 pub mod Goes

@@ -14,8 +14,8 @@ none_among [] x e h = let lt = h.1 in omega arith
 none_among (y ∷ xs) x e h = absurd cc
 
 -- no call is behind all of them
-pub killers_of-new : (k : Known) (v : ℕ) → killers_of k (record { vector = v; since = length k.pushes }) ≡ []
-killers_of-new k v = ap (sites_on v) (drop_all (length k.pushes) k.pushes (omega arith))
+pub killers_of-new : (k : Known) (v : ℕ) (at_element : Bool) → killers_of k (record { vector = v; at_element = at_element; since = length k.pushes }) ≡ []
+killers_of-new k v at_element = ap (sites_on v) (drop_all (length k.pushes) k.pushes (omega arith))
 
 -- a call on another vector is no site on this one
 sites_on-other : (v : ℕ) (ps : List Push) (q : Push) → q.vector ≢ v → sites_on v (ps ++ q ∷ []) ≡ sites_on v ps

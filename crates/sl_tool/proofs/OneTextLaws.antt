@@ -1,24 +1,33 @@
--- What is read of a text is one thing alone.
-use Rattle.std.proofs.Common.{◌≡◌, ℕ, List, [], ◌∷◌, ◌++◌, length, drop, refl, sym, ap, ◌∙◌, subst, append_assoc, Result, Ok, Err, IfOk}
+-- A text has one answer alone.
+use Rattle.std.proofs.Common.{◌≡◌, ◌≤◌, ℕ, List, [], ◌∷◌, ◌++◌, length, drop, refl, sym, ap, ◌∙◌, subst, arith, append_assoc, Result, Ok, Err, IfOk, MatchResult}
 use Rattle.std.proofs.Math.Seq.{drop-append_seam}
 use Rattle.std.specs.List.{flat_map}
+use Rattle.std.specs.Prelude.{codes}
 use Rattle.std.specs.declared.alloc.AllocError.{AllocError}
+use Rattle.sl_base.specs.declared.limits.TheConstants.{TEXT_BYTES}
 use Rattle.sl_base.specs.declared.mark.Mark.TheVariants.{RightBrace}
+use Rattle.sl_base.specs.declared.place.Place.{Place}
 use Rattle.sl_base.specs.declared.token.Token.{Token}
 use Rattle.sl_base.specs.declared.word.Word.{Word}
 use Rattle.sl_base.specs.declared.word.Word.TheVariants.{Mark}
 use Rattle.sl_lexer.proofs.CutLaws.{one_tokens, not_both, one_fault}
-use Rattle.sl_syntax.specs.declared.typed.Typed.{Typed}
-use Rattle.sl_base.specs.declared.place.Place.{Place}
-use Rattle.sl_tool.specs.declared.refusal.Reason.TheVariants.{Grammar, NotBuilt}
-use Rattle.sl_tool.specs.declared.refusal.Refusal.{Refusal}
-use Rattle.sl_tool.specs.Begins.{IsText, StopsAt, stop_place}
+use Rattle.sl_grammar.proofs.ProgramLaws as grammar
 use Rattle.sl_syntax.specs.Begins.{IsProgram, Stops, words_in}
+use Rattle.sl_syntax.specs.declared.typed.Typed.{Typed}
+use Rattle.sl_syntax.specs.Tree.{Program}
+use Rattle.sl_syntax.specs.TreeView.{program_of}
+use Rattle.sl_syntax.proofs.BeginsLaws.{stops_once, not_whole}
+use Rattle.sl_model.specs.Covers.{Warning}
+use Rattle.sl_model.specs.Texts.{report_text, refusal_line}
+use Rattle.sl_tool.specs.declared.parsed.Parsed.{Parsed}
+use Rattle.sl_tool.specs.declared.status.Status.{Status}
+use Rattle.sl_tool.specs.declared.status.Status.TheVariants.{Refused}
+use Rattle.sl_tool.specs.Answers.{AnswerTo, refused, not_built, reported, IsReport, status_of}
+use Rattle.sl_tool.specs.Begins.{IsText, StopsAt}
 use Rattle.sl_tool.specs.Form.{Item, item_words, head_words, typed_text, ReadsAs, IsBuilt}
-use Rattle.sl_tool.specs.Refusals.{IsRefused, by_token, by_grammar, by_form, IsReadOf}
+use Rattle.sl_tool.specs.Refusals.{IsParsed, IsRefusal, by_length, by_token, by_grammar, rule_words, stop_place}
 use Rattle.sl_tool.proofs.FormProgram.{text_is_program}
 use Rattle.sl_tool.proofs.ItemLaws.{begins_with, same_item, no_item_at_end}
-use Rattle.sl_syntax.proofs.BeginsLaws.{stops_once, not_whole}
 
 -- the words of a body are those of no other statements
 one_body : (is js : List Item) → flat_map item_words is ++ Mark RightBrace ∷ [] ≡ flat_map item_words js ++ Mark RightBrace ∷ [] → is ≡ js
@@ -56,36 +65,84 @@ one_stop P text tokens others j k e a b =
 program_or_stops : (tokens others : List Token) (k : ℕ) → tokens ≡ others → Stops IsProgram (words_in tokens) k → IsProgram (words_in others) → ⊥
 program_or_stops tokens others k e stops whole = not_whole IsProgram (words_in others) k (subst (λ ts. Stops IsProgram (words_in ts) k) e stops) whole
 
--- a text has one refusal
-one_refusal : (text : List ℕ) (a b : Refusal) → IsRefused text a → IsRefused text b → a ≡ b
-one_refusal text _ _ (by_token rule at fault) (by_token other there fault_too) =
+-- a text has one program
+one_program : (text : List ℕ) (ts us : List Token) (p q : Program) → IsParsed text ts p → IsParsed text us q → (ts ≡ us) × (p ≡ q)
+one_program text ts us p q a b =
+    let same : ts ≡ us = one_tokens text ts us a.cut b.cut in
+    (same, grammar.one_program us p q a.shaped b.shaped (rw same at a.placed) b.placed)
+
+-- a text has one line that refuses it
+one_line : (file text x y : List ℕ) → IsRefusal file text x → IsRefusal file text y → x ≡ y
+one_line file text _ _ (by_length long) (by_length also) = refl
+one_line file text _ _ (by_length long) (by_token short rule at fault) = absurd (omega arith)
+one_line file text _ _ (by_length long) (by_grammar short ts t k stops) = absurd (omega arith)
+one_line file text _ _ (by_token short rule at fault) (by_length long) = absurd (omega arith)
+one_line file text _ _ (by_token short rule at fault) (by_token also other there fault_too) =
     let same = one_fault text rule other at there fault fault_too in
     rw (same.0, same.1) refl
-one_refusal text _ _ (by_token rule at fault) (by_grammar ts t k stops) = absurd (not_both text ts rule at t fault)
-one_refusal text _ _ (by_token rule at fault) (by_form ts t whole k stops) = absurd (not_both text ts rule at t fault)
-one_refusal text _ _ (by_grammar ts t k stops) (by_token rule at fault) = absurd (not_both text ts rule at t fault)
-one_refusal text _ _ (by_grammar ts t j stops) (by_grammar us u k others) =
-    ap (λ (p : Place). record { place = p; reason = Grammar }) (one_stop IsProgram text ts us j k (one_tokens text ts us t u) stops others)
-one_refusal text _ _ (by_grammar ts t j stops) (by_form us u whole k others) = absurd (program_or_stops ts us j (one_tokens text ts us t u) stops whole)
-one_refusal text _ _ (by_form ts t whole k stops) (by_token rule at fault) = absurd (not_both text ts rule at t fault)
-one_refusal text _ _ (by_form ts t whole j stops) (by_grammar us u k others) = absurd (program_or_stops us ts k (one_tokens text us ts u t) others whole)
-one_refusal text _ _ (by_form ts t whole j stops) (by_form us u also k others) =
-    ap (λ (p : Place). record { place = p; reason = NotBuilt }) (one_stop IsText text ts us j k (one_tokens text ts us t u) stops others)
+one_line file text _ _ (by_token short rule at fault) (by_grammar also ts t k stops) = absurd (not_both text ts rule at t fault)
+one_line file text _ _ (by_grammar short ts t k stops) (by_length long) = absurd (omega arith)
+one_line file text _ _ (by_grammar short ts t k stops) (by_token also rule at fault) = absurd (not_both text ts rule at t fault)
+one_line file text _ _ (by_grammar short ts t j stops) (by_grammar also us u k others) =
+    ap (λ (p : Place). refusal_line file p (codes "grammar")) (one_stop IsProgram text ts us j k (one_tokens text ts us t u) stops others)
 
--- a text of the form isn't refused
-read_or_refused : (text : List ℕ) (p : Typed) (r : Refusal) → IsBuilt text p → IsRefused text r → ⊥
-read_or_refused text p _ (ts, t, reads) (by_token rule at fault) = not_both text ts rule at t fault
-read_or_refused text p _ (ts, t, reads) (by_grammar us u k stops) =
+-- a text that has a program isn't refused
+parsed_or_refused : (file text line : List ℕ) (ts : List Token) (p : Program) → IsParsed text ts p → IsRefusal file text line → ⊥
+parsed_or_refused file text _ ts p parsed (by_length long) = let short = parsed.short in omega arith
+parsed_or_refused file text _ ts p parsed (by_token short rule at fault) = not_both text ts rule at parsed.cut fault
+parsed_or_refused file text _ ts p parsed (by_grammar short us u k stops) =
+    program_or_stops us ts k (one_tokens text us ts u parsed.cut) stops (grammar.is_program ts p parsed.shaped parsed.placed)
+
+-- what is answered of a text is so
+abbrev IsSo : List ℕ → List ℕ → Result (Result Parsed (List ℕ)) AllocError → Type 0
+IsSo file text result = IfOk result (λ read. MatchResult read (λ parsed. IsParsed text parsed.tokens (program_of parsed.program)) (λ line. IsRefusal file text line))
+
+-- the program of a text is the one that is answered
+pub only_program : (file text : List ℕ) (result : Result (Result Parsed (List ℕ)) AllocError) → IsSo file text result → (tokens : List Token) (program : Program) → IsParsed text tokens program
+    → IfOk result (λ read. MatchResult read (λ parsed. (parsed.tokens ≡ tokens) × (program_of parsed.program ≡ program)) (λ line. ⊥))
+only_program file text (Ok (Ok parsed)) so tokens program is = one_program text parsed.tokens tokens (program_of parsed.program) program so is
+only_program file text (Ok (Err line)) so tokens program is = parsed_or_refused file text line tokens program is so
+only_program file text (Err e) so tokens program is = tt
+
+-- the line that refuses a text is the one that is answered
+pub only_line : (file text : List ℕ) (result : Result (Result Parsed (List ℕ)) AllocError) → IsSo file text result → (line : List ℕ) → IsRefusal file text line
+    → IfOk result (λ read. MatchResult read (λ parsed. ⊥) (λ other. other ≡ line))
+only_line file text (Ok (Ok parsed)) so line is = parsed_or_refused file text line parsed.tokens (program_of parsed.program) so is
+only_line file text (Ok (Err other)) so line is = one_line file text other line so is
+only_line file text (Err e) so line is = tt
+
+-- a text with a report isn't refused
+status_or_refused : (r : List Warning) → status_of r ≡ Refused → ⊥
+status_or_refused [] e = absurd cc
+status_or_refused (w ∷ ws) e = absurd cc
+
+one_answer : (file text line bytes : List ℕ) (first status : Status) → first ≡ Refused → AnswerTo file text first line → AnswerTo file text status bytes → (status ≡ Refused) × (bytes ≡ line)
+one_answer file text _ _ _ _ e (refused x a) (refused y b) = (refl, one_line file text y x b a)
+one_answer file text _ _ _ _ e (refused x a) (not_built ts p parsed k stops) = absurd (parsed_or_refused file text x ts p parsed a)
+one_answer file text _ _ _ _ e (refused x a) (reported ts p parsed t reads r is) = absurd (parsed_or_refused file text x ts p parsed a)
+one_answer file text _ _ _ _ e (not_built ts p parsed k stops) (refused y b) = absurd (parsed_or_refused file text y ts p parsed b)
+one_answer file text _ _ _ _ e (not_built ts p parsed k stops) (not_built us q also j others) =
+    (refl, ap (λ (at : Place). refusal_line file at (codes "not built")) (one_stop IsText text us ts j k (one_tokens text us ts also.cut parsed.cut) others stops))
+one_answer file text _ _ _ _ e (not_built ts p parsed k stops) (reported us q also t reads r is) =
+    absurd (reads_or_stops us ts t k (one_tokens text us ts also.cut parsed.cut) reads stops)
+one_answer file text _ _ _ _ e (reported ts p parsed t reads r is) other = absurd (status_or_refused r e)
+
+-- a text that is refused has no other answer
+pub one_refusal : (file text line bytes : List ℕ) (status : Status) → AnswerTo file text Refused line → AnswerTo file text status bytes → (status ≡ Refused) × (bytes ≡ line)
+one_refusal file text line bytes status a b = one_answer file text line bytes Refused status refl a b
+
+-- a text of the form isn't refused by its line
+built_or_refused : (file text line : List ℕ) (p : Typed) → length text ≤ TEXT_BYTES → IsBuilt text p → IsRefusal file text line → ⊥
+built_or_refused file text _ p short built (by_length long) = omega arith
+built_or_refused file text _ p short (ts, t, reads) (by_token also rule at fault) = not_both text ts rule at t fault
+built_or_refused file text _ p short (ts, t, reads) (by_grammar also us u k stops) =
     program_or_stops us ts k (one_tokens text us ts u t) stops (text_is_program (words_in ts) (is_text ts p reads))
-read_or_refused text p _ (ts, t, reads) (by_form us u whole k stops) = reads_or_stops ts us p k (one_tokens text ts us t u) reads stops
 
-one_text : (text : List ℕ) (a b : Result Typed Refusal) → IsReadOf text a → IsReadOf text b → a ≡ b
-one_text text (Ok p) (Ok q) (ts, t, reads) (us, u, others) = ap Ok (one_reading us p q (subst (λ l. ReadsAs l p) (one_tokens text ts us t u) reads) others)
-one_text text (Ok p) (Err r) built refused = absurd (read_or_refused text p r built refused)
-one_text text (Err r) (Ok p) refused built = absurd (read_or_refused text p r built refused)
-one_text text (Err a) (Err b) refused other = ap Err (one_refusal text a b refused other)
-
--- what is answered is what is so
-pub only_text : (text : List ℕ) (result : Result (Result Typed Refusal) AllocError) → IfOk result (IsReadOf text) → (other : Result Typed Refusal) → IsReadOf text other → IfOk result (λ read. read ≡ other)
-only_text text (Ok t) h other is = one_text text t other h is
-only_text text (Err e) h other is = tt
+-- the answer to a text of the form is a report on it
+pub is_reported : (file text bytes : List ℕ) (status : Status) (p : Typed) → length text ≤ TEXT_BYTES → IsBuilt text p → AnswerTo file text status bytes
+    → (r : List Warning) × IsReport p r × (status ≡ status_of r) × (bytes ≡ report_text file p.sites r)
+is_reported file text _ _ p short built (refused x a) = absurd (built_or_refused file text x p short built a)
+is_reported file text _ _ p short (ts, t, reads) (not_built us q parsed k stops) = absurd (reads_or_stops ts us p k (one_tokens text ts us t parsed.cut) reads stops)
+is_reported file text _ _ p short (ts, t, reads) (reported us q parsed other also r is) =
+    let same : other ≡ p = one_reading us other p also (subst (λ l. ReadsAs l p) (one_tokens text ts us t parsed.cut) reads) in
+    (r, rw same at is, refl, ap (λ (x : Typed). report_text file x.sites r) same)

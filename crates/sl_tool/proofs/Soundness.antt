@@ -19,11 +19,12 @@ use Rattle.sl_model.specs.Run.{done_with, empty_state, finished, run}
 use Rattle.sl_model.specs.Library.{lib}
 use Rattle.sl_model.specs.Covers.{Covers, Reports, Safe, HasMeaning, Warning as WarningValue}
 use Rattle.sl_tool.specs.declared.analysis.Warning.{Warning}
-use Rattle.sl_tool.specs.Analysis.{Known, nothing_known, standing_at, warned, warnings_of, with_vector, with_push, with_iterator, found_valid}
+use Rattle.sl_tool.specs.Analysis.{Known, nothing_known, standing_at, is_filled, warned, warnings_of, with_vector, with_push, with_iterator, found_valid}
 use Rattle.sl_tool.specs.Form.{UsesDeclared}
 use Rattle.sl_tool.specs.Told.{report_of}
 use Rattle.sl_tool.proofs.Describes.{Describes}
 use Rattle.sl_tool.proofs.Goes.{EndsTold, IsTold, goes-on}
+use Rattle.sl_tool.proofs.Kept.{valid}
 use Rattle.sl_tool.proofs.Steps.{world_of, goes-vector, goes-push_back, goes-begin, goes-star}
 
 pub same_uses : (a b c d : ℕ) (ss : List Stmt) → a ≡ c → b ≡ d → UsesDeclared a b ss → UsesDeclared c d ss
@@ -34,17 +35,17 @@ pub walk : (names : List (List ℕ)) (own : Oracle) (ss : List Stmt) (k : Known)
     → EndsTold names (warnings_of k ss) (exec_all (world_of own) (stmts_of ss) s)
 walk names own [] k s d u = tt
 walk names own (Vector place ∷ ss) k s d u =
-    goes-on names (with_vector k) [] (warnings_of (with_vector k) ss) (exec (world_of own) (stmt_of (Vector place)) s) (exec_all (world_of own) (stmts_of ss)) (goes-vector names k own place s d)
+    goes-on names (with_vector k) true [] (warnings_of (with_vector k) ss) (exec (world_of own) (stmt_of (Vector place)) s) (exec_all (world_of own) (stmts_of ss)) (goes-vector names k own place s d)
     (λ t e. walk names own ss (with_vector k) t e (same_uses _ _ _ _ ss (sym (length-append k.filled (false ∷ []))) refl u))
 walk names own (PushBack place v name site z ∷ ss) k s d u =
-    goes-on names (with_push k v site) [] (warnings_of (with_push k v site) ss) (exec (world_of own) (stmt_of (PushBack place v name site z)) s) (exec_all (world_of own) (stmts_of ss)) (goes-push_back names k own place v name site z s d u.0)
+    goes-on names (with_push k v site) true [] (warnings_of (with_push k v site) ss) (exec (world_of own) (stmt_of (PushBack place v name site z)) s) (exec_all (world_of own) (stmts_of ss)) (goes-push_back names k own place v name site z s d u.0)
     (λ t e. walk names own ss (with_push k v site) t e (same_uses _ _ _ _ ss (sym (length-set k.filled v true)) refl u.1))
 walk names own (Begin place v name ∷ ss) k s d u =
-    goes-on names (with_iterator k v) [] (warnings_of (with_iterator k v) ss) (exec (world_of own) (stmt_of (Begin place v name)) s) (exec_all (world_of own) (stmts_of ss)) (goes-begin names k own place v name s d u.0)
-    (λ t e. walk names own ss (with_iterator k v) t e (same_uses _ _ _ _ ss refl (sym (length-append k.iterators (record { vector = v; since = length k.pushes } ∷ []))) u.1))
+    goes-on names (with_iterator k v) true [] (warnings_of (with_iterator k v) ss) (exec (world_of own) (stmt_of (Begin place v name)) s) (exec_all (world_of own) (stmts_of ss)) (goes-begin names k own place v name s d u.0)
+    (λ t e. walk names own ss (with_iterator k v) t e (same_uses _ _ _ _ ss refl (sym (length-append k.iterators (record { vector = v; at_element = is_filled k v; since = length k.pushes } ∷ []))) u.1))
 walk names own (Dereference place it name ∷ ss) k s d u =
-    goes-on names (found_valid k it (standing_at k it)) (warned k (Dereference place it name)) (warnings_of (found_valid k it (standing_at k it)) ss) (exec (world_of own) (stmt_of (Dereference place it name)) s) (exec_all (world_of own) (stmts_of ss)) (goes-star names k own place it name s d u.0)
-    (λ t e. walk names own ss (found_valid k it (standing_at k it)) t e (same_uses _ _ _ _ ss refl (sym (length-set k.iterators it (record { vector = (standing_at k it).vector; since = length k.pushes }))) u.1))
+    goes-on names (found_valid k it (standing_at k it)) (standing_at k it).at_element (warned k (Dereference place it name)) (warnings_of (found_valid k it (standing_at k it)) ss) (exec (world_of own) (stmt_of (Dereference place it name)) s) (exec_all (world_of own) (stmts_of ss)) (goes-star names k own place it name s d u.0)
+    (λ t e. walk names own ss (found_valid k it (standing_at k it)) t e (same_uses _ _ _ _ ss refl (sym (length-set k.iterators it (valid k (standing_at k it)))) u.1))
 
 none_at : (j k s : ℕ) → IsAt empty_memory j k s → ⊥
 none_at j k s h = let e = h.there in cc

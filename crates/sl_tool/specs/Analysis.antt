@@ -1,16 +1,17 @@
 -- What the analysis knows, statement by statement, and what it warns of, as functions. A means of the proof alone: proofs/Soundness ties
 -- it to the runs.
-use Rattle.std.specs.Prelude.{ℕ, ◌==◌, Bool, true, false, List, [], ◌∷◌, ◌++◌, length, drop, slice_set, slice_index_or, if◌then◌else◌}
+use Rattle.std.specs.Prelude.{ℕ, ◌==◌, Bool, true, false, List, [], ◌∷◌, ◌++◌, length, drop, slice_set, slice_index_or, Option, Some, None, if◌then◌else◌}
 use Rattle.sl_base.specs.declared.place.Place.{Place}
 use Rattle.sl_syntax.specs.declared.typed.Stmt.{Stmt}
 use Rattle.sl_syntax.specs.declared.typed.Stmt.TheVariants.{Vector, PushBack, Begin, Dereference}
 use Rattle.sl_tool.specs.declared.analysis.Standing.{Standing}
 use Rattle.sl_tool.specs.declared.analysis.Push.{Push}
 use Rattle.sl_tool.specs.declared.analysis.Warning.{Warning}
+use Rattle.sl_tool.specs.declared.analysis.Fault.{Fault}
 use Rattle.sl_tool.specs.declared.analysis.Fault.TheVariants.{InvalidIterator, EndIterator}
 
--- Whether each vector has elements; of each iterator the vector at whose begin it was made, and how many calls of `push_back` came
--- before it was made or last found valid; and the calls so far.
+-- Whether each vector has elements; of each iterator the vector at whose begin it was made, whether that had elements then, and how many
+-- calls of `push_back` came before it was made or last found valid; and the calls so far.
 pub record Known : Type 0 where
   pub filled : List Bool
   pub iterators : List Standing
@@ -28,28 +29,27 @@ sites_on vector (p ∷ ps) = if p.vector == vector then p.site ∷ sites_on vect
 abbrev pub killers_of : Known → Standing → List ℕ
 killers_of k standing = sites_on standing.vector (drop standing.since k.pushes)
 
-abbrev pub is_nil : List ℕ → Bool
-is_nil [] = true
-is_nil (x ∷ xs) = false
-
 -- the iterator with this number, and its vector's first element
 abbrev pub standing_at : Known → ℕ → Standing
-standing_at k i = slice_index_or k.iterators i (record { vector = 0; since = 0 })
+standing_at k i = slice_index_or k.iterators i (record { vector = 0; at_element = true; since = 0 })
 
 abbrev pub is_filled : Known → ℕ → Bool
 is_filled k v = slice_index_or k.filled v false
 
--- what is warned of at `*` of an iterator
-abbrev pub invalid_at : Place → ℕ → List ℕ → List Warning
-invalid_at place name [] = []
-invalid_at place name (x ∷ xs) = record { place = place; name = name; fault = InvalidIterator (x ∷ xs) } ∷ []
+-- What may be wrong with an iterator that these sites may have invalidated: each `push_back` on its vector does so to one that was made at
+-- the end, and one that is still there has no element.
+abbrev pub fault_in : List ℕ → Bool → Option Fault
+fault_in [] true = None
+fault_in [] false = Some EndIterator
+fault_in (x ∷ xs) at_element = Some (InvalidIterator (x ∷ xs))
 
-abbrev pub end_at : Place → ℕ → Bool → List Warning
-end_at place name true = []
-end_at place name false = record { place = place; name = name; fault = EndIterator } ∷ []
+-- what is warned of at `*` of an iterator with this fault
+abbrev pub told_at : Place → ℕ → Option Fault → List Warning
+told_at place name None = []
+told_at place name (Some fault) = record { place = place; name = name; fault = fault } ∷ []
 
 abbrev pub dereferenced : Known → Place → ℕ → Standing → List Warning
-dereferenced k place name standing = invalid_at place name (killers_of k standing) ++ end_at place name (is_filled k standing.vector)
+dereferenced k place name standing = told_at place name (fault_in (killers_of k standing) standing.at_element)
 
 abbrev pub warned : Known → Stmt → List Warning
 warned k (Dereference place i name) = dereferenced k place name (standing_at k i)
@@ -65,11 +65,12 @@ with_push k v site = record k { filled = slice_set k.filled v true; pushes = k.p
 
 -- a new iterator stands at the begin of a vector
 abbrev pub with_iterator : Known → ℕ → Known
-with_iterator k v = record k { iterators = k.iterators ++ record { vector = v; since = length k.pushes } ∷ [] }
+with_iterator k v = record k { iterators = k.iterators ++ record { vector = v; at_element = is_filled k v; since = length k.pushes } ∷ [] }
 
 -- an iterator that was dereferenced is valid in the runs that go on
 abbrev pub found_valid : Known → ℕ → Standing → Known
-found_valid k i standing = record k { iterators = slice_set k.iterators i (record { vector = standing.vector; since = length k.pushes }) }
+found_valid k i standing =
+    record k { iterators = slice_set k.iterators i (record { vector = standing.vector; at_element = standing.at_element; since = length k.pushes }) }
 
 -- what is known behind a statement, in the runs that go on
 abbrev pub known_after : Known → Stmt → Known
@@ -78,7 +79,12 @@ known_after k (PushBack place v name site number) = with_push k v site
 known_after k (Begin place v name) = with_iterator k v
 known_after k (Dereference place i name) = found_valid k i (standing_at k i)
 
+-- Whether a run may go on behind a statement. None goes on behind `*` of an iterator that was made at the end of a vector.
+abbrev pub goes_on : Known → Stmt → Bool
+goes_on k (Dereference place i name) = (standing_at k i).at_element
+goes_on k s = true
+
 -- what the analysis warns of in these statements
 abbrev pub warnings_of : Known → List Stmt → List Warning
 warnings_of k [] = []
-warnings_of k (s ∷ ss) = warned k s ++ warnings_of (known_after k s) ss
+warnings_of k (s ∷ ss) = warned k s ++ (if goes_on k s then warnings_of (known_after k s) ss else [])

@@ -1,10 +1,8 @@
 -- Where tokens stop beginning a text of the form: the place of the refusal of one that isn't.
-use Rattle.std.specs.Prelude.{◌≡◌, ℕ, ◌≤◌, List, length, map, slice_index_or}
+use Rattle.std.specs.Prelude.{◌≡◌, ℕ, ◌≤◌, List, length}
 use Rattle.sl_base.specs.declared.limits.TheConstants.{STATEMENTS}
-use Rattle.sl_base.specs.declared.place.Place.{Place}
 use Rattle.sl_base.specs.declared.token.Token.{Token}
 use Rattle.sl_base.specs.declared.word.Word.{Word}
-use Rattle.sl_base.specs.Places.{place_at}
 use Rattle.sl_syntax.specs.Begins.{Stops, words_in}
 use Rattle.sl_tool.specs.Form.{Item, text_words, no_scope, AllAllowed}
 
@@ -18,7 +16,3 @@ pub record IsText (words : List Word) : Type 0 where
 -- The token k, from 0, is the first with which the tokens begin no text of the form. Where k is how many they are, they begin one and aren't one.
 abbrev pub StopsAt : List Token → ℕ → Type 0
 StopsAt tokens k = Stops IsText (words_in tokens) k
-
--- the place of the token k of a text, and where there is none the one behind the last byte
-abbrev pub stop_place : List ℕ → List Token → ℕ → Place
-stop_place text tokens k = slice_index_or (map (λ (t : Token). t.place) tokens) k (place_at text (length text))

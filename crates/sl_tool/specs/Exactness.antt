@@ -1,6 +1,5 @@
 -- A report that warns has a cause: the plainest run of the text ends in the failure that the first warning tells of. So a report is empty
--- exactly where the text is safe. Behind its first warning a report may warn of a `*` that no run reaches: it tells of the runs that would
--- go on. Each warning is of a node of the text, and warnings come in the text's order.
+-- exactly where the text is safe. Each warning is of a node of the text, and warnings come in the text's order.
 use Rattle.std.specs.Prelude.{◌≡◌, ◌↔◌, ◌⊎◌, ℕ, ◌<◌, List, [], ◌∷◌, length, Some, Contains, slice_get, codes}
 use Rattle.sl_base.specs.declared.limits.TheConstants.{STATEMENTS}
 use Rattle.sl_base.specs.declared.place.Place.{Place}
@@ -15,7 +14,6 @@ use Rattle.sl_model.specs.Covers.{Warning, Tells, Safe}
 use Rattle.sl_tool.specs.declared.analysis.Warning.{Warning as WarningCode}
 use Rattle.sl_tool.specs.declared.analysis.Fault.{Fault}
 use Rattle.sl_tool.specs.declared.analysis.Fault.TheVariants.{InvalidIterator, EndIterator}
-use Rattle.sl_tool.specs.Told.{kind_of}
 
 -- the run with no input, with no schedule, and with as many steps as a text may have statements: where the schedule is empty, a
 -- vector has no room beyond its elements
@@ -54,14 +52,13 @@ pub record IsOfNode (stmts : List Stmt) (index : ℕ) (w : WarningCode) : Type 0
   pub there : slice_get stmts index ≡ Some (Dereference w.place iterator w.name)
   pub cause : HasCause stmts index w.fault
 
--- two warnings are of nodes in their order, or of one node and then of different kinds, the lesser first: so there is at most one warning
--- of each kind at one `*`
+-- two warnings are of nodes in their order, so there is at most one at each `*`
 pub record AreInTurn (stmts : List Stmt) (v w : WarningCode) : Type 0 where
   pub first : ℕ
   pub second : ℕ
   pub of_first : IsOfNode stmts first v
   pub of_second : IsOfNode stmts second w
-  pub order : (first < second) ⊎ ((first ≡ second) × (kind_of v.fault < kind_of w.fault))
+  pub order : first < second
 
 -- a warning comes before another in a report: by its place, and at one place by its kind
 abbrev pub IsBefore : Warning → Warning → Type 0

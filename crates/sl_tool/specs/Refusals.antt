@@ -1,45 +1,42 @@
--- Why a text is refused, and where.
-use Rattle.std.specs.Prelude.{ℕ, List, Result, Ok, Err, codes}
+-- The tokens of a text and its program, or the line that refuses it: by its length, then by its tokens, then by the grammar.
+use Rattle.std.specs.Prelude.{ℕ, ◌<◌, ◌≤◌, List, length, map, slice_index_or, codes}
+use Rattle.sl_base.specs.declared.limits.TheConstants.{TEXT_BYTES}
+use Rattle.sl_base.specs.declared.place.Place.{Place}
 use Rattle.sl_base.specs.declared.token.Token.{Token}
 use Rattle.sl_base.specs.Pieces.{TokenRule, bad_byte, bad_number, open_comment, open_text, bad_directive}
 use Rattle.sl_base.specs.Places.{place_at}
 use Rattle.sl_base.specs.Tokens.{Tokens, TokenFault}
-use Rattle.sl_syntax.specs.declared.typed.Typed.{Typed}
-use Rattle.sl_tool.specs.declared.refusal.Reason.{Reason}
-use Rattle.sl_tool.specs.declared.refusal.Reason.TheVariants.{BadByte, BadNumber, OpenComment, OpenText, BadDirective, Grammar, NotBuilt}
-use Rattle.sl_tool.specs.declared.refusal.Refusal.{Refusal}
 use Rattle.sl_syntax.specs.Begins.{IsProgram, Stops, words_in}
-use Rattle.sl_tool.specs.Begins.{StopsAt, stop_place}
-use Rattle.sl_tool.specs.Form.{IsBuilt}
+use Rattle.sl_syntax.specs.Placed.{Placed}
+use Rattle.sl_syntax.specs.Shaped.{Shaped}
+use Rattle.sl_syntax.specs.Tree.{Program}
+use Rattle.sl_model.specs.Texts.{refusal_line}
+use Rattle.sl_tool.specs.Texts.{too_long_line}
 
--- the words for a reason
-abbrev pub reason_words : Reason → List ℕ
-reason_words BadByte = codes "bad byte"
-reason_words BadNumber = codes "bad number"
-reason_words OpenComment = codes "open comment"
-reason_words OpenText = codes "open text"
-reason_words BadDirective = codes "bad directive"
-reason_words Grammar = codes "grammar"
-reason_words NotBuilt = codes "not built"
+-- the words for a broken rule of tokens
+abbrev pub rule_words : TokenRule → List ℕ
+rule_words bad_byte = codes "bad byte"
+rule_words bad_number = codes "bad number"
+rule_words open_comment = codes "open comment"
+rule_words open_text = codes "open text"
+rule_words bad_directive = codes "bad directive"
 
--- the reason that a broken rule of tokens is
-abbrev pub reason_of : TokenRule → Reason
-reason_of bad_byte = BadByte
-reason_of bad_number = BadNumber
-reason_of open_comment = OpenComment
-reason_of open_text = OpenText
-reason_of bad_directive = BadDirective
+-- the place of the token k of a text, from 0, and where there is none the one behind the last byte
+abbrev pub stop_place : List ℕ → List Token → ℕ → Place
+stop_place text tokens k = slice_index_or (map (λ (t : Token). t.place) tokens) k (place_at text (length text))
 
--- A text without tokens is refused by the first rule of tokens that it breaks, where it does. One that has tokens which aren't those of a
--- program that follows the grammar is refused at the token with which they begin none. One whose tokens are such a program's and that isn't of
--- the form is refused as not built, at the token with which they stop beginning one.
-pub data IsRefused (text : List ℕ) : Refusal → Type 0 where
-  by_token : (rule : TokenRule) (at : ℕ) → TokenFault text rule at → IsRefused text (record { place = place_at text at; reason = reason_of rule })
-  by_grammar : (tokens : List Token) → Tokens text tokens → (k : ℕ) → Stops IsProgram (words_in tokens) k → IsRefused text (record { place = stop_place text tokens k; reason = Grammar })
-  by_form : (tokens : List Token) → Tokens text tokens → IsProgram (words_in tokens) → (k : ℕ) → StopsAt tokens k
-      → IsRefused text (record { place = stop_place text tokens k; reason = NotBuilt })
+-- A text is refused by its length; or by the first rule of tokens that it breaks, where it does; or by the grammar, at the token with which
+-- its tokens begin no program, and behind the last byte where they begin one and are none.
+pub data IsRefusal (file text : List ℕ) : List ℕ → Type 0 where
+  by_length : TEXT_BYTES < length text → IsRefusal file text (too_long_line file)
+  by_token : length text ≤ TEXT_BYTES → (rule : TokenRule) (at : ℕ) → TokenFault text rule at
+      → IsRefusal file text (refusal_line file (place_at text at) (rule_words rule))
+  by_grammar : length text ≤ TEXT_BYTES → (tokens : List Token) → Tokens text tokens → (k : ℕ) → Stops IsProgram (words_in tokens) k
+      → IsRefusal file text (refusal_line file (stop_place text tokens k) (codes "grammar"))
 
--- what is read of a text: the text in numbers, or why it is refused
-abbrev pub IsReadOf : List ℕ → Result Typed Refusal → Type 0
-IsReadOf text (Ok p) = IsBuilt text p
-IsReadOf text (Err r) = IsRefused text r
+-- the text isn't too long, these are its tokens, and they write this program
+pub record IsParsed (text : List ℕ) (tokens : List Token) (program : Program) : Type 0 where
+  pub short : length text ≤ TEXT_BYTES
+  pub cut : Tokens text tokens
+  pub shaped : Shaped program
+  pub placed : Placed program tokens

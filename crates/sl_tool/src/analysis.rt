@@ -1,6 +1,16 @@
 //! The analysis of a text of the form that is checked so far.
 ghost use Rattle.std.specs.Prelude.{◌≡◌, ◌++◌, [], List, ℕ, length, take, drop, slice_set, slice_index_or, IfOk, OnOk};
-ghost use Rattle.sl_tool.specs.Analysis.{nothing_known, sites_on, invalid_at, end_at, dereferenced, warned, known_after, warnings_of};
+ghost use Rattle.sl_tool.specs.Analysis.{
+  nothing_known,
+  sites_on,
+  fault_in,
+  told_at,
+  dereferenced,
+  goes_on,
+  warned,
+  known_after,
+  warnings_of,
+};
 
 use sl_base::{Items, Place, Site};
 use sl_syntax::typed::Stmt;
@@ -23,11 +33,12 @@ pub struct Warning {
     pub fault: Fault,
 }
 
-/// Where an iterator stands, if it is valid: at the begin of a vector. It was valid behind the first `since` calls of
-/// `push_back`.
+/// Where an iterator stands, if it is valid: at the begin of a vector, which had elements when it was made, or hadn't.
+/// It was valid behind the first `since` calls of `push_back`.
 #[derive(Clone, Copy)]
 pub struct Standing {
     pub vector: u8,
+    pub at_element: bool,
     pub since: usize,
 }
 
@@ -47,7 +58,7 @@ struct Known {
     pushes: Vec<Push>,
 }
 
-/// Warns of each `*` in these statements of `main` that can fail in a run.
+/// Warns of each `*` in these statements of `main` that can fail in a run, up to the first that fails in every run.
 pub fn warnings_in(alloc: Global, stmts: &[Stmt]) -> Result<Items<Warning>, AllocError>
     ensures { IfOk result (λ report. report ≡ warnings_of nothing_known stmts.now) }
 {
@@ -55,6 +66,9 @@ pub fn warnings_in(alloc: Global, stmts: &[Stmt]) -> Result<Items<Warning>, Allo
     let mut report = Items::new(alloc);
     for stmt in stmts {
         known.warn(alloc, stmt, &mut report)?;
+        if !known.goes_on(stmt) {
+            return Ok(report);
+        }
         known.walk(stmt)?;
     }
     Ok(report)
@@ -80,47 +94,45 @@ fn behind(pushes: &[Push], since: usize) -> &[Push]
     &pushes[since.min(pushes.len())..]
 }
 
-// Warns of an iterator that calls at these sites may have invalidated, if there are any.
-fn warn_invalid(
-    report: &mut Items<Warning>,
-    place: Place,
-    name: u16,
-    killers: Items<Site>,
-) -> Result<(), AllocError>
-    ensures { OnOk result (report.new ≡ report.old ++ invalid_at place name killers) }
+// What may be wrong with an iterator that calls at these sites may have invalidated.
+fn fault_in(killers: Items<Site>, at_element: bool) -> Option<Fault>
+    ensures { result ≡ fault_in killers at_element }
 {
     if killers.len() > 0 {
-        report.push(Warning {
-            place,
-            name,
-            fault: Fault::InvalidIterator(killers),
-        })?;
+        return Some(Fault::InvalidIterator(killers));
     }
-    Ok(())
+    if at_element {
+        None
+    } else {
+        Some(Fault::EndIterator)
+    }
 }
 
-// Warns of an iterator of a vector without elements.
-fn warn_end(
+// Warns of a fault, if there is one.
+fn tell(
     report: &mut Items<Warning>,
     place: Place,
     name: u16,
-    is_filled: bool,
+    fault: Option<Fault>,
 ) -> Result<(), AllocError>
-    ensures { OnOk result (report.new ≡ report.old ++ end_at place name is_filled) }
+    ensures { OnOk result (report.new ≡ report.old ++ told_at place name fault) }
 {
-    if !is_filled {
-        report.push(Warning {
-            place,
-            name,
-            fault: Fault::EndIterator,
-        })?;
+    match fault {
+        Some(fault) => report.push(Warning { place, name, fault }),
+        None => Ok(()),
     }
-    Ok(())
 }
 
 impl Known {
     ghost use Rattle.sl_tool.specs.KnownView.{known_of};
-    ghost use Rattle.sl_tool.specs.Analysis.{standing_at, is_filled, with_vector, with_push, with_iterator, found_valid};
+    ghost use Rattle.sl_tool.specs.Analysis.{
+      standing_at,
+      is_filled,
+      with_vector,
+      with_push,
+      with_iterator,
+      found_valid,
+    };
 
     fn new(alloc: Global) -> Known
         ensures { known_of result ≡ nothing_known }
@@ -137,6 +149,7 @@ impl Known {
     {
         let nowhere = Standing {
             vector: 0,
+            at_element: true,
             since: 0,
         };
         self.iterators.get(iterator).copied().unwrap_or(nowhere)
@@ -168,19 +181,40 @@ impl Known {
     fn begin(&mut self, vector: u8) -> Result<(), AllocError>
         ensures { OnOk result (known_of self.new ≡ with_iterator (known_of self.old) vector) }
     {
-        let since = self.pushes.len();
-        self.iterators.push(Standing { vector, since })?;
+        let standing = Standing {
+            vector,
+            at_element: self.is_filled(usize::from(vector)),
+            since: self.pushes.len(),
+        };
+        self.iterators.push(standing)?;
         Ok(())
     }
 
     // An iterator that was dereferenced is valid in the runs that go on.
     fn find_valid(&mut self, iterator: usize)
-        ensures { known_of self.new ≡ found_valid (known_of self.old) iterator (standing_at (known_of self.old) iterator) }
+        ensures { known_of self.new ≡
+            found_valid (known_of self.old) iterator (standing_at (known_of self.old) iterator) }
     {
-        let vector = self.standing_at(iterator).vector;
-        let since = self.pushes.len();
+        let there = self.standing_at(iterator);
+        let valid = Standing {
+            vector: there.vector,
+            at_element: there.at_element,
+            since: self.pushes.len(),
+        };
         if let Some(standing) = self.iterators.get_mut(iterator) {
-            *standing = Standing { vector, since };
+            *standing = valid;
+        }
+    }
+
+    // Whether a run may go on behind a statement.
+    fn goes_on(&self, stmt: &Stmt) -> bool
+        ensures { result ≡ goes_on (known_of self.now) stmt.now }
+    {
+        match stmt {
+            Stmt::Dereference { iterator, .. } => self
+                .standing_at(usize::from(*iterator))
+                .at_element,
+            _ => true,
         }
     }
 
@@ -227,16 +261,11 @@ impl Known {
         iterator: usize,
         report: &mut Items<Warning>,
     ) -> Result<(), AllocError>
-        ensures { OnOk result (report.new ≡ report.old ++ dereferenced (known_of self.now) place name (standing_at (known_of self.now) iterator)) }
+        ensures { OnOk result (report.new ≡
+            report.old ++ dereferenced (known_of self.now) place name (standing_at (known_of self.now) iterator)) }
     {
         let standing = self.standing_at(iterator);
         let killers = sites_of(alloc, behind(&self.pushes, standing.since), standing.vector)?;
-        warn_invalid(report, place, name, killers)?;
-        warn_end(
-            report,
-            place,
-            name,
-            self.is_filled(usize::from(standing.vector)),
-        )
+        tell(report, place, name, fault_in(killers, standing.at_element))
     }
 }

@@ -3,11 +3,15 @@
 
 mod analysis;
 mod checking;
+mod laws;
+mod parsed;
 mod reading;
 mod refusal;
 mod reporting;
 mod status;
 mod tool;
 
+pub use laws::{each_text_is_reported, each_text_is_scoped, one_refusal};
+pub use parsed::{Parsed, program_of};
 pub use status::Status;
 pub use tool::run_tool;

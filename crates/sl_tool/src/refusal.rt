@@ -1,48 +1,21 @@
-//! Why a text is refused, and where.
-ghost use Rattle.std.specs.Prelude.{◌≡◌};
-ghost use Rattle.sl_tool.specs.Refusals.{reason_words};
+//! The line that refuses a text at a place.
+ghost use Rattle.std.specs.Prelude.{◌≡◌, IfOk};
+ghost use Rattle.sl_model.specs.Texts.{refusal_line};
 
-use sl_base::Place;
+use sl_base::{Items, Place};
+use std::alloc::{AllocError, Global};
 
-/// Why a text is refused.
-#[derive(Clone, Copy, Debug, PartialEq, Eq)]
-pub enum Reason {
-    /// A byte that begins no token, the 65th of a name, the backslash of a wrong escape or one before a line's end.
-    BadByte,
-    /// A number past 2147483647, or one that runs into what follows.
-    BadNumber,
-    /// A `/*` that no `*/` follows.
-    OpenComment,
-    /// A text that its line does not close, or one in single quotes that has not exactly one byte or escape.
-    OpenText,
-    /// A `#` that begins no directive.
-    BadDirective,
-    /// The words are those of no program of the grammar.
-    Grammar,
-    /// The text isn't of the form that is checked so far.
-    NotBuilt,
-}
-
-impl Reason {
-    /// The words for it in an answer.
-    pub fn words(self) -> &'static str
-        ensures { result.now ≡ reason_words self }
-    {
-        match self {
-            Reason::BadByte => "bad byte",
-            Reason::BadNumber => "bad number",
-            Reason::OpenComment => "open comment",
-            Reason::OpenText => "open text",
-            Reason::BadDirective => "bad directive",
-            Reason::Grammar => "grammar",
-            Reason::NotBuilt => "not built",
-        }
-    }
-}
-
-/// A reason, and the place at which it is met.
-#[derive(Clone, Copy, Debug, PartialEq, Eq)]
-pub struct Refusal {
-    pub place: Place,
-    pub reason: Reason,
+/// The line that refuses the text of a file at a place, and says why.
+pub fn refusal_line(
+    alloc: Global,
+    file: &str,
+    place: Place,
+    why: &str,
+) -> Result<Items<u8>, AllocError>
+    ensures { IfOk result (λ line. line ≡ refusal_line file.now place why.now) }
+{
+    let line = place.line;
+    let col = place.col;
+    let text = format!(in alloc; "{file}:{line}:{col}: refused: {why}\n")?;
+    Items::from_slice(alloc, text.as_bytes())
 }

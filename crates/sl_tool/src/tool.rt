@@ -1,14 +1,11 @@
 //! The top call.
 ghost use Rattle.std.specs.Prelude.{◌≡◌, IfOk};
-ghost use Rattle.sl_base.specs.Outside.{Rose};
 ghost use Rattle.sl_tool.specs.Command.{file_of, words_of, text_in};
 ghost use Rattle.sl_tool.specs.Answers.{AnswerTo};
 ghost use Rattle.sl_tool.specs.Outcome.{Written, Outcome};
-ghost use Rattle.sl_tool.specs.Refusals.{reason_words};
-ghost use Rattle.sl_model.specs.Texts.{refusal_line};
 
-use crate::checking::{check, typed_text};
-use crate::refusal::Refusal;
+use crate::checking::check;
+use crate::parsed::program_of;
 use crate::status::Status;
 use sl_base::limits::TEXT_BYTES;
 use sl_base::{Files, Items, ReadErr, Sink, read_all, write_all};
@@ -22,8 +19,8 @@ const USAGE: &str = "usage: stllint check FILE | run FILE INPUT SCHEDULE STEPS |
 /// report on it, or that it is refused. `ReadFault` comes only where a read of FILE failed in this call, which is
 /// then written; `Usage` exactly where the words are anything else, and no memory is taken then. `WriteFault`
 /// comes in place of any of these, only where a write failed; then the bytes that the sink took are a first part of the
-/// answer. `Memory` comes where memory ran out, before the first write. The answer is written at once, and
-/// no memory is taken behind the first write.
+/// answer. `Memory` comes where memory ran out, before the first write, and no read failed then. The answer is written
+/// at once, and no memory is taken behind a failed read or behind the first write.
 pub fn run_tool<F: Files, K: Sink>(
     alloc: Global,
     words: &[String],
@@ -31,21 +28,21 @@ pub fn run_tool<F: Files, K: Sink>(
     out: &mut K,
 ) -> Status
     ensures { Outcome (file_of (words_of words.now)) result
-        (F.left files.old) (F.left files.new) (λ file. Rose (F.faults files.old) (F.faults files.new) × F.blamed files.new file)
-        (K.taken out.old) (K.taken out.new) (Rose (K.faults out.old) (K.faults out.new)) }
+        (record { left = F.left files.old; faults = F.faults files.old; blamed = F.blamed files.old })
+        (record { left = F.left files.new; faults = F.faults files.new; blamed = F.blamed files.new })
+        (record { taken = K.taken out.old; faults = K.faults out.old })
+        (record { taken = K.taken out.new; faults = K.faults out.new }) }
 {
     let Some(file) = file_in(words) else {
         return deliver(out, Status::Usage, USAGE.as_bytes());
     };
+    let Ok(fault) = format!(in alloc; "read fault: {file}\n") else {
+        return Status::Memory;
+    };
     let text = match read_all(alloc, files, file, TEXT_BYTES) {
         Ok(text) => text,
         Err(ReadErr::Memory) => return Status::Memory,
-        Err(ReadErr::Failed) => {
-            let Ok(line) = format!(in alloc; "read fault: {file}\n") else {
-                return Status::Memory;
-            };
-            return deliver(out, Status::ReadFault, line.as_bytes());
-        }
+        Err(ReadErr::Failed) => return deliver(out, Status::ReadFault, fault.as_bytes()),
     };
     match answer(alloc, file, &text) {
         Ok((status, text)) => deliver(out, status, text.as_slice()),
@@ -67,41 +64,17 @@ fn file_in(words: &[String]) -> Option<&str>
 fn answer(alloc: Global, file: &str, text: &[u8]) -> Result<(Status, Items<u8>), AllocError>
     ensures { IfOk result (λ a. AnswerTo file.now text.now a.0 a.1) }
 {
-    if text.len() > TEXT_BYTES {
-        let line = format!(in alloc; "{file}: refused: longer than 1048576 bytes\n")?;
-        return Ok((Status::Refused, items_of(alloc, line.as_bytes())?));
+    match program_of(alloc, file, text)? {
+        Ok(parsed) => check(alloc, file, text, &parsed),
+        Err(line) => Ok((Status::Refused, line)),
     }
-    match typed_text(alloc, text)? {
-        Ok(p) => check(alloc, file, &p),
-        Err(refusal) => refuse(alloc, file, refusal),
-    }
-}
-
-// The answer to a text that is refused.
-fn refuse(alloc: Global, file: &str, refusal: Refusal) -> Result<(Status, Items<u8>), AllocError>
-    ensures { IfOk result (λ a. (a.0 ≡ Status.Refused) × (a.1 ≡ refusal_line file.now refusal.place (reason_words refusal.reason))) }
-{
-    let line = refusal.place.line;
-    let col = refusal.place.col;
-    let words = refusal.reason.words();
-    let text = format!(in alloc; "{file}:{line}:{col}: refused: {words}\n")?;
-    Ok((Status::Refused, items_of(alloc, text.as_bytes())?))
-}
-
-// These bytes.
-fn items_of(alloc: Global, bytes: &[u8]) -> Result<Items<u8>, AllocError>
-    ensures { IfOk result (λ items. items ≡ bytes.now) }
-{
-    let mut items = Items::new(alloc);
-    for byte in bytes {
-        items.push(*byte)?;
-    }
-    Ok(items)
 }
 
 // Writes an answer, and tells its status or that a write failed.
 fn deliver<K: Sink>(out: &mut K, status: Status, text: &[u8]) -> Status
-    ensures { Written status text.now result (K.taken out.old) (K.taken out.new) (Rose (K.faults out.old) (K.faults out.new)) }
+    ensures { Written status text.now result
+        (record { taken = K.taken out.old; faults = K.faults out.old })
+        (record { taken = K.taken out.new; faults = K.faults out.new }) }
 {
     match write_all(out, text) {
         Ok(()) => status,

@@ -39,7 +39,8 @@ pub fn body_of(tokens: &[Token]) -> Option<&[Token]>
 
 /// Reads the tokens of the body, up to its closing brace.
 pub fn read_body(alloc: Global, body: &[Token]) -> Result<Read<Reader>, AllocError>
-    ensures { IfOk result (λ read. MatchRead read (IsRead body.now) (Stops (IsBody no_scope STATEMENTS) (words_in body.now))) }
+    ensures { IfOk result (λ read.
+        MatchRead read (IsRead body.now) (Stops (IsBody no_scope STATEMENTS) (words_in body.now))) }
 {
     let mut reader = Reader::new(alloc);
     let mut rest = body;

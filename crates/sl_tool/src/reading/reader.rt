@@ -44,8 +44,8 @@ impl Reader {
         }
     }
 
-    /// Reads the statement whose tokens begin these, and says how many they are. None where no statement begins them that
-    /// may stand here. Where memory runs out, the reader is of no more use.
+    /// Reads the statement whose tokens begin these, and says how many they are. None where no statement begins them
+    /// that may stand here. Where memory runs out, the reader is of no more use.
     pub fn take_item(&mut self, tokens: &[Token]) -> Result<Option<usize>, AllocError>
         requires { IsSmall (scope_of self.old) }
         ensures { IfOk result (TakesItem self.old self.new tokens.now) }

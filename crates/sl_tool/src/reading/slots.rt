@@ -50,7 +50,9 @@ pub enum Kind {
 
 /// The kind of the statements that begin with the token.
 pub fn kind_at(token: &Token) -> Option<Kind>
-    ensures { MatchOption result ((kind : KindValue) → BeginsKind kind token.now.word → ⊥) (λ kind. BeginsKind kind token.now.word) }
+    ensures { MatchOption result
+        ((kind : KindValue) → BeginsKind kind token.now.word → ⊥)
+        (λ kind. BeginsKind kind token.now.word) }
 {
     if is_lib(token, b"vector") {
         return Some(Kind::Vector);

@@ -40,7 +40,8 @@ pub fn stop_in_body(reader: &Reader, tokens: &[Token]) -> usize
 
 /// The number of the token at which tokens stop that aren't the closing brace alone, where no statement may follow.
 pub fn stop_without_room(tokens: &[Token]) -> usize
-    ensures { (s : Scope) → (words_in tokens.now ≡ MarkWord RightBrace ∷ [] → ⊥) → Stops (IsBody s 0) (words_in tokens.now) result }
+    ensures { (s : Scope) → (words_in tokens.now ≡ MarkWord RightBrace ∷ [] → ⊥) →
+        Stops (IsBody s 0) (words_in tokens.now) result }
 {
     match tokens {
         [brace, ..] if is_mark(brace, Mark::RightBrace) => 1,

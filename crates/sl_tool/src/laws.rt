@@ -1,0 +1,31 @@
+//! Laws of answers that a reviewer would ask for.
+ghost use Rattle.std.specs.Prelude.{◌≡◌, ◌≤◌, List, ℕ, length};
+ghost use Rattle.sl_base.specs.declared.limits.TheConstants.{TEXT_BYTES};
+ghost use Rattle.sl_model.specs.Covers.{Warning};
+ghost use Rattle.sl_model.specs.Scoped.{IsScoped};
+ghost use Rattle.sl_model.specs.Shapes.{lib_makes, lib_shape};
+ghost use Rattle.sl_model.specs.Texts.{report_text};
+ghost use Rattle.sl_syntax.specs.View.{typed_of};
+ghost use Rattle.sl_syntax.specs.declared.typed.Typed.{Typed};
+ghost use Rattle.sl_tool.specs.Answers.{AnswerTo, IsReport, status_of};
+ghost use Rattle.sl_tool.specs.Form.{IsBuilt, IsOfText};
+ghost use Rattle.sl_tool.specs.declared.status.Status.{Status};
+
+/// A text that is refused has one line that refuses it, and no other answer.
+pub fn one_refusal()
+    ensures { (file text line bytes : List ℕ) (status : Status) →
+        AnswerTo file text Status.Refused line → AnswerTo file text status bytes →
+        (status ≡ Status.Refused) × (bytes ≡ line) }
+{}
+
+/// The answer to a text of the form that isn't too long is a report on it.
+pub fn each_text_is_reported()
+    ensures { (file text bytes : List ℕ) (status : Status) (p : Typed) →
+        length text ≤ TEXT_BYTES → IsBuilt text p → AnswerTo file text status bytes →
+        (r : List Warning) × IsReport p r × (status ≡ status_of r) × (bytes ≡ report_text file p.sites r) }
+{}
+
+/// In a text of the form each variable that is used is in scope.
+pub fn each_text_is_scoped()
+    ensures { (p : Typed) → IsOfText p → IsScoped lib_shape lib_makes (typed_of p) }
+{}
