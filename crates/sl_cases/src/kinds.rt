@@ -9,6 +9,7 @@ mod word;
 
 use crate::case::{SourceFile, TextKind};
 use std::alloc::{AllocError, Global};
+pub use word::word_text;
 
 /// What is asked of a text. Where it has none of that, it is the line that refuses the text.
 pub fn text_answer(

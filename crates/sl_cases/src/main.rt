@@ -1,4 +1,5 @@
-//! Cases as data: runs each case of the files that its words name, and prints those whose answer isn't the one that is due.
+//! Cases as data: runs each case of the files that its words name, and prints those whose answer isn't the one that is
+//! due.
 #![tactic(auto)]
 
 mod case;

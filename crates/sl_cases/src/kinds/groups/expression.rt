@@ -5,7 +5,8 @@ use crate::kinds::word::name_text;
 use sl_syntax::Expr;
 use std::alloc::{AllocError, Global};
 
-/// An expression with a pair of brackets around each operator and its operands, and around each piece and all before it.
+/// An expression with a pair of brackets around each operator and its operands, and around each piece and all before
+/// it.
 #[cycle(grouping)]
 pub fn grouped(alloc: Global, x: &Expr) -> Result<String, AllocError> {
     let head = head(alloc, x)?;
