@@ -1,4 +1,24 @@
-//! Reads a case file.
+//! Reads a case file: one case after another, each of parts with a heading.
+//!
+//! ```text
+//! %% case an iterator at the end
+//! %% words check a.cpp
+//! %% file a.cpp
+//! int main() {
+//!   std::vector<int> v;
+//!   auto it = v.begin();
+//!   int x = *it;
+//! }
+//! %% status 1
+//! %% out
+//! a.cpp:4:11: end iterator in *: it
+//! a.cpp: warnings: 1
+//! ```
+//!
+//! To a heading belong the lines up to the next one; with `bytes N` behind it, as in `%% file a.cpp bytes 4`, exactly N
+//! bytes and a line feed. In place of `words`, `status` and `out` a case with one file has one of `tokens`, `tree`,
+//! `groups` and `refusal`, and below it what is due.
+ghost use Rattle.std.specs.Prelude.{◌≡◌};
 ghost use Rattle.sl_cases.specs.declared.case_file.CaseFileErr.TheVariants.{Memory};
 
 use crate::case::{Asked, Case, SourceFile, TextKind};

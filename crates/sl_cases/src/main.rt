@@ -5,7 +5,6 @@
 mod case;
 mod case_file;
 mod kinds;
-mod phases;
 mod report;
 mod section;
 #[cfg(test)]

@@ -5,7 +5,7 @@ mod operator;
 mod statement;
 
 use crate::case::SourceFile;
-use crate::phases::program_of;
+use sl_tool::program_of;
 use statement::item_text;
 use std::alloc::{AllocError, Global};
 

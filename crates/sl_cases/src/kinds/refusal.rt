@@ -1,7 +1,7 @@
 //! The line that refuses a text.
 
 use crate::case::SourceFile;
-use crate::phases::program_of;
+use sl_tool::program_of;
 use std::alloc::{AllocError, Global};
 
 /// The line that refuses a text, or nothing.

@@ -2,8 +2,8 @@
 
 use crate::case::SourceFile;
 use crate::kinds::word::word_text;
-use crate::phases::program_of;
 use sl_syntax::write_tokens;
+use sl_tool::program_of;
 use std::alloc::{AllocError, Global};
 
 /// The words of a text's tree, one a line.
