@@ -1,12 +1,5 @@
 -- ## Views and heights of trees
 pub mod Views
-pub mod Heights
--- ## Turns of loops
-pub mod Fuel
-pub mod RepeatLaws
--- ## Expressions, statements and programs
-pub mod ListLaws
-pub mod CallLaws
-pub mod ExprLaws
+-- ## Statements and programs
 pub mod StatementLaws
 pub mod ParseLaws

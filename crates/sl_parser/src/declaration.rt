@@ -7,9 +7,9 @@ ghost use Rattle.sl_parser.specs.Means.DeclarationViews.{tall_value, tall_initia
 ghost use Rattle.sl_parser.specs.Means.Reader as spec;
 
 use crate::container::container_type;
-use crate::expression::expr;
-use crate::expression::list::{list, list_before};
 use sl_base::{Form, Mark, Scalar};
+use sl_expressions::expression::expr;
+use sl_expressions::expression::list::{list, list_before};
 use sl_grammar::{Fault, Tokens};
 use sl_syntax::{Declaration, Expr, Initializer, TokenKind};
 use std::alloc::Global;

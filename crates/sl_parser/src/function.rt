@@ -14,7 +14,7 @@ use sl_syntax::{Function, ResultType, TokenKind};
 use std::alloc::Global;
 
 /// The functions up to the last token, at least one.
-#[tactic(auto, using(crate::proofs::Heights::one_alone), unfolding(crate::specs::Means::Reader::program))]
+#[tactic(auto, using(sl_expressions::proofs::Heights::one_alone), unfolding(crate::specs::Means::Reader::program))]
 pub fn functions(alloc: Global, tokens: &mut Tokens<'_>) -> Result<Vec<Function>, Fault>
     ensures { Reads tall_functions (spec.program tokens.old) result tokens.new }
 {

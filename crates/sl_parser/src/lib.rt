@@ -3,9 +3,7 @@
 
 mod container;
 mod declaration;
-mod effect;
 mod error;
-mod expression;
 mod function;
 mod params;
 mod program;

@@ -13,7 +13,7 @@ use sl_syntax::{ContainerType, Param, TokenKind};
 use std::alloc::Global;
 
 /// The parameters before a `)`.
-#[tactic(auto, using(crate::proofs::Heights::one_alone), unfolding(crate::specs::Means::Reader::params))]
+#[tactic(auto, using(sl_expressions::proofs::Heights::one_alone), unfolding(crate::specs::Means::Reader::params))]
 pub fn params(alloc: Global, tokens: &mut Tokens<'_>) -> Result<Vec<Param>, Fault>
     ensures { Reads tall_params (spec.params tokens.old) result tokens.new }
 {

@@ -9,7 +9,7 @@ use Rattle.sl_syntax.specs.Depth.{height, highest, option_height, initializer_he
 use Rattle.sl_syntax.specs.Tree.{Expr, Initializer, Declaration}
 use Rattle.sl_syntax.specs.TreeView.{expr_of, initializer_of, declaration_of}
 use Rattle.sl_grammar.specs.Means.Steps.{Tall}
-use Rattle.sl_parser.specs.Means.Nests.{measured}
+use Rattle.sl_expressions.specs.Means.Nests.{measured}
 
 abbrev pub tall_value : Option ExprCode → Tall (Option Expr)
 tall_value x = measured (option_height height) (option_map expr_of x)

@@ -6,7 +6,7 @@ use Rattle.sl_syntax.specs.Depth.{highest, function_height}
 use Rattle.sl_syntax.specs.Tree.{Function}
 use Rattle.sl_syntax.specs.TreeView.{function_of}
 use Rattle.sl_grammar.specs.Means.Steps.{Tall}
-use Rattle.sl_parser.specs.Means.Nests.{measured}
+use Rattle.sl_expressions.specs.Means.Nests.{measured}
 
 abbrev pub tall_function : FunctionCode → Tall Function
 tall_function x = measured function_height (function_of x)

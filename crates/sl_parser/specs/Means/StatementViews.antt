@@ -17,7 +17,7 @@ use Rattle.sl_grammar.specs.declared.fault.Fault.{Fault}
 use Rattle.sl_grammar.specs.Means.Statements.{stmt}
 pub use Rattle.sl_grammar.specs.Means.Statements.{loop as while_loop}
 use Rattle.sl_grammar.specs.Means.Steps.{Reads, Reader, Tall}
-use Rattle.sl_parser.specs.Means.Nests.{measured}
+use Rattle.sl_expressions.specs.Means.Nests.{measured}
 
 abbrev pub tall_stmt : StmtCode → Tall Stmt
 tall_stmt x = measured stmt_height (stmt_of x)

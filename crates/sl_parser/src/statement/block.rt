@@ -27,7 +27,7 @@ impl<F: Fn(Global, &mut Tokens<'_>, usize) -> Result<Stmt, Fault>> Within<F> {
     }
 
     /// `{..}`
-    #[tactic(auto, using(crate::proofs::Heights::of_items), unfolding(crate::specs::Means::Reader::braced))]
+    #[tactic(auto, using(crate::proofs::Views::of_items), unfolding(crate::specs::Means::Reader::braced))]
     pub fn braced(&self, tokens: &mut Tokens<'_>) -> Result<Block, Fault>
         requires reader { Holds self.now.depth_left (F.pre self.now.inner) (F.post self.now.inner) }
         requires small { self.now.depth_left < TREE_DEPTH }

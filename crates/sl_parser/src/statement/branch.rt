@@ -2,13 +2,13 @@
 ghost use Rattle.std.specs.Prelude.{◌≡◌, ◌<◌};
 ghost use Rattle.sl_base.specs.declared.limits.TheConstants.{TREE_DEPTH};
 ghost use Rattle.sl_grammar.specs.Means.Steps.{Reads};
-ghost use Rattle.sl_parser.specs.Means.EffectViews.{tall_cond};
+ghost use Rattle.sl_expressions.specs.Means.EffectViews.{tall_cond};
 ghost use Rattle.sl_parser.specs.Means.Reader as spec;
 ghost use Rattle.sl_parser.specs.Means.StatementViews.{Holds, tall_stmt, within};
 
-use crate::effect::cond;
 use crate::statement::within::Within;
 use sl_base::{Mark, Place};
+use sl_expressions::effect::cond;
 use sl_grammar::{Fault, Tokens};
 use sl_syntax::{Cond, Stmt};
 use std::alloc::Global;

@@ -8,10 +8,10 @@ ghost use Rattle.sl_parser.specs.Means.StatementViews.{Holds, tall_first, tall_s
 ghost use Rattle.sl_parser.specs.Means.StatementViews.{tall_optional_cond, tall_optional_effect};
 ghost use Rattle.sl_syntax.specs.TreeView.{expr_of, first_of};
 
-use crate::effect::{cond, effect};
-use crate::expression::expr;
 use crate::statement::within::Within;
 use sl_base::{Mark, Place, Scalar};
+use sl_expressions::effect::{cond, effect};
+use sl_expressions::expression::expr;
 use sl_grammar::{Fault, Tokens};
 use sl_syntax::{Cond, Effect, Expr, First, Identifier, Stmt, TokenKind};
 use std::alloc::Global;

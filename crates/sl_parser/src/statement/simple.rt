@@ -7,10 +7,10 @@ ghost use Rattle.sl_parser.specs.Means.Reader as spec;
 ghost use Rattle.sl_parser.specs.Means.StatementViews.{tall_stmt, within};
 ghost use Rattle.sl_syntax.specs.Tree as tree;
 
-use crate::effect::effect;
-use crate::expression::expr;
 use crate::statement::within::Within;
 use sl_base::{Mark, Place};
+use sl_expressions::effect::effect;
+use sl_expressions::expression::expr;
 use sl_grammar::{Fault, Tokens};
 use sl_syntax::Stmt;
 use std::alloc::Global;

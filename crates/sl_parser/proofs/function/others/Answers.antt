@@ -2,8 +2,8 @@ use Rattle.std.proofs.Common.{sym, ap, ◌∙◌, not}
 use Rattle.std.proofs.lemmas.Result.{err_from_is_err_and}
 use Rattle.sl_syntax.specs.Depth.{function_height}
 use Rattle.sl_syntax.specs.TreeView.{function_of}
-use Rattle.sl_parser.proofs.Heights.{pushed}
-use Rattle.sl_parser.proofs.RepeatLaws.{loop-stops, loop-fault, loop-turn}
+use Rattle.sl_expressions.proofs.Heights.{pushed}
+use Rattle.sl_expressions.proofs.RepeatLaws.{loop-stops, loop-fault, loop-turn}
 use Rattle.sl_parser.proofs.function.others.Goals as goal
 
 pub returns-then-sees_end : goal.returns-then-sees_end

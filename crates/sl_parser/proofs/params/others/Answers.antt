@@ -1,7 +1,7 @@
 use Rattle.std.proofs.Common.{refl, sym, ◌∙◌}
 use Rattle.std.proofs.lemmas.Result.{err_from_is_err_and}
-use Rattle.sl_parser.proofs.Heights.{highest_behind}
-use Rattle.sl_parser.proofs.RepeatLaws.{loop-stops, loop-fault, loop-turn, loop-spent}
+use Rattle.sl_expressions.proofs.Heights.{highest_behind}
+use Rattle.sl_expressions.proofs.RepeatLaws.{loop-stops, loop-fault, loop-turn, loop-spent}
 use Rattle.sl_parser.proofs.params.others.Goals as goal
 
 pub returns-then-not-sees : goal.returns-then-not-sees

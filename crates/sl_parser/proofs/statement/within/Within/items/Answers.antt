@@ -3,8 +3,8 @@ use Rattle.std.specs.Prelude.{not}
 use Rattle.std.proofs.lemmas.Result.{err_from_is_err_and}
 use Rattle.sl_syntax.specs.Depth.{item_height}
 use Rattle.sl_syntax.specs.TreeView.{item_of}
-use Rattle.sl_parser.proofs.Heights.{pushed}
-use Rattle.sl_parser.proofs.RepeatLaws.{loop-stops, loop-fault, loop-turn, loop-spent}
+use Rattle.sl_expressions.proofs.Heights.{pushed}
+use Rattle.sl_expressions.proofs.RepeatLaws.{loop-stops, loop-fault, loop-turn, loop-spent}
 use Rattle.sl_parser.proofs.statement.within.Within.items.Goals as goal
 
 pub returns-then-sees : goal.returns-then-sees

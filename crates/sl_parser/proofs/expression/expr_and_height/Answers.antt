@@ -1,5 +1,0 @@
-use Rattle.sl_parser.proofs.Heights.{sized}
-use Rattle.sl_parser.proofs.expression.expr_and_height.Goals as goal
-
-pub returns-clause-size : goal.returns-clause-size
-returns-clause-size c = sized _ _ _ _ c.nested_expr.result c.requires.some c.requires.small c.nested_expr.ensures.reads
