@@ -225,7 +225,8 @@ impl<F: Fn(Global, &mut Tokens<'_>, usize, u8) -> Result<(Expr, usize), Fault>> 
         member: Identifier,
     ) -> Result<(Expr, usize), Fault>
         requires lower { left.1 < self.now.depth_left }
-        ensures reads { OkOrMemory result (λ x. tall_expr x ≡ (tree.member (tall_expr left).0 selector place member, left.1 + 1)) }
+        ensures reads { OkOrMemory result
+            (λ x. tall_expr x ≡ (tree.member (tall_expr left).0 selector place member, left.1 + 1)) }
         ensures low { IfOk result (λ x. x.1 ≤ self.now.depth_left) }
     {
         let (tree, height) = left;
