@@ -1,5 +1,6 @@
 -- Where the reader stands in a body.
-use Rattle.std.proofs.Common.{◌≡◌, ℕ, ◌+◌, ◌-◌, ◌≤◌, ◌<◌, List, [], ◌∷◌, ◌++◌, length, drop, refl, sym, ap, ◌∙◌, subst, append_assoc, append-nil, length-append, length-drop, take, Some, arith}
+use Rattle.std.proofs.Common.{◌≡◌, ℕ, ◌+◌, ◌-◌, ◌≤◌, ◌<◌, List, [], ◌∷◌, ◌++◌, length, drop, refl, sym, ap, ◌∙◌, subst, append_assoc, append-nil}
+use Rattle.std.proofs.Common.{length-append, length-drop, take, Some, arith}
 use Rattle.std.proofs.lemmas.List.{drop-map, take_all}
 use Rattle.std.proofs.Math.ListN.{length-map}
 use Rattle.std.proofs.Math.Seq.{drop-append_seam}
@@ -12,8 +13,10 @@ use Rattle.sl_base.specs.declared.word.Word.TheVariants.{Mark}
 use Rattle.sl_syntax.specs.declared.typed.Stmt.{Stmt}
 use Rattle.sl_tool.specs.declared.reading.reader.Reader.{Reader}
 use Rattle.sl_syntax.specs.Begins.{words_in}
-use Rattle.sl_tool.specs.Form.{Item, vector_item, push_back_item, begin_item, dereference_item, item_words, Scope, no_scope, IsAllowed, after_item, after_items, typed_item, typed_items, push_places, UsesDeclared}
-use Rattle.sl_tool.specs.Reading.{BeginsWith, IsSmall, no_reader, scope_of, item_places, Adds, TakesItem, AreItems, IsBody, IsRead}
+use Rattle.sl_tool.specs.Subset.{Item, vector_item, push_back_item, begin_item, dereference_item, item_words, Scope, no_scope, IsAllowed, after_item}
+use Rattle.sl_tool.specs.Subset.{after_items, typed_item, typed_items, push_places}
+use Rattle.sl_tool.proofs.Uses.{UsesDeclared}
+use Rattle.sl_tool.specs.Means.Reading.{BeginsWith, IsSmall, no_reader, scope_of, item_places, Adds, TakesItem, AreItems, IsBody, IsRead}
 use Rattle.sl_syntax.specs.Begins.{Stops}
 use Rattle.sl_tool.proofs.ItemLaws.{begins_with}
 use Rattle.sl_tool.proofs.StopHereLaws.{stops_behind}
@@ -31,7 +34,8 @@ pub record Reads (body rest : List Token) (r : Reader) (is : List Item) : Type 0
 pub record StandsAt (body rest : List Token) (room : ℕ) (r : Reader) : Type 0 where
   pub small : IsSmall (scope_of r)
   pub ends : (is : List Item) → AreItems (scope_of r) rest room is → Reads body rest r is
-  pub stops : (k : ℕ) → Stops (IsBody (scope_of r) room) (words_in rest) k → Stops (IsBody no_scope STATEMENTS) (words_in body) (length body - length rest + k)
+  pub stops : (k : ℕ) → Stops (IsBody (scope_of r) room) (words_in rest) k → Stops (IsBody no_scope STATEMENTS) (words_in body)
+      (length body - length rest + k)
   pub inside : length rest ≤ length body
 
 begins_at : (body : List Token) (k : ℕ) → length body - length body + k ≡ k
@@ -63,7 +67,8 @@ small_after s (dereference_item name iterator) allowed small =
     record { vectors = small.vectors; iterators = small.iterators; numbers = omega arith; names = omega arith; pushes = small.pushes }
 
 -- the statement that begins the tokens, and those behind it
-followed : (s : Scope) (tokens : List Token) (room : ℕ) (i : Item) (is : List Item) → BeginsWith (words_in tokens) i → IsAllowed s i → 0 < room → AreItems (after_item s i) (drop (length (item_words i)) tokens) (room - 1) is → AreItems s tokens room (i ∷ is)
+followed : (s : Scope) (tokens : List Token) (room : ℕ) (i : Item) (is : List Item) → BeginsWith (words_in tokens) i → IsAllowed s i → 0 < room
+    → AreItems (after_item s i) (drop (length (item_words i)) tokens) (room - 1) is → AreItems s tokens room (i ∷ is)
 followed s tokens room i is begins allowed some h = record {
   words = begins
       ∙ ap (λ l. item_words i ++ l) (drop-map (λ (t : Token). t.word) (length (item_words i)) tokens ∙ h.words)
@@ -73,30 +78,36 @@ followed s tokens room i is begins allowed some h = record {
 }
 
 -- the words behind the first statement
-words_behind : (tokens : List Token) (i : Item) (ws : List Word) → words_in tokens ≡ item_words i ++ ws → words_in (drop (length (item_words i)) tokens) ≡ ws
+words_behind : (tokens : List Token) (i : Item) (ws : List Word) → words_in tokens ≡ item_words i ++ ws
+    → words_in (drop (length (item_words i)) tokens) ≡ ws
 words_behind tokens i ws e =
     sym (drop-map (λ (t : Token). t.word) (length (item_words i)) tokens)
     ∙ ap (λ l. drop (length (item_words i)) l) e
     ∙ drop-append_seam (item_words i) ws
 
-pub behind : (s : Scope) (tokens : List Token) (room : ℕ) (i : Item) (is : List Item) → AreItems s tokens room (i ∷ is) → AreItems (after_item s i) (drop (length (item_words i)) tokens) (room - 1) is
+pub behind : (s : Scope) (tokens : List Token) (room : ℕ) (i : Item) (is : List Item) → AreItems s tokens room (i ∷ is)
+    → AreItems (after_item s i) (drop (length (item_words i)) tokens) (room - 1) is
 behind s tokens room i is h = record {
   words = words_behind tokens i _ (h.words ∙ append_assoc (item_words i) (flat_map item_words is) (Mark RightBrace ∷ []));
   allowed = h.allowed.1;
   few = omega (arith, h.few);
 }
 
-first_begins : (s : Scope) (tokens : List Token) (room : ℕ) (i : Item) (is : List Item) → AreItems s tokens room (i ∷ is) → BeginsWith (words_in tokens) i
-first_begins s tokens room i is h = begins_with (words_in tokens) _ i (h.words ∙ append_assoc (item_words i) (flat_map item_words is) (Mark RightBrace ∷ []))
+first_begins : (s : Scope) (tokens : List Token) (room : ℕ) (i : Item) (is : List Item) → AreItems s tokens room (i ∷ is)
+    → BeginsWith (words_in tokens) i
+first_begins s tokens room i is h = begins_with (words_in tokens) _ i
+    (h.words ∙ append_assoc (item_words i) (flat_map item_words is) (Mark RightBrace ∷ []))
 
-push_places-cons : (tokens : List Token) (i : Item) (is : List Item) → push_places tokens (i ∷ is) ≡ item_places tokens i ++ push_places (drop (length (item_words i)) tokens) is
+push_places-cons : (tokens : List Token) (i : Item) (is : List Item) → push_places tokens (i ∷ is) ≡ item_places tokens i
+    ++ push_places (drop (length (item_words i)) tokens) is
 push_places-cons tokens (vector_item name) is = refl
 push_places-cons tokens (push_back_item vector number) is = refl
 push_places-cons tokens (begin_item name vector) is = refl
 push_places-cons tokens (dereference_item name iterator) is = refl
 
 -- a statement uses what is declared
-pub uses_declared : (s : Scope) (tokens : List Token) (i : Item) (ss : List Stmt) → IsAllowed s i → UsesDeclared (length (after_item s i).vectors) (length (after_item s i).iterators) ss → UsesDeclared (length s.vectors) (length s.iterators) (typed_item s tokens i ∷ ss)
+pub uses_declared : (s : Scope) (tokens : List Token) (i : Item) (ss : List Stmt) → IsAllowed s i → UsesDeclared (length (after_item s i).vectors)
+    (length (after_item s i).iterators) ss → UsesDeclared (length s.vectors) (length s.iterators) (typed_item s tokens i ∷ ss)
 uses_declared s tokens (vector_item name) ss allowed h = rw length-append at h
 uses_declared s tokens (push_back_item vector number) ss allowed h = (number_below s.vectors vector allowed.0, h)
 uses_declared s tokens (begin_item name vector) ss allowed h = (number_below s.vectors vector allowed.1, rw length-append at h)
@@ -110,11 +121,14 @@ item_inside tokens i begins =
     omega arith
 
 -- One statement further. What it adds is known of the whole body too.
-module _ (body rest : List Token) (room : ℕ) (old new : Reader) (i : Item) (at : StandsAt body rest room old) (begins : BeginsWith (words_in rest) i) (adds : Adds old new rest i) (some : 0 < room) where
-  reads_more : (is : List Item) → AreItems (scope_of new) (drop (length (item_words i)) rest) (room - 1) is → Reads body (drop (length (item_words i)) rest) new is
+module _ (body rest : List Token) (room : ℕ) (old new : Reader) (i : Item) (at : StandsAt body rest room old) (begins : BeginsWith (words_in rest) i)
+    (adds : Adds old new rest i) (some : 0 < room) where
+  reads_more : (is : List Item) → AreItems (scope_of new) (drop (length (item_words i)) rest) (room - 1) is
+      → Reads body (drop (length (item_words i)) rest) new is
   reads_more is h =
       let tokens = drop (length (item_words i)) rest in
-      let all = at.ends (i ∷ is) (followed (scope_of old) rest room i is begins adds.allowed some (subst (λ s. AreItems s tokens (room - 1) is) adds.scope h)) in
+      let all = at.ends (i ∷ is)
+      (followed (scope_of old) rest room i is begins adds.allowed some (subst (λ s. AreItems s tokens (room - 1) is) adds.scope h)) in
       record {
         items = all.items;
         are_items = all.are_items;
@@ -129,11 +143,14 @@ module _ (body rest : List Token) (room : ℕ) (old new : Reader) (i : Item) (at
         scope = ap (λ s. after_items s is) adds.scope ∙ all.scope;
       }
 
-  stops_more : (k : ℕ) → Stops (IsBody (scope_of new) (room - 1)) (words_in (drop (length (item_words i)) rest)) k → Stops (IsBody no_scope STATEMENTS) (words_in body) (length body - length (drop (length (item_words i)) rest) + k)
+  stops_more : (k : ℕ) → Stops (IsBody (scope_of new) (room - 1)) (words_in (drop (length (item_words i)) rest)) k
+      → Stops (IsBody no_scope STATEMENTS) (words_in body) (length body - length (drop (length (item_words i)) rest) + k)
   stops_more k h =
       let n = length (item_words i) in
-      let here = stops_behind (scope_of old) room i (words_in (drop n rest)) k adds.allowed some (subst (λ s. Stops (IsBody s (room - 1)) (words_in (drop n rest)) k) adds.scope h) in
-      let words : item_words i ++ words_in (drop n rest) ≡ words_in rest = ap (λ l. item_words i ++ l) (sym (drop-map (λ (t : Token). t.word) n rest)) ∙ sym begins in
+      let here = stops_behind (scope_of old) room i (words_in (drop n rest)) k adds.allowed some
+      (subst (λ s. Stops (IsBody s (room - 1)) (words_in (drop n rest)) k) adds.scope h) in
+      let words : item_words i ++ words_in (drop n rest) ≡ words_in rest =
+      ap (λ l. item_words i ++ l) (sym (drop-map (λ (t : Token). t.word) n rest)) ∙ sym begins in
       let long = item_inside rest i begins in
       let count : length body - length rest + (n + k) ≡ length body - length (drop n rest) + k = omega (arith, length-drop n rest, at.inside) in
       rw count at (at.stops (n + k) (subst (λ l. Stops (IsBody (scope_of old) room) l (n + k)) words here))
@@ -159,7 +176,8 @@ read_at_end body rest room r at e =
     }
 
 -- one statement further, where the reader has taken one
-pub takes_on : (body rest : List Token) (room n : ℕ) (old new : Reader) → StandsAt body rest room old → TakesItem old new rest (Some n) → 0 < room → StandsAt body (take (length rest - n) (drop n rest)) (room - 1) new
+pub takes_on : (body rest : List Token) (room n : ℕ) (old new : Reader) → StandsAt body rest room old → TakesItem old new rest (Some n) → 0 < room
+    → StandsAt body (take (length rest - n) (drop n rest)) (room - 1) new
 takes_on body rest room n old new at (i, begins, many, adds) some =
     let whole = take_all (length rest - n) (drop n rest) (omega (arith, length-drop n rest)) in
     rw (whole, many) (moves body rest room old new i at begins adds some)

@@ -1,4 +1,4 @@
--- What the library gives at the calls of a text of the form.
+-- What the library gives at the calls of a text of the subset.
 use Rattle.std.proofs.Common.{◌≡◌, ℕ, ◌+◌, Bool, true, false, List, [], ◌∷◌, length, Option, Some, None, refl, ap, ◌∙◌, drop, if◌then◌else◌, ◌++◌}
 use Rattle.std.specs.Prelude.{slice_get, nat_lt, ◌==◌, ℤ, pos}
 use Rattle.sl_base.specs.declared.form.Form.{Form}
@@ -24,7 +24,8 @@ cont_at-there m j c h = get_or-there m.conts j c (record { form = f.Vector; cell
 vector_there : (m : Memory) (j : ℕ) (c : Cont) → slice_get m.conts j ≡ Some c → c.form ≡ f.Vector → object_in m (Some f.Vector) (Some j) ≡ Some j
 vector_there m j c h form = ap (of_form f.Vector j) h ∙ ap (λ (g : Form). if same_form g f.Vector then Some j else None) form
 
-pub lib-vector : (m : Memory) (picks : List ℕ) → lib (row vector_row) (record { site = 0; object = None; values = [] }) m picks ≡ gives nothing (made f.Vector (pick picks) m) (drop 1 picks)
+pub lib-vector : (m : Memory) (picks : List ℕ) → lib (row vector_row) (record { site = 0; object = None; values = [] }) m picks ≡ gives nothing
+    (made f.Vector (pick picks) m) (drop 1 picks)
 lib-vector m picks = refl
 
 pub lib-begin : (m : Memory) (j : ℕ) (c : Cont) (picks : List ℕ) → slice_get m.conts j ≡ Some c → c.form ≡ f.Vector
@@ -37,15 +38,19 @@ pushed_back m j c z picks site =
     if nat_lt ELEMENTS (size c + 1) then thrown
     else gives nothing (after (change_of VectorInsert c (insertion c (size c) ((z, pos 0) ∷ []) picks)) m j c site) (drop (grown_picks c 1) picks)
 
-push_case : (m : Memory) (j : ℕ) (z : ℤ) (picks : List ℕ) (site : ℕ) (full : Bool) → let s : Situation = record { memory = m; object = j; values = number z ∷ []; picks = picks; site = site } in
+push_case : (m : Memory) (j : ℕ) (z : ℤ) (picks : List ℕ) (site : ℕ) (full : Bool) → let s : Situation =
+    record { memory = m; object = j; values = number z ∷ []; picks = picks; site = site } in
     let d : Cont = cont_at m j in let e : Edit = insertion d (size d) ((z, pos 0) ∷ []) picks in
-    carried_out push_back s (if full then throws else edits (grown_picks d 1) e) ≡ (if full then thrown else gives nothing (after (change_of VectorInsert d e) m j d site) (drop (grown_picks d 1) picks))
+    carried_out push_back s
+    (if full then throws else edits (grown_picks d 1) e) ≡ (if full then thrown else gives nothing (after (change_of VectorInsert d e) m j d site)
+    (drop (grown_picks d 1) picks))
 push_case m j z picks site true = refl
 push_case m j z picks site false = refl
 
 pub lib-push_back : (m : Memory) (j : ℕ) (c : Cont) (z : ℤ) (picks : List ℕ) (site : ℕ) → slice_get m.conts j ≡ Some c → c.form ≡ f.Vector
     → lib (row push_back_row) (record { site = site; object = Some j; values = number z ∷ [] }) m picks ≡ pushed_back m j c z picks site
-lib-push_back m j c z picks site h form = ap (on_object push_back (record { site = site; object = Some j; values = number z ∷ [] }) m picks) (vector_there m j c h form)
+lib-push_back m j c z picks site h form = ap (on_object push_back (record { site = site; object = Some j; values = number z ∷ [] }) m picks)
+    (vector_there m j c h form)
     ∙ (push_case m j z picks site (nat_lt ELEMENTS (size (cont_at m j) + 1))
     ∙ ap (λ (d : Cont). pushed_back m j d z picks site) (cont_at-there m j c h))
 
@@ -53,13 +58,16 @@ lib-push_back m j c z picks site h form = ap (on_object push_back (record { site
 abbrev pub at_element : ℕ → ℕ → ℕ → Memory → List ℕ → LibOut
 at_element j k n m picks = if k == n then trapped 4 1 else gives (element_at j k key_part) m picks
 
-element_case : (j k : ℕ) (m : Memory) (picks : List ℕ) (stamp : ℕ) (at_end : Bool) → let s : Situation = record { memory = m; object = length m.conts; values = iterator stamp ∷ []; picks = picks; site = 0 } in
-    (elim (first_failure (fails_if at_end 4 1 ++ [])) as (λ _. LibOut) [ Some f ↦ trapped f.0 f.1 | None ↦ gives (element_at j k key_part) m picks ]) ≡ (if at_end then trapped 4 1 else gives (element_at j k key_part) m picks)
+element_case : (j k : ℕ) (m : Memory) (picks : List ℕ) (stamp : ℕ) (at_end : Bool) → let s : Situation =
+    record { memory = m; object = length m.conts; values = iterator stamp ∷ []; picks = picks; site = 0 } in
+    (elim (first_failure (fails_if at_end 4 1 ++ [])) as (λ _. LibOut) [ Some f ↦ trapped f.0 f.1 | None ↦ gives (element_at j k key_part) m picks ])
+    ≡ (if at_end then trapped 4 1 else gives (element_at j k key_part) m picks)
 element_case j k m picks stamp true = refl
 element_case j k m picks stamp false = refl
 
 abbrev star_at : Memory → List ℕ → Option (ℕ × ℕ) → LibOut
-star_at m picks p = elim (first_failure (dereference_fails m p 1 ++ [])) as (λ _. LibOut) [ Some f ↦ trapped f.0 f.1 | None ↦ gives (int_at p) m picks ]
+star_at m picks p = elim (first_failure (dereference_fails m p 1 ++ [])) as (λ _. LibOut)
+    [ Some f ↦ trapped f.0 f.1 | None ↦ gives (int_at p) m picks ]
 
 pub lib-star_valid : (m : Memory) (stamp j k : ℕ) (picks : List ℕ) → locate m stamp ≡ Some (j, k)
     → lib (operator star) (record { site = 0; object = None; values = iterator stamp ∷ [] }) m picks ≡ at_element j k (size (cont_at m j)) m picks

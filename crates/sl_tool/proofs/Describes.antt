@@ -7,7 +7,7 @@ use Rattle.sl_model.specs.Edits.{numbers}
 use Rattle.sl_model.specs.Good.{IsAt, IsSound}
 use Rattle.sl_model.specs.State.{Frame}
 use Rattle.sl_tool.specs.declared.analysis.Standing.{Standing}
-use Rattle.sl_tool.specs.Analysis.{Known, is_filled, killers_of}
+use Rattle.sl_tool.specs.Means.Analysis.{Known, is_filled, killers_of}
 
 -- An iterator stands at the begin of its vector, which has elements or hasn't as it was when the iterator was made; where it hadn't, no call
 -- came since.
@@ -29,5 +29,6 @@ pub record Describes (k : Known) (m : Memory) (frame : Frame) (iters : List ℕ)
   pub iters_frame : frame.iters ≡ numbers 0 (length k.iterators)
   pub forms : (j : ℕ) (c : Cont) → slice_get m.conts j ≡ Some c → c.form ≡ f.Vector
   pub filled : (j : ℕ) (c : Cont) → slice_get m.conts j ≡ Some c → slice_index_or k.filled j false ≡ nat_lt 0 (size c)
-  pub stands : (i stamp : ℕ) (standing : Standing) → slice_get iters i ≡ Some stamp → slice_get k.iterators i ≡ Some standing → IsHere m stamp k standing
+  pub stands : (i stamp : ℕ) (standing : Standing) → slice_get iters i ≡ Some stamp → slice_get k.iterators i ≡ Some standing
+      → IsHere m stamp k standing
   pub since : (i : ℕ) (standing : Standing) → slice_get k.iterators i ≡ Some standing → standing.since ≤ length k.pushes

@@ -1,6 +1,7 @@
--- What each statement of a text of the form does in the plainest run: where it isn't warned of, the run goes on; where it is, the run
+-- What each statement of a text of the subset does in the plainest run: where it isn't warned of, the run goes on; where it is, the run
 -- ends in a trap that the first warning tells of.
-use Rattle.std.proofs.Common.{arith, ◌≡◌, ℕ, zero, suc, ◌+◌, ◌<◌, ◌≤◌, Bool, true, false, List, [], ◌∷◌, ◌++◌, length, get_or, drop, Option, Some, None, refl, ap, sym, subst, ◌∙◌, if◌then◌else◌}
+use Rattle.std.proofs.Common.{arith, ◌≡◌, ℕ, zero, suc, ◌+◌, ◌<◌, ◌≤◌, Bool, true, false, List, [], ◌∷◌, ◌++◌, length, get_or, drop, Option, Some}
+use Rattle.std.proofs.Common.{None, refl, ap, sym, subst, ◌∙◌, if◌then◌else◌}
 use Rattle.std.specs.Prelude.{slice_get, nat_lt, Contains, ℤ, pos}
 use Rattle.std.proofs.lemmas.Bool.{ltb-true, ltb-false, eq-eqb, ne_eqb}
 use Rattle.sl_base.specs.declared.form.Form.TheVariants as f
@@ -8,12 +9,12 @@ use Rattle.sl_base.specs.declared.scalar.Scalar.TheVariants as t
 use Rattle.sl_base.specs.declared.place.Place.{Place}
 use Rattle.sl_base.specs.declared.limits.TheConstants.{ELEMENTS}
 use Rattle.sl_syntax.specs.declared.typed.Stmt.TheVariants.{Vector, PushBack, Begin, Dereference}
-use Rattle.sl_syntax.specs.Typed.{Head, row, operator, star, makes, none, with, literal, iterator as iterator_operand, held, element, call, evaluates, set_iterator, set_scalar}
+use Rattle.sl_syntax.specs.Typed.{Head, row, operator, star, makes, none, with, literal, iterator as iterator_operand, held, element, call, evaluates}
+use Rattle.sl_syntax.specs.Typed.{set_iterator, set_scalar}
 use Rattle.sl_syntax.specs.View.{stmt_of, free_call, member_call, vector_row, begin_row, push_back_row}
 use Rattle.sl_model.specs.Containers.{Cont, size, cont_at, killer}
 use Rattle.sl_model.specs.Schedule.{pick}
 use Rattle.sl_model.specs.Values.{Value, number, iterator, nothing, LibOut, thrown, trapped, gives}
-use Rattle.sl_model.specs.Good.{IsAt}
 use Rattle.sl_model.specs.Ends.{Trapped, OutOfSteps, End}
 use Rattle.sl_model.specs.State.{State, cont_of, iter_of, stamp_of, new_iterator}
 use Rattle.sl_model.specs.Eval.{Oracle, settle_call}
@@ -24,8 +25,9 @@ use Rattle.sl_model.specs.Covers.{Tells}
 use Rattle.sl_tool.specs.declared.analysis.Warning.{Warning}
 use Rattle.sl_tool.specs.declared.analysis.Fault.TheVariants.{InvalidIterator}
 use Rattle.sl_tool.specs.declared.analysis.Standing.{Standing}
-use Rattle.sl_tool.specs.Analysis.{Known, killers_of, standing_at, is_filled, with_vector, with_push, with_iterator, found_valid, dereferenced, fault_in, told_at}
-use Rattle.sl_tool.specs.Told.{warning_of}
+use Rattle.sl_tool.specs.Means.Analysis.{Known, killers_of, standing_at, is_filled, with_vector, with_push, with_iterator, found_valid, dereferenced}
+use Rattle.sl_tool.specs.Means.Analysis.{fault_in, told_at}
+use Rattle.sl_tool.specs.Means.Told.{warning_of}
 use Rattle.sl_tool.proofs.Describes.{Describes, Stays}
 use Rattle.sl_tool.proofs.Lists.{there, get_or-there}
 use Rattle.sl_tool.proofs.Calls.{lib-begin, lib-push_back, pushed_back, lib-star_valid, lib-star_invalid, at_element, cont_at-there}
@@ -55,7 +57,8 @@ GoesOrTraps names k n may [] flow = (may ≡ true) × GoesOn k n flow
 GoesOrTraps names k n may (w ∷ ws) flow = EndsTrapped names w flow
 
 -- where a step is left, it is taken
-pub steps-on : (P : Flow → Type 0) (go : Meaning) (n : ℕ) (s : State) → n + 1 ≤ s.steps → ((m : ℕ) → n ≤ m → P (go (record s { steps = m }))) → P (tick go s)
+pub steps-on : (P : Flow → Type 0) (go : Meaning) (n : ℕ) (s : State) → n + 1 ≤ s.steps
+    → ((m : ℕ) → n ≤ m → P (go (record s { steps = m }))) → P (tick go s)
 steps-on P go n s some next = by_steps s.steps some
   where
     by_steps : (m : ℕ) → n + 1 ≤ m → P (elim m as (λ _. Flow) [ zero ↦ Over OutOfSteps s | suc r ↦ go (record s { steps = r }) ])
@@ -68,7 +71,8 @@ none_left zero xs e = e
 none_left (suc n) [] e = refl
 none_left (suc n) (x ∷ xs) e = absurd cc
 
-pub plain-vector : (k : Known) (own : Oracle) (place : Place) (n : ℕ) (s : State) → IsPlain k (n + 1) s → GoesOn (with_vector k) n (exec (world_of own) (stmt_of (Vector place)) s)
+pub plain-vector : (k : Known) (own : Oracle) (place : Place) (n : ℕ) (s : State) → IsPlain k (n + 1) s
+    → GoesOn (with_vector k) n (exec (world_of own) (stmt_of (Vector place)) s)
 plain-vector k own place n s p =
     steps-on (GoesOn (with_vector k) n) (declared (world_of own) (makes f.Vector (free_call (row vector_row) place []) none)) n s p.steps (λ m left.
     record {
@@ -78,7 +82,8 @@ plain-vector k own place n s p =
       steps = left;
     })
 
-pub plain-begin : (k : Known) (own : Oracle) (place : Place) (v name n : ℕ) (s : State) → IsPlain k (n + 1) s → v < length k.filled → GoesOn (with_iterator k v) n (exec (world_of own) (stmt_of (Begin place v name)) s)
+pub plain-begin : (k : Known) (own : Oracle) (place : Place) (v name n : ℕ) (s : State) → IsPlain k (n + 1) s → v < length k.filled
+    → GoesOn (with_iterator k v) n (exec (world_of own) (stmt_of (Begin place v name)) s)
 plain-begin k own place v name n s p lt =
     let h : Head = member_call begin_row place 0 v name in
     let d : Describes k s.memory s.frame s.iters = p.described in
@@ -97,11 +102,14 @@ plain-begin k own place v name n s p lt =
     }))
 
 -- what follows a `push_back` where there is room for one element more
-push_plain : (k : Known) (h : Head) (vs : List Value) (n : ℕ) (s : State) (v : ℕ) (c : Cont) (z : ℤ) (site : ℕ) → IsPlain k n s → slice_get s.memory.conts v ≡ Some c → length k.pushes < ELEMENTS
+push_plain : (k : Known) (h : Head) (vs : List Value) (n : ℕ) (s : State) (v : ℕ) (c : Cont) (z : ℤ) (site : ℕ) → IsPlain k n s
+    → slice_get s.memory.conts v ≡ Some c → length k.pushes < ELEMENTS
     → GoesOn (with_push k v site) n (push_flow h vs s (pushed_back s.memory v c z s.picks site))
 push_plain k h vs n s v c z site p at few = by_size (nat_lt ELEMENTS (size c + 1)) refl
   where
-    by_size : (b : Bool) → nat_lt ELEMENTS (size c + 1) ≡ b → GoesOn (with_push k v site) n (push_flow h vs s (if b then thrown else gives nothing (after_push s.memory v c z s.picks site) (drop (grown_picks c 1) s.picks)))
+    by_size : (b : Bool) → nat_lt ELEMENTS (size c + 1) ≡ b
+        → GoesOn (with_push k v site) n
+        (push_flow h vs s (if b then thrown else gives nothing (after_push s.memory v c z s.picks site) (drop (grown_picks c 1) s.picks)))
     by_size true e = absurd (let old = p.full.few v c at in let more = ltb-true ELEMENTS (size c + 1) e in omega arith)
     by_size false e = record {
       described = kept-push k s.memory s.frame s.iters v c z s.picks site p.described at (ltb-false ELEMENTS (size c + 1) e);
@@ -110,7 +118,8 @@ push_plain k h vs n s v c z site p at few = by_size (nat_lt ELEMENTS (size c + 1
       steps = p.steps;
     }
 
-pub plain-push : (k : Known) (own : Oracle) (place : Place) (v name site z n : ℕ) (s : State) → IsPlain k (n + 1) s → v < length k.filled → length k.pushes < ELEMENTS
+pub plain-push : (k : Known) (own : Oracle) (place : Place) (v name site z n : ℕ) (s : State) → IsPlain k (n + 1) s → v < length k.filled
+    → length k.pushes < ELEMENTS
     → GoesOn (with_push k v site) n (exec (world_of own) (stmt_of (PushBack place v name site z)) s)
 plain-push k own place v name site z n s p lt few =
     let h : Head = member_call push_back_row place site v name in
@@ -125,7 +134,8 @@ plain-push k own place v name site z n s p lt few =
     (push_plain k h (number (pos z) ∷ []) n now v c.0 (pos z) site (record { described = d; full = p.full; picks = p.picks; steps = left }) c.1 few))
 
 -- `*` of an iterator that was dropped
-star_gone : (names : List (List ℕ)) (place : Place) (name stamp site x : ℕ) (xs killers : List ℕ) (s : State) → killers ≡ x ∷ xs → killer s.memory stamp ≡ Some site → Contains killers site
+star_gone : (names : List (List ℕ)) (place : Place) (name stamp site x : ℕ) (xs killers : List ℕ) (s : State) → killers ≡ x ∷ xs
+    → killer s.memory stamp ≡ Some site → Contains killers site
     → EndsTrapped names (record { place = place; name = name; fault = InvalidIterator (x ∷ xs) }) (star_flow place name stamp s (trapped 1 1))
 star_gone names place name stamp site x xs killers s some e h = record {
   place = refl;
@@ -133,21 +143,26 @@ star_gone names place name stamp site x xs killers s some e h = record {
   call = refl;
   argument = refl;
   name = refl;
-  killer = λ other q. let same : ◌≡◌ {A = Option ℕ} (Some site) (Some other) = sym e ∙ q in let is : site ≡ other = cc in subst (λ (l : List ℕ). Contains l other) some (subst (λ (y : ℕ). Contains killers y) is h);
+  killer = λ other q. let same : ◌≡◌ {A = Option ℕ} (Some site) (Some other) = sym e ∙ q in let is : site ≡ other = cc in
+      subst (λ (l : List ℕ). Contains l other) some (subst (λ (y : ℕ). Contains killers y) is h);
 }
 
 -- `*` of an iterator that stands at the begin of its vector, which has elements or hasn't
-star_here : (names : List (List ℕ)) (k : Known) (place : Place) (name it stamp n : ℕ) (standing : Standing) (s : State) (filled : Bool) → IsPlain k n s → slice_get s.iters it ≡ Some stamp
+star_here : (names : List (List ℕ)) (k : Known) (place : Place) (name it stamp n : ℕ) (standing : Standing) (s : State) (filled : Bool)
+    → IsPlain k n s → slice_get s.iters it ≡ Some stamp
     → Stays s.memory stamp (is_filled k standing.vector) (killers_of k standing) standing → standing.at_element ≡ filled
-    → GoesOrTraps names (found_valid k it standing) n filled (told_at place name (fault_in [] filled)) (star_flow place name stamp s (at_element standing.vector 0 (size (cont_at s.memory standing.vector)) s.memory s.picks))
+    → GoesOrTraps names (found_valid k it standing) n filled (told_at place name (fault_in [] filled))
+    (star_flow place name stamp s (at_element standing.vector 0 (size (cont_at s.memory standing.vector)) s.memory s.picks))
 star_here names k place name it stamp n standing s filled p at stays e =
     let c : Cont = stays.here.cont in
-    subst (λ (d : Cont). GoesOrTraps names (found_valid k it standing) n filled (told_at place name (fault_in [] filled)) (star_flow place name stamp s (at_element standing.vector 0 (size d) s.memory s.picks)))
+    subst (λ (d : Cont). GoesOrTraps names (found_valid k it standing) n filled (told_at place name (fault_in [] filled))
+    (star_flow place name stamp s (at_element standing.vector 0 (size d) s.memory s.picks)))
     (sym (cont_at-there s.memory standing.vector c stays.here.there))
     (by_filled filled (sym e ∙ sym stays.same ∙ p.described.filled standing.vector c stays.here.there))
   where
     by_filled : (b : Bool) → b ≡ nat_lt 0 (size stays.here.cont)
-        → GoesOrTraps names (found_valid k it standing) n b (told_at place name (fault_in [] b)) (star_flow place name stamp s (at_element standing.vector 0 (size stays.here.cont) s.memory s.picks))
+        → GoesOrTraps names (found_valid k it standing) n b (told_at place name (fault_in [] b))
+        (star_flow place name stamp s (at_element standing.vector 0 (size stays.here.cont) s.memory s.picks))
     by_filled true q = rw (ne_eqb 0 (size stays.here.cont) (λ none. let some = ltb-true 0 (size stays.here.cont) (sym q) in omega arith)) (
       refl,
       record {
@@ -165,21 +180,29 @@ abbrev star_out : ℕ → State → LibOut
 star_out stamp s = lib (operator star) (record { site = 0; object = None; values = iterator stamp ∷ [] }) s.memory s.picks
 
 -- `*` of an iterator, by the calls that are behind its standing
-star_plain : (names : List (List ℕ)) (k : Known) (place : Place) (name it stamp n : ℕ) (standing : Standing) (s : State) (killers : List ℕ) → IsPlain k n s → slice_get s.iters it ≡ Some stamp → slice_get k.iterators it ≡ Some standing → killers_of k standing ≡ killers
-    → GoesOrTraps names (found_valid k it standing) n standing.at_element (told_at place name (fault_in killers standing.at_element)) (star_flow place name stamp s (star_out stamp s))
+star_plain : (names : List (List ℕ)) (k : Known) (place : Place) (name it stamp n : ℕ) (standing : Standing) (s : State) (killers : List ℕ)
+    → IsPlain k n s → slice_get s.iters it ≡ Some stamp → slice_get k.iterators it ≡ Some standing → killers_of k standing ≡ killers
+    → GoesOrTraps names (found_valid k it standing) n standing.at_element (told_at place name (fault_in killers standing.at_element))
+    (star_flow place name stamp s (star_out stamp s))
 star_plain names k place name it stamp n standing s [] p at known no_killers =
-    let stays : Stays s.memory stamp (is_filled k standing.vector) (killers_of k standing) standing = stands_still k s.memory s.frame s.iters it stamp standing p.described at known no_killers in
-    subst (λ (out : LibOut). GoesOrTraps names (found_valid k it standing) n standing.at_element (told_at place name (fault_in [] standing.at_element)) (star_flow place name stamp s out))
+    let stays : Stays s.memory stamp (is_filled k standing.vector) (killers_of k standing) standing = stands_still k s.memory s.frame s.iters it stamp
+    standing p.described at known no_killers in
+    subst (λ (out : LibOut). GoesOrTraps names (found_valid k it standing) n standing.at_element
+    (told_at place name (fault_in [] standing.at_element)) (star_flow place name stamp s out))
     (sym (lib-star_valid s.memory stamp standing.vector 0 s.picks (locate-at s.memory standing.vector 0 stamp p.described.sound stays.here)))
     (star_here names k place name it stamp n standing s standing.at_element p at stays refl)
 star_plain names k place name it stamp n standing s (x ∷ xs) p at known some =
     let gone : IsGone s.memory stamp k standing = p.full.gone it stamp standing at known x xs some in
-    subst (λ (out : LibOut). EndsTrapped names (record { place = place; name = name; fault = InvalidIterator (x ∷ xs) }) (star_flow place name stamp s out))
-    (sym (lib-star_invalid s.memory stamp s.picks (locate-dropped s.memory stamp gone.0 p.described.sound (dropped-killer s.memory stamp gone.0 gone.1))))
+    subst (λ (out : LibOut). EndsTrapped names (record { place = place; name = name; fault = InvalidIterator (x ∷ xs) })
+    (star_flow place name stamp s out))
+    (sym (lib-star_invalid s.memory stamp s.picks
+    (locate-dropped s.memory stamp gone.0 p.described.sound (dropped-killer s.memory stamp gone.0 gone.1))))
     (star_gone names place name stamp gone.0 x xs (killers_of k standing) s some gone.1 gone.2)
 
-pub plain-star : (names : List (List ℕ)) (k : Known) (own : Oracle) (place : Place) (it name n : ℕ) (s : State) → IsPlain k (n + 1) s → it < length k.iterators
-    → GoesOrTraps names (found_valid k it (standing_at k it)) n (standing_at k it).at_element (dereferenced k place name (standing_at k it)) (exec (world_of own) (stmt_of (Dereference place it name)) s)
+pub plain-star : (names : List (List ℕ)) (k : Known) (own : Oracle) (place : Place) (it name n : ℕ) (s : State) → IsPlain k (n + 1) s
+    → it < length k.iterators
+    → GoesOrTraps names (found_valid k it (standing_at k it)) n (standing_at k it).at_element (dereferenced k place name (standing_at k it))
+    (exec (world_of own) (stmt_of (Dereference place it name)) s)
 plain-star names k own place it name n s p lt =
     let d : Describes k s.memory s.frame s.iters = p.described in
     let standing : Standing = standing_at k it in
@@ -188,8 +211,13 @@ plain-star names k own place it name n s p lt =
     let at : iter_of s it ≡ it = located s.frame.iters (length k.iterators) it d.iters_frame lt in
     let same : stamp_of s it ≡ stamp.0 = ap (λ l. get_or s.iters l 0) at ∙ get_or-there s.iters it stamp.0 0 stamp.1 in
     let is : standing ≡ known.0 = get_or-there k.iterators it known.0 (record { vector = 0; at_element = true; since = 0 }) known.1 in
-    steps-on (GoesOrTraps names (found_valid k it standing) n standing.at_element (dereferenced k place name standing)) (declared (world_of own) (set_scalar t.Int (held (element (free_call (operator star) place (None ∷ Some name ∷ [])) (with (iterator_operand it) none))))) n s p.steps (λ m left.
+    steps-on (GoesOrTraps names (found_valid k it standing) n standing.at_element (dereferenced k place name standing))
+    (declared (world_of own)
+    (set_scalar t.Int (held (element (free_call (operator star) place (None ∷ Some name ∷ [])) (with (iterator_operand it) none))))) n s
+    p.steps (λ m left.
     let now : State = record s { steps = m } in
-    subst (λ (x : ℕ). GoesOrTraps names (found_valid k it standing) n standing.at_element (dereferenced k place name standing) (star_flow place name x now (star_out x now)))
+    subst (λ (x : ℕ). GoesOrTraps names (found_valid k it standing) n standing.at_element (dereferenced k place name standing)
+    (star_flow place name x now (star_out x now)))
     (sym same)
-    (star_plain names k place name it stamp.0 n standing now (killers_of k standing) (record { described = d; full = p.full; picks = p.picks; steps = left }) stamp.1 (rw is known.1) refl))
+    (star_plain names k place name it stamp.0 n standing now (killers_of k standing)
+    (record { described = d; full = p.full; picks = p.picks; steps = left }) stamp.1 (rw is known.1) refl))

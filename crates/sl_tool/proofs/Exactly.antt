@@ -11,7 +11,7 @@ use Rattle.sl_model.specs.Schedule.{pick}
 use Rattle.sl_model.specs.Good.{IsAt, IsSound}
 use Rattle.sl_model.specs.State.{State, Frame}
 use Rattle.sl_tool.specs.declared.analysis.Standing.{Standing}
-use Rattle.sl_tool.specs.Analysis.{Known, is_filled, killers_of, with_vector, with_push, with_iterator, found_valid}
+use Rattle.sl_tool.specs.Means.Analysis.{Known, is_filled, killers_of, with_vector, with_push, with_iterator, found_valid}
 use Rattle.sl_tool.proofs.Describes.{Describes, Stays}
 use Rattle.sl_tool.proofs.Killers.{killers_of-more, killers_of-last}
 use Rattle.sl_tool.proofs.NoKillers.{killers_of-new, killers_of-other, none_among}
@@ -27,7 +27,8 @@ IsGone m stamp k standing = (site : ℕ) × (killer m stamp ≡ Some site) × Co
 pub record IsFull (k : Known) (m : Memory) (iters : List ℕ) : Type 0 where
   pub full : (j : ℕ) (c : Cont) → slice_get m.conts j ≡ Some c → c.room ≡ size c
   pub few : (j : ℕ) (c : Cont) → slice_get m.conts j ≡ Some c → size c ≤ length k.pushes
-  pub gone : (i stamp : ℕ) (standing : Standing) → slice_get iters i ≡ Some stamp → slice_get k.iterators i ≡ Some standing → (x : ℕ) (xs : List ℕ) → killers_of k standing ≡ x ∷ xs → IsGone m stamp k standing
+  pub gone : (i stamp : ℕ) (standing : Standing) → slice_get iters i ≡ Some stamp → slice_get k.iterators i ≡ Some standing → (x : ℕ) (xs : List ℕ)
+      → killers_of k standing ≡ x ∷ xs → IsGone m stamp k standing
 
 -- a state of the plainest run: what is known describes it, no pick is left, and n steps at least
 pub record IsPlain (k : Known) (n : ℕ) (s : State) : Type 0 where
@@ -38,14 +39,16 @@ pub record IsPlain (k : Known) (n : ℕ) (s : State) : Type 0 where
 
 -- an iterator behind whose standing no call is stands at the begin of its vector
 pub stands_still : (k : Known) (m : Memory) (frame : Frame) (iters : List ℕ) (i stamp : ℕ) (standing : Standing) → Describes k m frame iters
-    → slice_get iters i ≡ Some stamp → slice_get k.iterators i ≡ Some standing → killers_of k standing ≡ [] → Stays m stamp (is_filled k standing.vector) (killers_of k standing) standing
+    → slice_get iters i ≡ Some stamp → slice_get k.iterators i ≡ Some standing → killers_of k standing ≡ []
+    → Stays m stamp (is_filled k standing.vector) (killers_of k standing) standing
 stands_still k m frame iters i stamp standing d at known none = elim (d.stands i stamp standing at known) [
   | inl stays ↦ stays
   | inr dead ↦ absurd (none_among (killers_of k standing) dead.0 none dead.2)
 ]
 
 -- A new vector.
-pub full-vector : (k : Known) (m : Memory) (iters : List ℕ) (room : ℕ) → room ≡ 0 → IsFull k m iters → IsFull (with_vector k) (made f.Vector room m) iters
+pub full-vector : (k : Known) (m : Memory) (iters : List ℕ) (room : ℕ) → room ≡ 0 → IsFull k m iters
+    → IsFull (with_vector k) (made f.Vector room m) iters
 full-vector k m iters room none d =
     let new : Cont = record { form = f.Vector; cells = []; end = m.fresh; room = room } in
     record {
@@ -55,7 +58,8 @@ full-vector k m iters room none d =
     }
 
 -- A new iterator.
-pub full-begin : (k : Known) (m : Memory) (iters : List ℕ) (v stamp : ℕ) → length iters ≡ length k.iterators → IsFull k m iters → IsFull (with_iterator k v) m (iters ++ stamp ∷ [])
+pub full-begin : (k : Known) (m : Memory) (iters : List ℕ) (v stamp : ℕ) → length iters ≡ length k.iterators → IsFull k m iters
+    → IsFull (with_iterator k v) m (iters ++ stamp ∷ [])
 full-begin k m iters v stamp same d =
     let new : Standing = record { vector = v; at_element = is_filled k v; since = length k.pushes } in
     record {
@@ -71,7 +75,8 @@ full-begin k m iters v stamp same d =
     }
 
 -- An iterator that was found valid.
-pub full-valid : (k : Known) (m : Memory) (iters : List ℕ) (it : ℕ) (standing : Standing) → IsFull k m iters → IsFull (found_valid k it standing) m iters
+pub full-valid : (k : Known) (m : Memory) (iters : List ℕ) (it : ℕ) (standing : Standing) → IsFull k m iters
+    → IsFull (found_valid k it standing) m iters
 full-valid k m iters it standing d =
     let new : Standing = valid k standing in
     record {
@@ -95,36 +100,53 @@ full_room c z picks full none =
     ∙ (let e : size c + 1 + 0 ≡ size c + 1 = omega arith in e)
 
 -- An iterator behind a `push_back` of its vector.
-gone-own : (k : Known) (m : Memory) (v : ℕ) (c : Cont) (z : ℤ) (picks : List ℕ) (site stamp : ℕ) (standing : Standing) → IsSound m → slice_get m.conts v ≡ Some c → c.room ≡ size c → v ≡ standing.vector → standing.since ≤ length k.pushes → IsAt m standing.vector 0 stamp
+gone-own : (k : Known) (m : Memory) (v : ℕ) (c : Cont) (z : ℤ) (picks : List ℕ) (site stamp : ℕ) (standing : Standing) → IsSound m
+    → slice_get m.conts v ≡ Some c → c.room ≡ size c → v ≡ standing.vector → standing.since ≤ length k.pushes → IsAt m standing.vector 0 stamp
     → IsGone (after_push m v c z picks site) stamp (with_push k v site) standing
 gone-own k m v c z picks site stamp standing sound there full same since here =
-    let at : IsAt m v 0 stamp = rw same here in
-    (site, after-killed VectorInsert m v 0 stamp c (push_edit c z picks) site sound there at (full_kills c z picks full), rw same (killers_of-last k standing site since))
+    let at : IsAt m v 0 stamp = rw same here in (
+      site,
+      after-killed VectorInsert m v 0 stamp c (push_edit c z picks) site sound there at (full_kills c z picks full),
+      rw same (killers_of-last k standing site since),
+    )
 
 -- An iterator that was dropped before a `push_back`.
-gone-still : (k : Known) (m : Memory) (v : ℕ) (c : Cont) (z : ℤ) (picks : List ℕ) (site stamp : ℕ) (standing : Standing) → IsSound m → slice_get m.conts v ≡ Some c → standing.since ≤ length k.pushes → IsGone m stamp k standing
+gone-still : (k : Known) (m : Memory) (v : ℕ) (c : Cont) (z : ℤ) (picks : List ℕ) (site stamp : ℕ) (standing : Standing) → IsSound m
+    → slice_get m.conts v ≡ Some c → standing.since ≤ length k.pushes → IsGone m stamp k standing
     → IsGone (after_push m v c z picks site) stamp (with_push k v site) standing
-gone-still k m v c z picks site stamp standing sound there since dead =
-    (dead.0, after-dead VectorInsert m v stamp dead.0 c (push_edit c z picks) site sound there dead.1, killers_of-more k standing v site dead.0 since dead.2)
+gone-still k m v c z picks site stamp standing sound there since dead = (
+  dead.0,
+  after-dead VectorInsert m v stamp dead.0 c (push_edit c z picks) site sound there dead.1,
+  killers_of-more k standing v site
+      dead.0 since dead.2,
+)
 
 -- A `push_back`.
-pub full-push : (k : Known) (m : Memory) (frame : Frame) (iters : List ℕ) (v : ℕ) (c : Cont) (z : ℤ) (picks : List ℕ) (site : ℕ) → Describes k m frame iters → slice_get m.conts v ≡ Some c → picks ≡ [] → IsFull k m iters
+pub full-push : (k : Known) (m : Memory) (frame : Frame) (iters : List ℕ) (v : ℕ) (c : Cont) (z : ℤ) (picks : List ℕ) (site : ℕ)
+    → Describes k m frame iters → slice_get m.conts v ≡ Some c → picks ≡ [] → IsFull k m iters
     → IsFull (with_push k v site) (after_push m v c z picks site) iters
 full-push k m frame iters v c z picks site d there none h =
     let new : Cont = changed m.fresh (change_of VectorInsert c (push_edit c z picks)) c c in
-    let sized : size new ≡ size c + 1 = size-after VectorInsert m c (push_edit c z picks) (omega arith) ∙ (let e : size c + 1 - 0 ≡ size c + 1 = omega arith in e) in
-    let more : length (k.pushes ++ record { vector = v; site = site } ∷ []) ≡ length k.pushes + 1 = length-more k.pushes (record { vector = v; site = site }) in
+    let sized : size new ≡ size c + 1 = size-after VectorInsert m c (push_edit c z picks) (omega arith)
+    ∙ (let e : size c + 1 - 0 ≡ size c + 1 = omega arith in e) in
+    let more : length (k.pushes ++ record { vector = v; site = site } ∷ []) ≡ length k.pushes + 1 =
+    length-more k.pushes (record { vector = v; site = site }) in
     record {
-      full = λ j x at. elim (written m.conts v new x j at) [ inl same ↦ rw same.1 (full_room c z picks (h.full v c there) none ∙ sym sized) | inr old ↦ h.full j x old.1 ];
+      full = λ j x at. elim (written m.conts v new x j at) [
+        | inl same ↦ rw same.1 (full_room c z picks (h.full v c there) none ∙ sym sized)
+        | inr old ↦ h.full j x old.1
+      ];
       few = λ j x at. elim (written m.conts v new x j at) [
         | inl same ↦ rw same.1 (let old = h.few v c there in omega arith)
         | inr old ↦ let before = h.few j x old.1 in omega arith
       ];
       gone = λ i stamp standing at known x xs some. elim (d.stands i stamp standing at known) [
-        | inl stays ↦ ⊎_elim (λ (same : v ≡ standing.vector). gone-own k m v c z picks site stamp standing d.sound there (h.full v c there) same (d.since i standing known) stays.here)
+        | inl stays ↦ ⊎_elim (λ (same : v ≡ standing.vector). gone-own k m v c z picks site stamp standing d.sound there (h.full v c there) same
+            (d.since i standing known) stays.here)
             (λ (other : v ≡ standing.vector → ⊥).
             gone-still k m v c z picks site stamp standing d.sound there (d.since i standing known)
-            (h.gone i stamp standing at known x xs (sym (killers_of-other k standing v site other (d.since i standing known)) ∙ some))) (cases_eq v standing.vector)
+            (h.gone i stamp standing at known x xs (sym (killers_of-other k standing v site other (d.since i standing known)) ∙ some)))
+            (cases_eq v standing.vector)
         | inr dead ↦ gone-still k m v c z picks site stamp standing d.sound there (d.since i standing known) dead
       ];
     }

@@ -6,7 +6,8 @@ joined : List (List ℕ) → List ℕ
 joined [] = []
 joined (n ∷ ns) = n ++ joined ns
 
-not_longer : (names : List (List ℕ)) (name : List ℕ) (k : ℕ) → k < length names → HoldsAt (λ n. n ≡ name) names k → length name ≤ length (joined names)
+not_longer : (names : List (List ℕ)) (name : List ℕ) (k : ℕ) → k < length names → HoldsAt (λ n. n ≡ name) names k
+    → length name ≤ length (joined names)
 unfolding joined
 not_longer [] name k h same = absurd (omega arith)
 not_longer (n ∷ ns) name zero h same =

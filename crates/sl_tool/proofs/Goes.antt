@@ -7,8 +7,8 @@ use Rattle.sl_model.specs.State.{State}
 use Rattle.sl_model.specs.Exec.{Flow, Next, Broke, Continued, Returned, Over, Meaning, tick, and_then}
 use Rattle.sl_model.specs.Covers.{Covers}
 use Rattle.sl_tool.specs.declared.analysis.Warning.{Warning}
-use Rattle.sl_tool.specs.Analysis.{Known}
-use Rattle.sl_tool.specs.Told.{report_of}
+use Rattle.sl_tool.specs.Means.Analysis.{Known}
+use Rattle.sl_tool.specs.Means.Told.{report_of}
 use Rattle.sl_tool.proofs.Describes.{Describes}
 
 -- an end is told by these warnings, and is none without a meaning
@@ -34,7 +34,8 @@ EndsTold names ws flow = Unit {0}
 pub ticked : (names : List (List ℕ)) (k : Known) (may : Bool) (ws : List Warning) (go : Meaning) (s : State)
     → ((n : ℕ) → Goes names k may ws (go (record s { steps = n }))) → Goes names k may ws (tick go s)
 ticked names k may ws go s next =
-    elim s.steps as (λ n. Goes names k may ws (elim n as (λ _. Flow) [ zero ↦ Over OutOfSteps s | suc m ↦ go (record s { steps = m }) ])) [ zero ↦ tt | suc n ↦ next n ]
+    elim s.steps as (λ n. Goes names k may ws (elim n as (λ _. Flow) [ zero ↦ Over OutOfSteps s | suc m ↦ go (record s { steps = m }) ]))
+    [ zero ↦ tt | suc n ↦ next n ]
 
 pub get-left : {A : Type 0} (xs ys : List A) (x : A) (i : ℕ) → slice_get xs i ≡ Some x → slice_get (xs ++ ys) i ≡ Some x
 get-left [] ys x i h = absurd cc
@@ -46,7 +47,8 @@ get-right [] ys i = ap (slice_get ys) (let e : 0 + i ≡ i = omega arith in e)
 get-right (z ∷ xs) ys i = ap (slice_get (z ∷ (xs ++ ys))) (let e : suc (length xs) + i ≡ suc (length xs + i) = omega arith in e) ∙ get-right xs ys i
 
 -- what the first part or the second part of a report covers the report covers
-pub Covers-left : (names : List (List ℕ)) (ws vs : List Warning) (t : Trap) → Covers names (report_of names ws) t → Covers names (report_of names (ws ++ vs)) t
+pub Covers-left : (names : List (List ℕ)) (ws vs : List Warning) (t : Trap) → Covers names (report_of names ws) t
+    → Covers names (report_of names (ws ++ vs)) t
 Covers-left names ws vs t h = record {
   index = h.index;
   warning = h.warning;
@@ -54,7 +56,8 @@ Covers-left names ws vs t h = record {
   tells = h.tells;
 }
 
-pub Covers-right : (names : List (List ℕ)) (ws vs : List Warning) (t : Trap) → Covers names (report_of names vs) t → Covers names (report_of names (ws ++ vs)) t
+pub Covers-right : (names : List (List ℕ)) (ws vs : List Warning) (t : Trap) → Covers names (report_of names vs) t
+    → Covers names (report_of names (ws ++ vs)) t
 Covers-right names ws vs t h = record {
   index = length (report_of names ws) + h.index;
   warning = h.warning;
@@ -87,7 +90,8 @@ EndsTold-right names ws vs (Over e s) h = IsTold-right names ws vs e h
 
 -- one statement and then others
 pub goes-on : (names : List (List ℕ)) (k : Known) (may : Bool) (ws vs : List Warning) (flow : Flow) (rest : Meaning) → Goes names k may ws flow
-    → ((s : State) → Describes k s.memory s.frame s.iters → EndsTold names vs (rest s)) → EndsTold names (ws ++ (if may then vs else [])) (and_then flow rest)
+    → ((s : State) → Describes k s.memory s.frame s.iters → EndsTold names vs (rest s)) → EndsTold names (ws ++ (if may then vs else []))
+    (and_then flow rest)
 goes-on names k may ws vs (Next s) rest h go = rw h.0 (EndsTold-right names ws vs (rest s) (go s h.1))
 goes-on names k may ws vs (Broke s) rest h go = tt
 goes-on names k may ws vs (Continued s) rest h go = tt

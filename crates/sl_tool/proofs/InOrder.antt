@@ -1,16 +1,16 @@
 -- Warnings come in the order of their nodes, at most one at each.
-use Rattle.std.proofs.Common.{arith, ◌≡◌, ℕ, zero, suc, ◌<◌, if◌then◌else◌, List, [], ◌∷◌, ◌++◌, drop, Some, inl, inr, refl, ap, sym, ◌∙◌}
+use Rattle.std.proofs.Common.{arith, ◌≡◌, ℕ, zero, suc, ◌<◌, if◌then◌else◌, List, [], ◌∷◌, drop, Some, inl, inr, refl, sym}
 use Rattle.std.specs.Prelude.{slice_get}
 use Rattle.std.proofs.lemmas.Option.{slice_get_within}
-use Rattle.std.proofs.lemmas.Bool.{cases_order}
-use Rattle.sl_base.specs.declared.place.Place.{Place}
 use Rattle.sl_syntax.specs.declared.typed.Stmt.{Stmt}
 use Rattle.sl_syntax.specs.declared.typed.Stmt.TheVariants.{Vector, PushBack, Begin, Dereference}
 use Rattle.sl_model.specs.Covers.{Warning as WarningValue}
 use Rattle.sl_tool.specs.declared.analysis.Warning.{Warning}
-use Rattle.sl_tool.specs.Analysis.{Known, nothing_known, killers_of, standing_at, fault_in, goes_on, warned, known_after, warnings_of}
-use Rattle.sl_tool.specs.Told.{warning_of, report_of}
-use Rattle.sl_tool.specs.Exactness.{IsOfNode, AreInTurn, IsBefore, AreInOrder, AreOnce, PlacesAscend}
+use Rattle.sl_tool.specs.Means.Analysis.{Known, nothing_known, killers_of, standing_at, fault_in, goes_on, warned, known_after, warnings_of}
+use Rattle.sl_tool.specs.Means.Told.{warning_of, report_of}
+use Rattle.sl_tool.proofs.Nodes.{AreInTurn, PlacesAscend}
+use Rattle.sl_warnings.specs.Reports.{IsAscending}
+use Rattle.sl_tool.proofs.Ascending.{earlier_less, ascending}
 use Rattle.sl_tool.proofs.Causes.{ArePushes, joined, first_behind, rest_behind, told_first, if_more, of_node, pushes_after, of_one}
 
 -- at most one warning tells of a statement
@@ -22,7 +22,8 @@ first_at k (Dereference place it name) i w h =
     told_first place name (fault_in (killers_of k (standing_at k it)) (standing_at k it).at_element) i w h
 
 -- two warnings of the statements from an index on
-in_turn : (all : List Stmt) (ss : List Stmt) (n : ℕ) (k : Known) → drop n all ≡ ss → ArePushes all n k.pushes → (i j : ℕ) (v w : Warning) → i < j → slice_get (warnings_of k ss) i ≡ Some v → slice_get (warnings_of k ss) j ≡ Some w → AreInTurn all v w
+in_turn : (all : List Stmt) (ss : List Stmt) (n : ℕ) (k : Known) → drop n all ≡ ss → ArePushes all n k.pushes → (i j : ℕ) (v w : Warning) → i < j
+    → slice_get (warnings_of k ss) i ≡ Some v → slice_get (warnings_of k ss) j ≡ Some w → AreInTurn all v w
 in_turn all [] n k e are i j v w lt a b = absurd cc
 in_turn all (s ∷ ss) n k e are i j v w lt a b =
     let there : slice_get all n ≡ Some s = first_behind all n s ss e in
@@ -44,37 +45,23 @@ in_turn all (s ∷ ss) n k e are i j v w lt a b =
     ]
 
 -- each two warnings of a text are in turn
-pub are-in-turn : (stmts : List Stmt) (i j : ℕ) (v w : Warning) → i < j → slice_get (warnings_of nothing_known stmts) i ≡ Some v → slice_get (warnings_of nothing_known stmts) j ≡ Some w → AreInTurn stmts v w
+pub are-in-turn : (stmts : List Stmt) (i j : ℕ) (v w : Warning) → i < j → slice_get (warnings_of nothing_known stmts) i ≡ Some v
+    → slice_get (warnings_of nothing_known stmts) j ≡ Some w → AreInTurn stmts v w
 are-in-turn stmts i j v w lt a b = in_turn stmts stmts 0 nothing_known refl (λ i p e. absurd cc) i j v w lt a b
 
 -- a warning of a report is one of the analysis
-pub told_one : (names : List (List ℕ)) (ws : List Warning) (i : ℕ) (w : WarningValue) → slice_get (report_of names ws) i ≡ Some w → (v : Warning) × (slice_get ws i ≡ Some v) × (w ≡ warning_of names v)
+pub told_one : (names : List (List ℕ)) (ws : List Warning) (i : ℕ) (w : WarningValue) → slice_get (report_of names ws) i ≡ Some w → (v : Warning)
+    × (slice_get ws i ≡ Some v) × (w ≡ warning_of names v)
 told_one names [] i w h = absurd cc
 told_one names (v ∷ ws) zero w h = let q : warning_of names v ≡ w = cc in (v, refl, sym q)
 told_one names (v ∷ ws) (suc i) w h = told_one names ws i w h
 
--- what comes in turn comes in the order of a report, where the places ascend
-before : (stmts : List Stmt) (names : List (List ℕ)) (v w : Warning) → PlacesAscend stmts → AreInTurn stmts v w → IsBefore (warning_of names v) (warning_of names w)
-before stmts names v w ascend t =
-    inl (ascend t.first t.second t.of_first.iterator t.of_second.iterator v.name w.name v.place w.place t.order t.of_first.there t.of_second.there)
-
--- a report comes in order, where the places ascend
-pub in-order : (stmts : List Stmt) (names : List (List ℕ)) → PlacesAscend stmts → AreInOrder (report_of names (warnings_of nothing_known stmts))
-in-order stmts names ascend i j v w lt a b =
+-- a report ascends, where the places do
+pub in-order : (stmts : List Stmt) (names : List (List ℕ)) → PlacesAscend stmts → IsAscending (report_of names (warnings_of nothing_known stmts))
+in-order stmts names ascend = ascending (report_of names (warnings_of nothing_known stmts)) (λ i j v w lt a b.
     let p = told_one names (warnings_of nothing_known stmts) i v a in
     let q = told_one names (warnings_of nothing_known stmts) j w b in
-    rw (p.2, q.2) (before stmts names p.0 q.0 ascend (are-in-turn stmts i j p.0 q.0 lt p.1 q.1))
-
--- no warning comes before one of its place and kind
-not_before : (v w : WarningValue) → v.place ≡ w.place → v.kind ≡ w.kind → IsBefore v w → ⊥
-not_before v w e q (inl (inl lt)) = let line : v.place.line ≡ w.place.line = ap (λ (p : Place). p.line) e in omega arith
-not_before v w e q (inl (inr lt)) = let col : v.place.col ≡ w.place.col = ap (λ (p : Place). p.col) e in let less = lt.1 in omega arith
-not_before v w e q (inr lt) = let less = lt.1 in omega arith
-
--- what comes in order has no place and kind twice
-pub once : (r : List WarningValue) → AreInOrder r → AreOnce r
-once r h i j v w a b e q = elim (cases_order i j) [
-  | inl same ↦ same
-  | inr (inl lt) ↦ absurd (not_before v w e q (h i j v w lt a b))
-  | inr (inr lt) ↦ absurd (not_before w v (sym e) (sym q) (h j i w v lt b a))
-]
+    let t = are-in-turn stmts i j p.0 q.0 lt p.1 q.1 in
+    rw (p.2, q.2) (earlier_less (warning_of names p.0) (warning_of names q.0)
+    (ascend t.first t.second t.of_first.iterator t.of_second.iterator p.0.name q.0.name p.0.place q.0.place t.order t.of_first.there
+    t.of_second.there)))

@@ -1,5 +1,6 @@
 -- The words of tokens, one by one, and statements that begin them.
-use Rattle.std.proofs.Common.{◌≡◌, ℕ, suc, ◌+◌, ◌<◌, List, [], ◌∷◌, ◌++◌, length, get_or, drop, Option, Some, None, MatchOption, Result, Ok, Err, IfOk, subst, add-one, sym, ap, ◌∙◌}
+use Rattle.std.proofs.Common.{◌≡◌, ℕ, suc, ◌+◌, ◌<◌, List, [], ◌∷◌, ◌++◌, length, get_or, drop, Option, Some, None, MatchOption, Result, Ok, Err}
+use Rattle.std.proofs.Common.{IfOk, subst, add-one, sym, ap, ◌∙◌}
 use Rattle.std.proofs.Math.ListN.{get_or-map, length-map}
 use Rattle.std.proofs.Math.Seq.{drop-cons, drop-append_seam}
 use Rattle.std.specs.declared.alloc.AllocError.{AllocError}
@@ -9,8 +10,8 @@ use Rattle.sl_base.specs.declared.word.Word.{Word}
 use Rattle.sl_base.specs.declared.word.Word.TheVariants.{Mark}
 use Rattle.sl_tool.specs.declared.reading.reader.Reader.{Reader}
 use Rattle.sl_syntax.specs.Begins.{words_in}
-use Rattle.sl_tool.specs.Form.{Item, vector_item, push_back_item, begin_item, dereference_item, item_words, IsAllowed}
-use Rattle.sl_tool.specs.Reading.{BeginsWith, IsTaken, TakesItem, scope_of}
+use Rattle.sl_tool.specs.Subset.{Item, vector_item, push_back_item, begin_item, dereference_item, item_words, IsAllowed}
+use Rattle.sl_tool.specs.Means.Reading.{BeginsWith, IsTaken, TakesItem, scope_of}
 
 -- the words from the token k on
 pub front : (ts : List Token) (k : ℕ) (t : Token) → k < length ts → t ≡ get_or ts k t → drop k (words_in ts) ≡ t.word ∷ drop (k + 1) (words_in ts)
@@ -67,7 +68,9 @@ no_item words v p b d (begin_item name vector) h = b name vector h
 no_item words v p b d (dereference_item name iterator) h = d name iterator h
 
 -- where a statement begins the tokens, what is said of it is said of the tokens
-pub taken : (old new : Reader) (tokens : List Token) (i : Item) (r : Result (Option ℕ) AllocError) → BeginsWith (words_in tokens) i → IfOk r (IsTaken old new tokens i) → IfOk r (TakesItem old new tokens)
-taken old new tokens i (Ok None) begins h = ((λ j other allowed. h.0 (subst (λ k. IsAllowed (scope_of old) k) (sym (same_item (words_in tokens) i j begins other)) allowed)), h.1)
+pub taken : (old new : Reader) (tokens : List Token) (i : Item) (r : Result (Option ℕ) AllocError) → BeginsWith (words_in tokens) i
+    → IfOk r (IsTaken old new tokens i) → IfOk r (TakesItem old new tokens)
+taken old new tokens i (Ok None) begins h =
+    ((λ j other allowed. h.0 (subst (λ k. IsAllowed (scope_of old) k) (sym (same_item (words_in tokens) i j begins other)) allowed)), h.1)
 taken old new tokens i (Ok (Some n)) begins h = (i, begins, h.0, h.1)
 taken old new tokens i (Err e) begins h = tt

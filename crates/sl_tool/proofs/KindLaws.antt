@@ -5,9 +5,9 @@ use Rattle.sl_base.specs.declared.word.Word.{Word}
 use Rattle.sl_base.specs.declared.word.Word.TheVariants.{Name, Number, Mark}
 use Rattle.sl_tool.specs.declared.reading.slots.Kind.{Kind}
 use Rattle.sl_tool.specs.declared.reading.slots.Kind.TheVariants.{Vector, PushBack, Begin, Dereference}
-use Rattle.sl_tool.specs.Form.{Item, vector_item, push_back_item, begin_item, dereference_item, item_words, Scope, IsAllowed}
-use Rattle.sl_tool.specs.Reading.{BeginsWith}
-use Rattle.sl_tool.specs.Slots.{slots_of, BeginsKind, IsPossible}
+use Rattle.sl_tool.specs.Subset.{Item, vector_item, push_back_item, begin_item, dereference_item, item_words, Scope, IsAllowed}
+use Rattle.sl_tool.specs.Means.Reading.{BeginsWith}
+use Rattle.sl_tool.specs.Means.Slots.{slots_of, BeginsKind, IsPossible}
 use Rattle.sl_tool.proofs.FreshLaws.{fresh, some_name}
 use Rattle.sl_tool.proofs.SlotLaws.{FitAll, HaveWords, fit_all_length}
 
@@ -35,19 +35,25 @@ abbrev pub BeginsItem : Scope → Kind → List Word → Type 0
 BeginsItem s kind ws = (i : Item) × BeginsWith ws i × IsAllowed s i × (length (item_words i) ≡ length (slots_of kind))
 
 vector_fits : (s : Scope) (ws : List Word) → IsPossible s Vector → FitAll s (slots_of Vector) ws → BeginsItem s Vector ws
-vector_fits s (a ∷ b ∷ c ∷ d ∷ e ∷ f ∷ ws) possible (a_fits, (b_fits, (c_fits, (d_fits, ((name, is, new), (f_fits, rest)))))) = (vector_item name, cc, (new, possible), refl)
+vector_fits s (a ∷ b ∷ c ∷ d ∷ e ∷ f ∷ ws) possible (a_fits, (b_fits, (c_fits, (d_fits, ((name, is, new), (f_fits, rest)))))) =
+    (vector_item name, cc, (new, possible), refl)
 vector_fits s ws possible h = absurd (omega (arith, fit_all_length s (slots_of Vector) ws h))
 
 push_back_fits : (s : Scope) (ws : List Word) → IsPossible s PushBack → FitAll s (slots_of PushBack) ws → BeginsItem s PushBack ws
-push_back_fits s (a ∷ b ∷ c ∷ d ∷ e ∷ f ∷ g ∷ ws) possible ((vector, is, known), (b_fits, (c_fits, (d_fits, ((number, n_is), (f_fits, (g_fits, rest))))))) = (push_back_item vector number, cc, (known, possible.1), refl)
+push_back_fits s (a ∷ b ∷ c ∷ d ∷ e ∷ f ∷ g ∷ ws) possible
+    ((vector, is, known), (b_fits, (c_fits, (d_fits, ((number, n_is), (f_fits, (g_fits, rest))))))) =
+    (push_back_item vector number, cc, (known, possible.1), refl)
 push_back_fits s ws possible h = absurd (omega (arith, fit_all_length s (slots_of PushBack) ws h))
 
 begin_fits : (s : Scope) (ws : List Word) → IsPossible s Begin → FitAll s (slots_of Begin) ws → BeginsItem s Begin ws
-begin_fits s (a ∷ b ∷ c ∷ d ∷ e ∷ f ∷ g ∷ h ∷ i ∷ ws) possible (a_fits, ((name, is, new), (c_fits, ((vector, v_is, known), (e_fits, (f_fits, (g_fits, (h_fits, (i_fits, rest))))))))) = (begin_item name vector, cc, (new, known, possible.1), refl)
+begin_fits s (a ∷ b ∷ c ∷ d ∷ e ∷ f ∷ g ∷ h ∷ i ∷ ws) possible
+    (a_fits, ((name, is, new), (c_fits, ((vector, v_is, known), (e_fits, (f_fits, (g_fits, (h_fits, (i_fits, rest))))))))) =
+    (begin_item name vector, cc, (new, known, possible.1), refl)
 begin_fits s ws possible h = absurd (omega (arith, fit_all_length s (slots_of Begin) ws h))
 
 dereference_fits : (s : Scope) (ws : List Word) → IsPossible s Dereference → FitAll s (slots_of Dereference) ws → BeginsItem s Dereference ws
-dereference_fits s (a ∷ b ∷ c ∷ d ∷ e ∷ f ∷ ws) possible (a_fits, ((name, is, new), (c_fits, (d_fits, ((iterator, i_is, known), (f_fits, rest)))))) = (dereference_item name iterator, cc, (new, known, possible.1), refl)
+dereference_fits s (a ∷ b ∷ c ∷ d ∷ e ∷ f ∷ ws) possible (a_fits, ((name, is, new), (c_fits, (d_fits, ((iterator, i_is, known), (f_fits, rest)))))) =
+    (dereference_item name iterator, cc, (new, known, possible.1), refl)
 dereference_fits s ws possible h = absurd (omega (arith, fit_all_length s (slots_of Dereference) ws h))
 
 -- words that fit all slots of a kind that is possible begin with a statement that may stand here
@@ -66,8 +72,13 @@ have_words s PushBack h =
     ((Name vector.0, (vector.0, refl, vector.1)), ((_, refl), ((_, refl), ((_, refl), ((Number 0, (0, refl)), ((_, refl), ((_, refl), tt)))))))
 have_words s Begin h =
     let new = fresh s.names in
-    let vector = some_name s.vectors h.0 in
-    ((_, refl), ((Name new.0, (new.0, refl, new.1)), ((_, refl), ((Name vector.0, (vector.0, refl, vector.1)), ((_, refl), ((_, refl), ((_, refl), ((_, refl), ((_, refl), tt)))))))))
+    let vector = some_name s.vectors h.0 in (
+      (_, refl),
+      (
+        (Name new.0, (new.0, refl, new.1)),
+        ((_, refl), ((Name vector.0, (vector.0, refl, vector.1)), ((_, refl), ((_, refl), ((_, refl), ((_, refl), ((_, refl), tt))))))),
+      ),
+    )
 have_words s Dereference h =
     let new = fresh s.names in
     let iterator = some_name s.iterators h.0 in

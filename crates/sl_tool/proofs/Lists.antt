@@ -1,10 +1,12 @@
 -- Elements of lists by number.
-use Rattle.std.proofs.Common.{◌≡◌, ◌≢◌, ℕ, zero, suc, ◌+◌, ◌<◌, List, [], ◌∷◌, ◌++◌, length, get_or, set, Some, ◌⊎◌, inl, inr, refl, ap, sym, ◌∙◌, arith, add-one, add-zero}
+use Rattle.std.proofs.Common.{◌≡◌, ◌≢◌, ℕ, zero, suc, ◌+◌, ◌<◌, List, [], ◌∷◌, ◌++◌, length, get_or, set, Some, ◌⊎◌, inl, inr, refl, ap, sym, ◌∙◌}
+use Rattle.std.proofs.Common.{arith, add-one, add-zero}
 use Rattle.std.specs.Prelude.{slice_get}
 use Rattle.sl_model.specs.Edits.{numbers}
 
 -- an element of a list with one more is an old one or the new one
-pub pushed : {A : Type 0} (xs : List A) (y x : A) (i : ℕ) → slice_get (xs ++ y ∷ []) i ≡ Some x → (slice_get xs i ≡ Some x) ⊎ ((i ≡ length xs) × (x ≡ y))
+pub pushed : {A : Type 0} (xs : List A) (y x : A) (i : ℕ) → slice_get (xs ++ y ∷ []) i ≡ Some x → (slice_get xs i ≡ Some x)
+    ⊎ ((i ≡ length xs) × (x ≡ y))
 pushed [] y x zero h = inr (refl, let e : y ≡ x = cc in sym e)
 pushed [] y x (suc i) h = absurd cc
 pushed (z ∷ xs) y x zero h = inl h
@@ -16,7 +18,8 @@ pushed-old (z ∷ xs) y x zero h = h
 pushed-old (z ∷ xs) y x (suc i) h = pushed-old xs y x i h
 
 -- an element of a list with one written is the written one or an old one elsewhere
-pub written : {A : Type 0} (xs : List A) (j : ℕ) (y x : A) (i : ℕ) → slice_get (set xs j y) i ≡ Some x → ((i ≡ j) × (x ≡ y)) ⊎ ((j ≢ i) × (slice_get xs i ≡ Some x))
+pub written : {A : Type 0} (xs : List A) (j : ℕ) (y x : A) (i : ℕ) → slice_get (set xs j y) i ≡ Some x → ((i ≡ j) × (x ≡ y))
+    ⊎ ((j ≢ i) × (slice_get xs i ≡ Some x))
 written [] j y x i h = absurd cc
 written (z ∷ xs) zero y x zero h = inl (refl, let e : y ≡ x = cc in sym e)
 written (z ∷ xs) zero y x (suc i) h = inr ((λ e. let z : zero ≡ suc i = e in absurd (omega arith)), h)
@@ -56,7 +59,8 @@ number-at n i h = numbers-at 0 n i h ∙ (let e : 0 + i ≡ i = omega arith in e
 
 numbers-push : (from n : ℕ) → numbers from n ++ (from + n) ∷ [] ≡ numbers from (suc n)
 numbers-push from zero = ap (λ k. k ∷ []) (let e : from + 0 ≡ from = omega arith in e)
-numbers-push from (suc n) = ap (λ l. from ∷ l) (ap (λ k. numbers (from + 1) n ++ k ∷ []) (let e : from + suc n ≡ from + 1 + n = omega arith in e) ∙ numbers-push (from + 1) n)
+numbers-push from (suc n) = ap (λ l. from ∷ l) (ap (λ k. numbers (from + 1) n ++ k ∷ []) (let e : from + suc n ≡ from + 1 + n = omega arith in e)
+    ∙ numbers-push (from + 1) n)
 
 -- one number more
 pub numbers-more : (n : ℕ) → numbers 0 n ++ n ∷ [] ≡ numbers 0 (n + 1)

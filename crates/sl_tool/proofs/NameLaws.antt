@@ -5,7 +5,7 @@ use Rattle.std.proofs.lemmas.Bool.Decides.{nat_tests}
 use Rattle.std.proofs.lemmas.List.Sums.{fails_before_first, passes_at_first, prefix_len-le-length}
 use Rattle.std.proofs.lemmas.Slice.Eq.{bytes_eq-Decides}
 use Rattle.std.specs.Str.{bytes_eq}
-use Rattle.sl_tool.specs.Form.{number_of_name}
+use Rattle.sl_tool.specs.Subset.{number_of_name}
 
 -- a name with a number is there
 pub known : (names : List (List ℕ)) (name : List ℕ) → number_of_name names name < length names → Contains names name
@@ -29,8 +29,10 @@ pub number_most : (names : List (List ℕ)) (name : List ℕ) → number_of_name
 number_most names name = prefix_len-le-length _ names
 
 -- the number of a name, as the first place at which it is found
-pub numbered : (names : List (List ℕ)) (name : List ℕ) (o : Option ℕ) → o ≡ position (λ n. bytes_eq n name) names → unwrap_or o (length names) ≡ number_of_name names name
+pub numbered : (names : List (List ℕ)) (name : List ℕ) (o : Option ℕ) → o ≡ position (λ n. bytes_eq n name) names
+    → unwrap_or o (length names) ≡ number_of_name names name
 numbered names name o e = by_test (cases_lt (number_of_name names name) (length names)) where
-  by_test : (number_of_name names name < length names) ⊎ (length names ≤ number_of_name names name) → unwrap_or o (length names) ≡ number_of_name names name
+  by_test : (number_of_name names name < length names) ⊎ (length names ≤ number_of_name names name)
+      → unwrap_or o (length names) ≡ number_of_name names name
   by_test (inl h) = let found : o ≡ Some (number_of_name names name) = grind (arith, nat_tests) in rw found
   by_test (inr h) = let lost : o ≡ None = grind (arith, nat_tests) in rw lost (omega (arith, number_most names name))

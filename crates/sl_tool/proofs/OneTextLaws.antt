@@ -1,5 +1,6 @@
 -- A text has one answer alone.
-use Rattle.std.proofs.Common.{◌≡◌, ◌≤◌, ℕ, List, [], ◌∷◌, ◌++◌, length, drop, refl, sym, ap, ◌∙◌, subst, arith, append_assoc, Result, Ok, Err, IfOk, MatchResult}
+use Rattle.std.proofs.Common.{◌≡◌, ◌≤◌, ℕ, List, [], ◌∷◌, ◌++◌, length, drop, refl, sym, ap, ◌∙◌, subst, arith, append_assoc, Result, Ok, Err, IfOk}
+use Rattle.std.proofs.Common.{MatchResult}
 use Rattle.std.proofs.Math.Seq.{drop-append_seam}
 use Rattle.std.specs.List.{flat_map}
 use Rattle.std.specs.Prelude.{codes}
@@ -23,39 +24,46 @@ use Rattle.sl_tool.specs.declared.parsed.Parsed.{Parsed}
 use Rattle.sl_tool.specs.declared.status.Status.{Status}
 use Rattle.sl_tool.specs.declared.status.Status.TheVariants.{Refused}
 use Rattle.sl_tool.specs.Answers.{AnswerTo, refused, not_built, reported, IsReport, status_of}
-use Rattle.sl_tool.specs.Begins.{IsText, StopsAt}
-use Rattle.sl_tool.specs.Form.{Item, item_words, head_words, typed_text, ReadsAs, IsBuilt}
-use Rattle.sl_tool.specs.Refusals.{IsParsed, IsRefusal, by_length, by_token, by_grammar, rule_words, stop_place}
-use Rattle.sl_tool.proofs.FormProgram.{text_is_program}
+use Rattle.sl_tool.specs.Subset.{IsInSubset}
+use Rattle.sl_tool.specs.Subset.{Item, item_words, head_words, typed_text, ReadsAs, IsBuilt}
+use Rattle.sl_tool.specs.Refusals.{IsParsed, IsRefusal, by_length, by_token, by_grammar, stop_place}
+use Rattle.sl_tool.proofs.SubsetProgram.{text_is_program}
 use Rattle.sl_tool.proofs.ItemLaws.{begins_with, same_item, no_item_at_end}
 
 -- the words of a body are those of no other statements
 one_body : (is js : List Item) → flat_map item_words is ++ Mark RightBrace ∷ [] ≡ flat_map item_words js ++ Mark RightBrace ∷ [] → is ≡ js
 one_body [] [] e = refl
-one_body [] (j ∷ js) e = absurd (no_item_at_end _ j refl (begins_with _ _ j (e ∙ append_assoc (item_words j) (flat_map item_words js) (Mark RightBrace ∷ []))))
-one_body (i ∷ is) [] e = absurd (no_item_at_end _ i refl (begins_with _ _ i (sym e ∙ append_assoc (item_words i) (flat_map item_words is) (Mark RightBrace ∷ []))))
+one_body [] (j ∷ js) e =
+    absurd (no_item_at_end _ j refl (begins_with _ _ j (e ∙ append_assoc (item_words j) (flat_map item_words js) (Mark RightBrace ∷ []))))
+one_body (i ∷ is) [] e =
+    absurd (no_item_at_end _ i refl (begins_with _ _ i (sym e ∙ append_assoc (item_words i) (flat_map item_words is) (Mark RightBrace ∷ []))))
 one_body (i ∷ is) (j ∷ js) e =
     let left = append_assoc (item_words i) (flat_map item_words is) (Mark RightBrace ∷ []) in
     let right = e ∙ append_assoc (item_words j) (flat_map item_words js) (Mark RightBrace ∷ []) in
     let same : i ≡ j = same_item _ i j (begins_with _ _ i left) (begins_with _ _ j right) in
-    let whole = subst (λ k. item_words i ++ (flat_map item_words is ++ Mark RightBrace ∷ []) ≡ item_words k ++ (flat_map item_words js ++ Mark RightBrace ∷ [])) (sym same) (sym left ∙ right) in
-    let rest = sym (drop-append_seam (item_words i) (flat_map item_words is ++ Mark RightBrace ∷ [])) ∙ ap (λ l. drop (length (item_words i)) l) whole ∙ drop-append_seam (item_words i) (flat_map item_words js ++ Mark RightBrace ∷ []) in
+    let whole = subst (λ k. item_words i ++ (flat_map item_words is ++ Mark RightBrace ∷ []) ≡ item_words k
+    ++ (flat_map item_words js ++ Mark RightBrace ∷ [])) (sym same) (sym left ∙ right) in
+    let rest = sym (drop-append_seam (item_words i) (flat_map item_words is ++ Mark RightBrace ∷ [])) ∙ ap (λ l. drop (length (item_words i)) l) whole
+    ∙ drop-append_seam (item_words i) (flat_map item_words js ++ Mark RightBrace ∷ []) in
     let others : is ≡ js = one_body is js rest in
     cc
 
 one_reading : (tokens : List Token) (p q : Typed) → ReadsAs tokens p → ReadsAs tokens q → p ≡ q
 one_reading tokens p q a b =
-    let body : flat_map item_words a.items ++ Mark RightBrace ∷ [] ≡ flat_map item_words b.items ++ Mark RightBrace ∷ [] = ap (λ l. drop (length head_words) l) (sym a.words ∙ b.words) in
+    let body : flat_map item_words a.items ++ Mark RightBrace ∷ [] ≡ flat_map item_words b.items ++ Mark RightBrace ∷ [] =
+    ap (λ l. drop (length head_words) l) (sym a.words ∙ b.words) in
     a.typed ∙ ap (typed_text tokens) (one_body a.items b.items body) ∙ sym b.typed
 
-is_text : (tokens : List Token) (p : Typed) → ReadsAs tokens p → IsText (words_in tokens)
+is_text : (tokens : List Token) (p : Typed) → ReadsAs tokens p → IsInSubset (words_in tokens)
 is_text tokens p reads = record { items = reads.items; are_items = reads.words; allowed = reads.allowed; few = reads.few }
 
 -- tokens that are read don't stop
-reads_or_stops : (tokens others : List Token) (p : Typed) (k : ℕ) → tokens ≡ others → ReadsAs tokens p → StopsAt others k → ⊥
-reads_or_stops tokens others p k e reads stops = not_whole IsText (words_in others) k stops (subst (λ ts. IsText (words_in ts)) e (is_text tokens p reads))
+reads_or_stops : (tokens others : List Token) (p : Typed) (k : ℕ) → tokens ≡ others → ReadsAs tokens p → Stops IsInSubset (words_in others) k → ⊥
+reads_or_stops tokens others p k e reads stops = not_whole IsInSubset (words_in others) k stops
+    (subst (λ ts. IsInSubset (words_in ts)) e (is_text tokens p reads))
 
-one_stop : (P : List Word → Type 0) (text : List ℕ) (tokens others : List Token) (j k : ℕ) → tokens ≡ others → Stops P (words_in tokens) j → Stops P (words_in others) k
+one_stop : (P : List Word → Type 0) (text : List ℕ) (tokens others : List Token) (j k : ℕ) → tokens ≡ others → Stops P (words_in tokens) j
+    → Stops P (words_in others) k
     → stop_place text tokens j ≡ stop_place text others k
 one_stop P text tokens others j k e a b =
     let same : j ≡ k = stops_once P (words_in others) j k (subst (λ ts. Stops P (words_in ts) j) e a) b in
@@ -95,17 +103,20 @@ parsed_or_refused file text _ ts p parsed (by_grammar short us u k stops) =
 
 -- what is answered of a text is so
 abbrev IsSo : List ℕ → List ℕ → Result (Result Parsed (List ℕ)) AllocError → Type 0
-IsSo file text result = IfOk result (λ read. MatchResult read (λ parsed. IsParsed text parsed.tokens (program_of parsed.program)) (λ line. IsRefusal file text line))
+IsSo file text result =
+    IfOk result (λ read. MatchResult read (λ parsed. IsParsed text parsed.tokens (program_of parsed.program)) (λ line. IsRefusal file text line))
 
 -- the program of a text is the one that is answered
-pub only_program : (file text : List ℕ) (result : Result (Result Parsed (List ℕ)) AllocError) → IsSo file text result → (tokens : List Token) (program : Program) → IsParsed text tokens program
+pub only_program : (file text : List ℕ) (result : Result (Result Parsed (List ℕ)) AllocError) → IsSo file text result
+    → (tokens : List Token) (program : Program) → IsParsed text tokens program
     → IfOk result (λ read. MatchResult read (λ parsed. (parsed.tokens ≡ tokens) × (program_of parsed.program ≡ program)) (λ line. ⊥))
 only_program file text (Ok (Ok parsed)) so tokens program is = one_program text parsed.tokens tokens (program_of parsed.program) program so is
 only_program file text (Ok (Err line)) so tokens program is = parsed_or_refused file text line tokens program is so
 only_program file text (Err e) so tokens program is = tt
 
 -- the line that refuses a text is the one that is answered
-pub only_line : (file text : List ℕ) (result : Result (Result Parsed (List ℕ)) AllocError) → IsSo file text result → (line : List ℕ) → IsRefusal file text line
+pub only_line : (file text : List ℕ) (result : Result (Result Parsed (List ℕ)) AllocError) → IsSo file text result → (line : List ℕ)
+    → IsRefusal file text line
     → IfOk result (λ read. MatchResult read (λ parsed. ⊥) (λ other. other ≡ line))
 only_line file text (Ok (Ok parsed)) so line is = parsed_or_refused file text line parsed.tokens (program_of parsed.program) so is
 only_line file text (Ok (Err other)) so line is = one_line file text other line so is
@@ -116,33 +127,40 @@ status_or_refused : (r : List Warning) → status_of r ≡ Refused → ⊥
 status_or_refused [] e = absurd cc
 status_or_refused (w ∷ ws) e = absurd cc
 
-one_answer : (file text line bytes : List ℕ) (first status : Status) → first ≡ Refused → AnswerTo file text first line → AnswerTo file text status bytes → (status ≡ Refused) × (bytes ≡ line)
+one_answer : (file text line bytes : List ℕ) (first status : Status) → first ≡ Refused → AnswerTo file text first line
+    → AnswerTo file text status bytes → (status ≡ Refused) × (bytes ≡ line)
 one_answer file text _ _ _ _ e (refused x a) (refused y b) = (refl, one_line file text y x b a)
 one_answer file text _ _ _ _ e (refused x a) (not_built ts p parsed k stops) = absurd (parsed_or_refused file text x ts p parsed a)
 one_answer file text _ _ _ _ e (refused x a) (reported ts p parsed t reads r is) = absurd (parsed_or_refused file text x ts p parsed a)
 one_answer file text _ _ _ _ e (not_built ts p parsed k stops) (refused y b) = absurd (parsed_or_refused file text y ts p parsed b)
-one_answer file text _ _ _ _ e (not_built ts p parsed k stops) (not_built us q also j others) =
-    (refl, ap (λ (at : Place). refusal_line file at (codes "not built")) (one_stop IsText text us ts j k (one_tokens text us ts also.cut parsed.cut) others stops))
+one_answer file text _ _ _ _ e (not_built ts p parsed k stops) (not_built us q also j others) = (
+  refl,
+  ap (λ (at : Place). refusal_line file at (codes "not built"))
+      (one_stop IsInSubset text us ts j k (one_tokens text us ts also.cut parsed.cut) others stops),
+)
 one_answer file text _ _ _ _ e (not_built ts p parsed k stops) (reported us q also t reads r is) =
     absurd (reads_or_stops us ts t k (one_tokens text us ts also.cut parsed.cut) reads stops)
 one_answer file text _ _ _ _ e (reported ts p parsed t reads r is) other = absurd (status_or_refused r e)
 
 -- a text that is refused has no other answer
-pub one_refusal : (file text line bytes : List ℕ) (status : Status) → AnswerTo file text Refused line → AnswerTo file text status bytes → (status ≡ Refused) × (bytes ≡ line)
+pub one_refusal : (file text line bytes : List ℕ) (status : Status) → AnswerTo file text Refused line → AnswerTo file text status bytes
+    → (status ≡ Refused) × (bytes ≡ line)
 one_refusal file text line bytes status a b = one_answer file text line bytes Refused status refl a b
 
--- a text of the form isn't refused by its line
+-- a text of the subset isn't refused by its line
 built_or_refused : (file text line : List ℕ) (p : Typed) → length text ≤ TEXT_BYTES → IsBuilt text p → IsRefusal file text line → ⊥
 built_or_refused file text _ p short built (by_length long) = omega arith
 built_or_refused file text _ p short (ts, t, reads) (by_token also rule at fault) = not_both text ts rule at t fault
 built_or_refused file text _ p short (ts, t, reads) (by_grammar also us u k stops) =
     program_or_stops us ts k (one_tokens text us ts u t) stops (text_is_program (words_in ts) (is_text ts p reads))
 
--- the answer to a text of the form is a report on it
-pub is_reported : (file text bytes : List ℕ) (status : Status) (p : Typed) → length text ≤ TEXT_BYTES → IsBuilt text p → AnswerTo file text status bytes
+-- the answer to a text of the subset is a report on it
+pub is_reported : (file text bytes : List ℕ) (status : Status) (p : Typed) → length text ≤ TEXT_BYTES → IsBuilt text p
+    → AnswerTo file text status bytes
     → (r : List Warning) × IsReport p r × (status ≡ status_of r) × (bytes ≡ report_text file p.sites r)
 is_reported file text _ _ p short built (refused x a) = absurd (built_or_refused file text x p short built a)
-is_reported file text _ _ p short (ts, t, reads) (not_built us q parsed k stops) = absurd (reads_or_stops ts us p k (one_tokens text ts us t parsed.cut) reads stops)
+is_reported file text _ _ p short (ts, t, reads) (not_built us q parsed k stops) =
+    absurd (reads_or_stops ts us p k (one_tokens text ts us t parsed.cut) reads stops)
 is_reported file text _ _ p short (ts, t, reads) (reported us q parsed other also r is) =
     let same : other ≡ p = one_reading us other p also (subst (λ l. ReadsAs l p) (one_tokens text ts us t parsed.cut) reads) in
     (r, rw same at is, refl, ap (λ (x : Typed). report_text file x.sites r) same)

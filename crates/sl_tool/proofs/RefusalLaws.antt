@@ -4,6 +4,7 @@ use Rattle.std.specs.declared.alloc.AllocError.{AllocError}
 use Rattle.sl_tool.specs.Refusals.{IsRefusal}
 
 -- what is written is the line of a refusal, if anything is
-pub is_refusal : (file text line : List ℕ) (result : Result (List ℕ) AllocError) → IfOk result (λ written. written ≡ line) → IsRefusal file text line → IfOk result (IsRefusal file text)
+pub is_refusal : (file text line : List ℕ) (result : Result (List ℕ) AllocError) → IfOk result (λ written. written ≡ line) → IsRefusal file text line
+    → IfOk result (IsRefusal file text)
 is_refusal file text line (Ok written) is h = rw is h
 is_refusal file text line (Err e) is h = tt

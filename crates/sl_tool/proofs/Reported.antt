@@ -2,10 +2,11 @@
 use Rattle.std.proofs.Common.{ℕ, List}
 use Rattle.sl_syntax.specs.declared.typed.Typed.{Typed}
 use Rattle.sl_tool.specs.Answers.{IsReport}
-use Rattle.sl_tool.specs.Analysis.{nothing_known, warnings_of}
-use Rattle.sl_tool.specs.Exactness.{AreInOrder, KillersAscend}
-use Rattle.sl_tool.specs.Form.{IsBuilt, IsOfText}
-use Rattle.sl_tool.specs.Told.{report_of}
+use Rattle.sl_tool.specs.Means.Analysis.{nothing_known, warnings_of}
+use Rattle.sl_warnings.specs.Reports.{IsAscending}
+use Rattle.sl_tool.specs.Means.Told.{KillersAscend}
+use Rattle.sl_tool.specs.Subset.{IsBuilt, IsOfText}
+use Rattle.sl_tool.specs.Means.Told.{report_of}
 use Rattle.sl_tool.proofs.Soundness.{reports, meaning}
 use Rattle.sl_tool.proofs.Founded.{uses-declared, exact-built, order-built, founded-built}
 
@@ -19,7 +20,7 @@ is_report text p built = record {
 }
 
 -- They are in order.
-pub ordered : (p : Typed) → IsOfText p → AreInOrder (report_of p.names (warnings_of nothing_known p.stmts))
+pub ordered : (p : Typed) → IsOfText p → IsAscending (report_of p.names (warnings_of nothing_known p.stmts))
 ordered p (text, built) = order-built text p built
 
 -- Their killers ascend.

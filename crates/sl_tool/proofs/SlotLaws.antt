@@ -1,6 +1,7 @@
 -- Words that fit slots.
 use Rattle.std.proofs.Math.ListN.{drop_of_length-le}
-use Rattle.std.proofs.Common.{◌≡◌, ◌⊎◌, inl, inr, ℕ, zero, suc, ◌+◌, ◌<◌, ◌≤◌, List, [], ◌∷◌, ◌++◌, length, take, drop, get_or, refl, sym, ap, subst, add-one, append_assoc, arith}
+use Rattle.std.proofs.Common.{◌≡◌, ◌⊎◌, inl, inr, ℕ, zero, suc, ◌+◌, ◌<◌, ◌≤◌, List, [], ◌∷◌, ◌++◌, length, take, drop, get_or, refl, sym, ap, subst}
+use Rattle.std.proofs.Common.{add-one, append_assoc, arith}
 use Rattle.std.proofs.Common.{min}
 use Rattle.std.proofs.lemmas.Bool.{cases_lt}
 use Rattle.std.proofs.Math.ListN.{length-map}
@@ -10,8 +11,8 @@ use Rattle.sl_base.specs.declared.word.Word.{Word}
 use Rattle.sl_tool.specs.declared.reading.slots.Slot.{Slot}
 use Rattle.sl_syntax.specs.Begins.{Begins, Stops}
 use Rattle.sl_syntax.specs.Begins.{words_in}
-use Rattle.sl_tool.specs.Form.{Scope}
-use Rattle.sl_tool.specs.Slots.{Fits, Fit}
+use Rattle.sl_tool.specs.Subset.{Scope}
+use Rattle.sl_tool.specs.Means.Slots.{Fits, Fit}
 use Rattle.sl_tool.proofs.ItemLaws.{front}
 
 -- the words begin with words that fit all the slots
@@ -47,7 +48,8 @@ fit_whole s (x ∷ xs) (w ∷ ws) zero h le = absurd (omega arith)
 fit_whole s (x ∷ xs) (w ∷ ws) (suc k) h le = (h.0, fit_whole s xs ws k h.1 (omega arith))
 
 -- the word behind those that fit doesn't
-pub no_further : (s : Scope) (xs : List Slot) (ws : List Word) (k : ℕ) (more : List Word) → Fit s xs ws k → k < length xs → k < length ws → FitAll s xs (take (suc k) ws ++ more) → ⊥
+pub no_further : (s : Scope) (xs : List Slot) (ws : List Word) (k : ℕ) (more : List Word) → Fit s xs ws k → k < length xs → k < length ws
+    → FitAll s xs (take (suc k) ws ++ more) → ⊥
 no_further s [] ws k more h some inside all = absurd (omega arith)
 no_further s (x ∷ xs) [] k more h some inside all = absurd (omega arith)
 no_further s (x ∷ xs) (w ∷ ws) zero more h some inside all = h all.0
@@ -58,7 +60,8 @@ filled s [] h = ([], tt, refl)
 filled s (x ∷ xs) h = let rest = filled s xs h.1 in (h.0.0 ∷ rest.0, (h.0.1, rest.1), ap suc rest.2)
 
 -- words that fit can be completed
-pub completed : (s : Scope) (xs : List Slot) (ws : List Word) (k : ℕ) → HaveWords s xs → Fit s xs ws k → (more : List Word) × FitAll s xs (take k ws ++ more) × (length (take k ws ++ more) ≡ length xs)
+pub completed : (s : Scope) (xs : List Slot) (ws : List Word) (k : ℕ) → HaveWords s xs → Fit s xs ws k → (more : List Word)
+    × FitAll s xs (take k ws ++ more) × (length (take k ws ++ more) ≡ length xs)
 completed s [] ws zero words h = ([], tt, refl)
 completed s [] ws (suc k) words h = absurd h
 completed s (x ∷ xs) [] zero words h = filled s (x ∷ xs) words
@@ -66,7 +69,8 @@ completed s (x ∷ xs) [] (suc k) words h = absurd h
 completed s (x ∷ xs) (w ∷ ws) zero words h = filled s (x ∷ xs) words
 completed s (x ∷ xs) (w ∷ ws) (suc k) words h = let rest = completed s xs ws k words.1 h.1 in (rest.0, (h.0, rest.1), ap suc rest.2)
 
--- Words stop where they stop fitting the slots: whatever fits them all begins what is whole, and whatever is whole with this first word fits them all.
+-- Words stop where they stop fitting the slots: whatever fits them all begins what is whole, and whatever is whole with this first word fits them
+-- all.
 pub stops_in_slots : (P : List Word → Type 0) (s : Scope) (xs : List Slot) (w : Word) (ws : List Word) (k : ℕ) → HaveWords s xs
     → ((front : List Word) → FitAll s xs front → length front ≡ length xs → Begins P front)
     → ((rest : List Word) → P (w ∷ rest) → FitAll s xs (w ∷ rest))
@@ -84,8 +88,10 @@ stops_in_slots P s xs w ws k words closes reads fit some = record {
 }
 
 -- one word more
-pub fits_more : (s : Scope) (xs : List Slot) (ws : List Word) (x : Slot) (w : Word) (i j : ℕ) → drop i xs ≡ x ∷ drop (i + 1) xs → drop i ws ≡ w ∷ drop (i + 1) ws
-    → ((n : ℕ) → Fit s (drop i xs) (drop i ws) n → Fit s xs ws (i + n)) → Fits s x w → Fit s (drop (i + 1) xs) (drop (i + 1) ws) j → Fit s xs ws (i + 1 + j)
+pub fits_more : (s : Scope) (xs : List Slot) (ws : List Word) (x : Slot) (w : Word) (i j : ℕ) → drop i xs ≡ x ∷ drop (i + 1) xs → drop i ws ≡ w
+    ∷ drop (i + 1) ws
+    → ((n : ℕ) → Fit s (drop i xs) (drop i ws) n → Fit s xs ws (i + n)) → Fits s x w → Fit s (drop (i + 1) xs) (drop (i + 1) ws) j
+    → Fit s xs ws (i + 1 + j)
 fits_more s xs ws x w i j slots words so_far here rest =
     let e : i + suc j ≡ i + 1 + j = omega arith in
     let both : Fit s (x ∷ drop (i + 1) xs) (w ∷ drop (i + 1) ws) (suc j) = (here, rest) in
@@ -93,7 +99,8 @@ fits_more s xs ws x w i j slots words so_far here rest =
     rw e at (so_far (suc j) there)
 
 -- no word more
-pub fits_no_more : (s : Scope) (xs : List Slot) (ws : List Word) (x : Slot) (w : Word) (i : ℕ) → drop i xs ≡ x ∷ drop (i + 1) xs → drop i ws ≡ w ∷ drop (i + 1) ws
+pub fits_no_more : (s : Scope) (xs : List Slot) (ws : List Word) (x : Slot) (w : Word) (i : ℕ) → drop i xs ≡ x ∷ drop (i + 1) xs → drop i ws ≡ w
+    ∷ drop (i + 1) ws
     → ((n : ℕ) → Fit s (drop i xs) (drop i ws) n → Fit s xs ws (i + n)) → (Fits s x w → ⊥) → Fit s xs ws i
 fits_no_more s xs ws x w i slots words so_far not =
     let e : i + 0 ≡ i = omega arith in
@@ -102,7 +109,8 @@ fits_no_more s xs ws x w i slots words so_far not =
     rw e at (so_far 0 there)
 
 -- at the end of the slots or of the words
-pub fits_end : (s : Scope) (xs : List Slot) (ws : List Word) (i : ℕ) → (length xs ≤ i) ⊎ (length ws ≤ i) → ((n : ℕ) → Fit s (drop i xs) (drop i ws) n → Fit s xs ws (i + n)) → Fit s xs ws i
+pub fits_end : (s : Scope) (xs : List Slot) (ws : List Word) (i : ℕ) → (length xs ≤ i) ⊎ (length ws ≤ i)
+    → ((n : ℕ) → Fit s (drop i xs) (drop i ws) n → Fit s xs ws (i + n)) → Fit s xs ws i
 fits_end s xs ws i (inl h) so_far =
     let e : i + 0 ≡ i = omega arith in
     let none : drop i xs ≡ [] = drop_of_length-le xs {i = i} h in
@@ -120,10 +128,13 @@ slot_at : (xs : List Slot) (i : ℕ) (d : Slot) → i < length xs → drop i xs 
 slot_at xs i d h = rw add-one (drop-cons xs i d h)
 
 -- What fits so far of tokens, and the token and the slot behind it.
-module _ (s : Scope) (xs : List Slot) (ts : List Token) (d : Slot) (t : Token) (i : ℕ) (slot_there : i < length xs) (token_there : i < length ts) (is : t ≡ get_or ts i t)
+module _ (s : Scope) (xs : List Slot) (ts : List Token) (d : Slot) (t : Token) (i : ℕ) (slot_there : i < length xs) (token_there : i < length ts)
+    (is : t ≡ get_or ts i t)
     (so_far : (n : ℕ) → Fit s (drop i xs) (drop i (words_in ts)) n → Fit s xs (words_in ts) (i + n)) where
-  pub token_fits : Fits s (get_or xs i d) t.word → (n : ℕ) → Fit s (drop (i + 1) xs) (drop (i + 1) (words_in ts)) n → Fit s xs (words_in ts) (i + 1 + n)
-  token_fits here n rest = fits_more s xs (words_in ts) (get_or xs i d) t.word i n (slot_at xs i d slot_there) (front ts i t token_there is) so_far here rest
+  pub token_fits : Fits s (get_or xs i d) t.word → (n : ℕ) → Fit s (drop (i + 1) xs) (drop (i + 1) (words_in ts)) n
+      → Fit s xs (words_in ts) (i + 1 + n)
+  token_fits here n rest = fits_more s xs (words_in ts) (get_or xs i d) t.word i n (slot_at xs i d slot_there) (front ts i t token_there is)
+      so_far here rest
 
   pub token_differs : (Fits s (get_or xs i d) t.word → ⊥) → Fit s xs (words_in ts) i
   token_differs not = fits_no_more s xs (words_in ts) (get_or xs i d) t.word i (slot_at xs i d slot_there) (front ts i t token_there is) so_far not

@@ -1,4 +1,4 @@
--- Every failure of every run of a text of the form is told.
+-- Every failure of every run of a text of the subset is told.
 use Rattle.std.proofs.Common.{◌≡◌, ℕ, true, false, List, [], ◌∷◌, length, refl, sym, length-append}
 use Rattle.std.specs.Prelude.{unwrap_or, ℤ}
 use Rattle.std.proofs.Math.ListN.{length-set}
@@ -19,9 +19,10 @@ use Rattle.sl_model.specs.Run.{done_with, empty_state, finished, run}
 use Rattle.sl_model.specs.Library.{lib}
 use Rattle.sl_model.specs.Covers.{Covers, Reports, Safe, HasMeaning, Warning as WarningValue}
 use Rattle.sl_tool.specs.declared.analysis.Warning.{Warning}
-use Rattle.sl_tool.specs.Analysis.{Known, nothing_known, standing_at, is_filled, warned, warnings_of, with_vector, with_push, with_iterator, found_valid}
-use Rattle.sl_tool.specs.Form.{UsesDeclared}
-use Rattle.sl_tool.specs.Told.{report_of}
+use Rattle.sl_tool.specs.Means.Analysis.{Known, nothing_known, standing_at, is_filled, warned, warnings_of, with_vector, with_push, with_iterator}
+use Rattle.sl_tool.specs.Means.Analysis.{found_valid}
+use Rattle.sl_tool.proofs.Uses.{UsesDeclared}
+use Rattle.sl_tool.specs.Means.Told.{report_of}
 use Rattle.sl_tool.proofs.Describes.{Describes}
 use Rattle.sl_tool.proofs.Goes.{EndsTold, IsTold, goes-on}
 use Rattle.sl_tool.proofs.Kept.{valid}
@@ -31,27 +32,37 @@ pub same_uses : (a b c d : ℕ) (ss : List Stmt) → a ≡ c → b ≡ d → Use
 same_uses a b c d ss e q h = rw (← e, ← q) h
 
 -- the statements from a state that is described
-pub walk : (names : List (List ℕ)) (own : Oracle) (ss : List Stmt) (k : Known) (s : State) → Describes k s.memory s.frame s.iters → UsesDeclared (length k.filled) (length k.iterators) ss
+pub walk : (names : List (List ℕ)) (own : Oracle) (ss : List Stmt) (k : Known) (s : State) → Describes k s.memory s.frame s.iters
+    → UsesDeclared (length k.filled) (length k.iterators) ss
     → EndsTold names (warnings_of k ss) (exec_all (world_of own) (stmts_of ss) s)
 walk names own [] k s d u = tt
 walk names own (Vector place ∷ ss) k s d u =
-    goes-on names (with_vector k) true [] (warnings_of (with_vector k) ss) (exec (world_of own) (stmt_of (Vector place)) s) (exec_all (world_of own) (stmts_of ss)) (goes-vector names k own place s d)
+    goes-on names (with_vector k) true [] (warnings_of (with_vector k) ss) (exec (world_of own) (stmt_of (Vector place)) s)
+    (exec_all (world_of own) (stmts_of ss)) (goes-vector names k own place s d)
     (λ t e. walk names own ss (with_vector k) t e (same_uses _ _ _ _ ss (sym (length-append k.filled (false ∷ []))) refl u))
 walk names own (PushBack place v name site z ∷ ss) k s d u =
-    goes-on names (with_push k v site) true [] (warnings_of (with_push k v site) ss) (exec (world_of own) (stmt_of (PushBack place v name site z)) s) (exec_all (world_of own) (stmts_of ss)) (goes-push_back names k own place v name site z s d u.0)
+    goes-on names (with_push k v site) true [] (warnings_of (with_push k v site) ss) (exec (world_of own) (stmt_of (PushBack place v name site z)) s)
+    (exec_all (world_of own) (stmts_of ss)) (goes-push_back names k own place v name site z s d u.0)
     (λ t e. walk names own ss (with_push k v site) t e (same_uses _ _ _ _ ss (sym (length-set k.filled v true)) refl u.1))
 walk names own (Begin place v name ∷ ss) k s d u =
-    goes-on names (with_iterator k v) true [] (warnings_of (with_iterator k v) ss) (exec (world_of own) (stmt_of (Begin place v name)) s) (exec_all (world_of own) (stmts_of ss)) (goes-begin names k own place v name s d u.0)
-    (λ t e. walk names own ss (with_iterator k v) t e (same_uses _ _ _ _ ss refl (sym (length-append k.iterators (record { vector = v; at_element = is_filled k v; since = length k.pushes } ∷ []))) u.1))
+    goes-on names (with_iterator k v) true [] (warnings_of (with_iterator k v) ss) (exec (world_of own) (stmt_of (Begin place v name)) s)
+    (exec_all (world_of own) (stmts_of ss)) (goes-begin names k own place v name s d u.0)
+    (λ t e. walk names own ss (with_iterator k v) t e
+    (same_uses _ _ _ _ ss refl
+    (sym (length-append k.iterators (record { vector = v; at_element = is_filled k v; since = length k.pushes } ∷ []))) u.1))
 walk names own (Dereference place it name ∷ ss) k s d u =
-    goes-on names (found_valid k it (standing_at k it)) (standing_at k it).at_element (warned k (Dereference place it name)) (warnings_of (found_valid k it (standing_at k it)) ss) (exec (world_of own) (stmt_of (Dereference place it name)) s) (exec_all (world_of own) (stmts_of ss)) (goes-star names k own place it name s d u.0)
-    (λ t e. walk names own ss (found_valid k it (standing_at k it)) t e (same_uses _ _ _ _ ss refl (sym (length-set k.iterators it (valid k (standing_at k it)))) u.1))
+    goes-on names (found_valid k it (standing_at k it)) (standing_at k it).at_element (warned k (Dereference place it name))
+    (warnings_of (found_valid k it (standing_at k it)) ss) (exec (world_of own) (stmt_of (Dereference place it name)) s)
+    (exec_all (world_of own) (stmts_of ss)) (goes-star names k own place it name s d u.0)
+    (λ t e. walk names own ss (found_valid k it (standing_at k it)) t e
+    (same_uses _ _ _ _ ss refl (sym (length-set k.iterators it (valid k (standing_at k it)))) u.1))
 
 none_at : (j k s : ℕ) → IsAt empty_memory j k s → ⊥
 none_at j k s h = let e = h.there in cc
 
 -- a run begins where nothing is known
-pub begins : (input : List ℤ) (picks : List ℕ) (steps : ℕ) → let s : State = empty_state input picks steps in Describes nothing_known s.memory s.frame s.iters
+pub begins : (input : List ℤ) (picks : List ℕ) (steps : ℕ) → let s : State = empty_state input picks steps in
+    Describes nothing_known s.memory s.frame s.iters
 begins input picks steps = record {
   sound = record {
     once = λ j k i h s a b. absurd (none_at j k s a);
@@ -81,7 +92,8 @@ done_told names ws (container_at l) = tt
 done_told names ws (element_at i k p) = tt
 
 -- the end of `main` is that of its body
-finished_told : (names : List (List ℕ)) (ws : List Warning) (f : Function) (before start : State) (site : ℕ) (flow : Flow) → EndsTold names ws flow → IsTold names ws (finished (called true f before (scoped site start flow))).end
+finished_told : (names : List (List ℕ)) (ws : List Warning) (f : Function) (before start : State) (site : ℕ) (flow : Flow) → EndsTold names ws flow
+    → IsTold names ws (finished (called true f before (scoped site start flow))).end
 finished_told names ws f before start site (Next s) h = tt
 finished_told names ws f before start site (Broke s) h = tt
 finished_told names ws f before start site (Continued s) h = tt
@@ -89,10 +101,12 @@ finished_told names ws f before start site (Returned v s) h = done_told names ws
 finished_told names ws f before start site (Over e s) h = h
 
 -- each end of a run is told
-pub run_told : (p : Typed) (input : List ℤ) (picks : List ℕ) (steps : ℕ) → UsesDeclared 0 0 p.stmts → IsTold p.names (warnings_of nothing_known p.stmts) (run (typed_of p) input picks steps).end
+pub run_told : (p : Typed) (input : List ℤ) (picks : List ℕ) (steps : ℕ) → UsesDeclared 0 0 p.stmts
+    → IsTold p.names (warnings_of nothing_known p.stmts) (run (typed_of p) input picks steps).end
 run_told p input picks steps u =
     let s : State = empty_state input picks steps in
-    finished_told p.names (warnings_of nothing_known p.stmts) (main_of p.stmts p.close) s s (unwrap_or (brace_site p.stmts) 0) (exec_all (world_of (call_of lib 255 (typed_of p))) (stmts_of p.stmts) s)
+    finished_told p.names (warnings_of nothing_known p.stmts) (main_of p.stmts p.close) s s (unwrap_or (brace_site p.stmts) 0)
+    (exec_all (world_of (call_of lib 255 (typed_of p))) (stmts_of p.stmts) s)
     (walk p.names (call_of lib 255 (typed_of p)) p.stmts nothing_known s (begins input picks steps) u)
 
 -- the report covers the trap of every run

@@ -1,5 +1,6 @@
--- What each statement of a text of the form does to a state that is described.
-use Rattle.std.proofs.Common.{arith, ◌≡◌, ℕ, ◌+◌, ◌<◌, Bool, true, false, List, [], ◌∷◌, ◌++◌, length, get_or, drop, Option, Some, None, ⊎_elim, refl, ap, sym, subst, ◌∙◌, if◌then◌else◌}
+-- What each statement of a text of the subset does to a state that is described.
+use Rattle.std.proofs.Common.{arith, ◌≡◌, ℕ, ◌+◌, ◌<◌, Bool, true, false, List, [], ◌∷◌, ◌++◌, length, get_or, drop, Option, Some, None, ⊎_elim, refl}
+use Rattle.std.proofs.Common.{ap, sym, subst, ◌∙◌, if◌then◌else◌}
 use Rattle.std.specs.Prelude.{slice_get, nat_lt, ◌==◌, Contains, ℤ, pos, codes}
 use Rattle.std.proofs.lemmas.Bool.{ltb-false, le-ltb, lt-ltb, eqb-true, eqb-false}
 use Rattle.sl_base.specs.declared.form.Form.TheVariants as f
@@ -7,7 +8,8 @@ use Rattle.sl_base.specs.declared.scalar.Scalar.TheVariants as t
 use Rattle.sl_base.specs.declared.place.Place.{Place}
 use Rattle.sl_base.specs.declared.limits.TheConstants.{ELEMENTS}
 use Rattle.sl_syntax.specs.declared.typed.Stmt.TheVariants.{Vector, PushBack, Begin, Dereference}
-use Rattle.sl_syntax.specs.Typed.{Head, row, operator, star, makes, none, with, literal, iterator as iterator_operand, held, element, call, evaluates, set_iterator, set_scalar}
+use Rattle.sl_syntax.specs.Typed.{Head, row, operator, star, makes, none, with, literal, iterator as iterator_operand, held, element, call, evaluates}
+use Rattle.sl_syntax.specs.Typed.{set_iterator, set_scalar}
 use Rattle.sl_syntax.specs.View.{stmt_of, free_call, member_call, vector_row, begin_row, push_back_row}
 use Rattle.sl_model.specs.Containers.{Memory, Cont, size, cont_at, killer, key_part}
 use Rattle.sl_model.specs.Schedule.{pick}
@@ -22,8 +24,9 @@ use Rattle.sl_model.specs.Rows.{grown_picks}
 use Rattle.sl_model.specs.Library.{lib}
 use Rattle.sl_model.specs.Covers.{Covers}
 use Rattle.sl_tool.specs.declared.analysis.Standing.{Standing}
-use Rattle.sl_tool.specs.Analysis.{Known, killers_of, standing_at, is_filled, with_vector, with_push, with_iterator, found_valid, dereferenced, fault_in, told_at}
-use Rattle.sl_tool.specs.Told.{report_of}
+use Rattle.sl_tool.specs.Means.Analysis.{Known, killers_of, standing_at, is_filled, with_vector, with_push, with_iterator, found_valid, dereferenced}
+use Rattle.sl_tool.specs.Means.Analysis.{fault_in, told_at}
+use Rattle.sl_tool.specs.Means.Told.{report_of}
 use Rattle.sl_tool.proofs.Describes.{Describes, Stays}
 use Rattle.sl_tool.proofs.Goes.{Goes, ticked}
 use Rattle.sl_tool.proofs.Lists.{there, get_or-there, number-at}
@@ -38,10 +41,13 @@ world_of own = record { lib = lib; own = own }
 
 pub goes-vector : (names : List (List ℕ)) (k : Known) (own : Oracle) (place : Place) (s : State) → Describes k s.memory s.frame s.iters
     → Goes names (with_vector k) true [] (exec (world_of own) (stmt_of (Vector place)) s)
-goes-vector names k own place s d = ticked names (with_vector k) true [] (declared (world_of own) (makes f.Vector (free_call (row vector_row) place []) none)) s (λ n. (refl, kept-vector k s.memory s.frame s.iters (pick s.picks) d))
+goes-vector names k own place s d = ticked names (with_vector k) true []
+    (declared (world_of own) (makes f.Vector (free_call (row vector_row) place []) none)) s
+    (λ n. (refl, kept-vector k s.memory s.frame s.iters (pick s.picks) d))
 
 -- a vector that is in scope is there, at the location of its number
-pub vector_in : (k : Known) (m : Memory) (frame : Frame) (iters : List ℕ) (v : ℕ) → Describes k m frame iters → v < length k.filled → (c : Cont) × (slice_get m.conts v ≡ Some c)
+pub vector_in : (k : Known) (m : Memory) (frame : Frame) (iters : List ℕ) (v : ℕ) → Describes k m frame iters → v < length k.filled → (c : Cont)
+    × (slice_get m.conts v ≡ Some c)
 vector_in k m frame iters v d h = there m.conts v (let e = d.vectors in omega arith)
 
 pub located : (at : List ℕ) (n v : ℕ) → at ≡ numbers 0 n → v < n → get_or at v 0 ≡ v
@@ -51,15 +57,18 @@ located at n v e h = ap (λ l. get_or l v 0) e ∙ number-at n v h
 abbrev pub push_flow : Head → List Value → State → LibOut → Flow
 push_flow h vs s out = flow_of (settle_call h vs out s) (λ v. Next)
 
-push_case : (names : List (List ℕ)) (k : Known) (h : Head) (vs : List Value) (s : State) (v : ℕ) (c : Cont) (z : ℤ) (site : ℕ) → Describes k s.memory s.frame s.iters → slice_get s.memory.conts v ≡ Some c
+push_case : (names : List (List ℕ)) (k : Known) (h : Head) (vs : List Value) (s : State) (v : ℕ) (c : Cont) (z : ℤ) (site : ℕ)
+    → Describes k s.memory s.frame s.iters → slice_get s.memory.conts v ≡ Some c
     → Goes names (with_push k v site) true [] (push_flow h vs s (pushed_back s.memory v c z s.picks site))
 push_case names k h vs s v c z site d at = by_size (nat_lt ELEMENTS (size c + 1)) refl
   where
-    by_size : (b : Bool) → nat_lt ELEMENTS (size c + 1) ≡ b → Goes names (with_push k v site) true [] (push_flow h vs s (if b then thrown else gives nothing (after_push s.memory v c z s.picks site) (drop (grown_picks c 1) s.picks)))
+    by_size : (b : Bool) → nat_lt ELEMENTS (size c + 1) ≡ b → Goes names (with_push k v site) true []
+        (push_flow h vs s (if b then thrown else gives nothing (after_push s.memory v c z s.picks site) (drop (grown_picks c 1) s.picks)))
     by_size true e = tt
     by_size false e = (refl, kept-push k s.memory s.frame s.iters v c z s.picks site d at (ltb-false ELEMENTS (size c + 1) e))
 
-pub goes-push_back : (names : List (List ℕ)) (k : Known) (own : Oracle) (place : Place) (v name site z : ℕ) (s : State) → Describes k s.memory s.frame s.iters → v < length k.filled
+pub goes-push_back : (names : List (List ℕ)) (k : Known) (own : Oracle) (place : Place) (v name site z : ℕ) (s : State)
+    → Describes k s.memory s.frame s.iters → v < length k.filled
     → Goes names (with_push k v site) true [] (exec (world_of own) (stmt_of (PushBack place v name site z)) s)
 goes-push_back names k own place v name site z s d lt =
     let h : Head = member_call push_back_row place site v name in
@@ -72,7 +81,8 @@ goes-push_back names k own place v name site z s d lt =
     ∙ lib-push_back s.memory v c.0 (pos z) s.picks site c.1 (d.forms v c.0 c.1)))
     (push_case names k h (number (pos z) ∷ []) now v c.0 (pos z) site d c.1))
 
-pub goes-begin : (names : List (List ℕ)) (k : Known) (own : Oracle) (place : Place) (v name : ℕ) (s : State) → Describes k s.memory s.frame s.iters → v < length k.filled
+pub goes-begin : (names : List (List ℕ)) (k : Known) (own : Oracle) (place : Place) (v name : ℕ) (s : State) → Describes k s.memory s.frame s.iters
+    → v < length k.filled
     → Goes names (with_iterator k v) true [] (exec (world_of own) (stmt_of (Begin place v name)) s)
 goes-begin names k own place v name s d lt =
     let h : Head = member_call begin_row place 0 v name in
@@ -80,7 +90,8 @@ goes-begin names k own place v name s d lt =
     let at : cont_of s v ≡ v = located s.frame.conts (length k.filled) v d.conts_frame lt in
     ticked names (with_iterator k v) true [] (declared (world_of own) (set_iterator (call h none))) s (λ n.
     let now : State = record s { steps = n } in
-    subst (λ (out : LibOut). Goes names (with_iterator k v) true [] (flow_of (settle_call h [] out now) (on_stamp (λ stamp t. Next (new_iterator stamp t)))))
+    subst (λ (out : LibOut). Goes names (with_iterator k v) true []
+    (flow_of (settle_call h [] out now) (on_stamp (λ stamp t. Next (new_iterator stamp t)))))
     (sym (ap (λ (j : ℕ). lib (row begin_row) (record { site = 0; object = Some j; values = [] }) s.memory s.picks) at
     ∙ lib-begin s.memory v c.0 s.picks c.1 (d.forms v c.0 c.1)))
     (refl, kept-begin k s.memory s.frame s.iters v c.0 d c.1))
@@ -88,7 +99,8 @@ goes-begin names k own place v name s d lt =
 -- what follows a `*`
 abbrev pub star_flow : Place → ℕ → ℕ → State → LibOut → Flow
 star_flow place name stamp s out =
-    flow_of (then_eval (settle_call (free_call (operator star) place (None ∷ Some name ∷ [])) (iterator stamp ∷ []) out s) (read_at place)) (on_number (λ z now. Next (new_scalar t.Int (Some z) now)))
+    flow_of (then_eval (settle_call (free_call (operator star) place (None ∷ Some name ∷ [])) (iterator stamp ∷ []) out s) (read_at place))
+    (on_number (λ z now. Next (new_scalar t.Int (Some z) now)))
 
 -- a trap at a `*`
 abbrev pub star_trap : Place → ℕ → ℕ → Option ℕ → Trap
@@ -102,7 +114,15 @@ told_invalid names place name (x ∷ xs) had site h = record {
   index = 0;
   warning = record { place = place; kind = 1; call = codes "*"; argument = 1; name = slice_get names name; killers = x ∷ xs };
   there = refl;
-  tells = record { place = refl; kind = refl; call = refl; argument = refl; name = refl; killer = λ other e. let q : site ≡ other = cc in rw (sym q) h };
+  tells = record {
+    place = refl;
+    kind = refl;
+    call = refl;
+    argument = refl;
+    name = refl;
+    killer = λ other e. let q : site ≡ other =
+        cc in rw (sym q) h;
+  };
 }
 
 -- an iterator at the end is told
@@ -116,16 +136,19 @@ told_end names place name killers had empty e = rw (empty, e) (record {
 })
 
 -- `*` of an iterator that stands at the begin of its vector
-star_valid : (names : List (List ℕ)) (k : Known) (place : Place) (name it stamp : ℕ) (standing : Standing) (s : State) → Describes k s.memory s.frame s.iters → slice_get s.iters it ≡ Some stamp
+star_valid : (names : List (List ℕ)) (k : Known) (place : Place) (name it stamp : ℕ) (standing : Standing) (s : State)
+    → Describes k s.memory s.frame s.iters → slice_get s.iters it ≡ Some stamp
     → Stays s.memory stamp (is_filled k standing.vector) (killers_of k standing) standing
-    → Goes names (found_valid k it standing) standing.at_element (dereferenced k place name standing) (star_flow place name stamp s (at_element standing.vector 0 (size (cont_at s.memory standing.vector)) s.memory s.picks))
+    → Goes names (found_valid k it standing) standing.at_element (dereferenced k place name standing)
+    (star_flow place name stamp s (at_element standing.vector 0 (size (cont_at s.memory standing.vector)) s.memory s.picks))
 star_valid names k place name it stamp standing s d at stays = by_size (0 == size (cont_at s.memory standing.vector)) refl
   where
     here : IsAt s.memory standing.vector 0 stamp
     here = stays.here
 
     element : standing.at_element ≡ nat_lt 0 (size (cont_at s.memory standing.vector))
-    element = sym stays.same ∙ d.filled standing.vector here.cont here.there ∙ ap (λ (c : Cont). nat_lt 0 (size c)) (sym (cont_at-there s.memory standing.vector here.cont here.there))
+    element = sym stays.same ∙ d.filled standing.vector here.cont here.there ∙ ap (λ (c : Cont). nat_lt 0 (size c))
+        (sym (cont_at-there s.memory standing.vector here.cont here.there))
 
     empty : (0 == size (cont_at s.memory standing.vector)) ≡ true → nat_lt 0 (size (cont_at s.memory standing.vector)) ≡ false
     empty e = le-ltb 0 (size (cont_at s.memory standing.vector)) (let q = eqb-true 0 (size (cont_at s.memory standing.vector)) e in omega arith)
@@ -134,17 +157,25 @@ star_valid names k place name it stamp standing s d at stays = by_size (0 == siz
     some e = lt-ltb 0 (size (cont_at s.memory standing.vector)) (let q = eqb-false 0 (size (cont_at s.memory standing.vector)) e in omega arith)
 
     by_size : (b : Bool) → (0 == size (cont_at s.memory standing.vector)) ≡ b
-        → Goes names (found_valid k it standing) standing.at_element (dereferenced k place name standing) (star_flow place name stamp s (if b then trapped 4 1 else gives (element_at standing.vector 0 key_part) s.memory s.picks))
+        → Goes names (found_valid k it standing) standing.at_element (dereferenced k place name standing)
+        (star_flow place name stamp s (if b then trapped 4 1 else gives (element_at standing.vector 0 key_part) s.memory s.picks))
     by_size true e = told_end names place name (killers_of k standing) standing.at_element (stays.still (element ∙ empty e)) (element ∙ empty e)
-    by_size false e = (element ∙ some e, kept-valid k s.memory s.frame s.iters (s.frame.scalars ++ length s.scalars ∷ []) it stamp standing d at stays)
+    by_size false e = (
+      element ∙ some e,
+      kept-valid k s.memory s.frame s.iters (s.frame.scalars ++ length s.scalars ∷ []) it stamp
+          standing d at stays,
+    )
 
 -- `*` of an iterator that was dropped
-star_invalid : (names : List (List ℕ)) (k : Known) (place : Place) (name it stamp site : ℕ) (standing : Standing) (s : State) → killer s.memory stamp ≡ Some site → Contains (killers_of k standing) site
+star_invalid : (names : List (List ℕ)) (k : Known) (place : Place) (name it stamp site : ℕ) (standing : Standing) (s : State)
+    → killer s.memory stamp ≡ Some site → Contains (killers_of k standing) site
     → Goes names (found_valid k it standing) standing.at_element (dereferenced k place name standing) (star_flow place name stamp s (trapped 1 1))
 star_invalid names k place name it stamp site standing s e h = rw e (told_invalid names place name (killers_of k standing) standing.at_element site h)
 
-pub goes-star : (names : List (List ℕ)) (k : Known) (own : Oracle) (place : Place) (it name : ℕ) (s : State) → Describes k s.memory s.frame s.iters → it < length k.iterators
-    → Goes names (found_valid k it (standing_at k it)) (standing_at k it).at_element (dereferenced k place name (standing_at k it)) (exec (world_of own) (stmt_of (Dereference place it name)) s)
+pub goes-star : (names : List (List ℕ)) (k : Known) (own : Oracle) (place : Place) (it name : ℕ) (s : State) → Describes k s.memory s.frame s.iters
+    → it < length k.iterators
+    → Goes names (found_valid k it (standing_at k it)) (standing_at k it).at_element (dereferenced k place name (standing_at k it))
+    (exec (world_of own) (stmt_of (Dereference place it name)) s)
 goes-star names k own place it name s d lt =
     let standing : Standing = standing_at k it in
     let known = there k.iterators it lt in
@@ -152,17 +183,22 @@ goes-star names k own place it name s d lt =
     let at : iter_of s it ≡ it = located s.frame.iters (length k.iterators) it d.iters_frame lt in
     let same : stamp_of s it ≡ stamp.0 = ap (λ l. get_or s.iters l 0) at ∙ get_or-there s.iters it stamp.0 0 stamp.1 in
     let is : standing ≡ known.0 = get_or-there k.iterators it known.0 (record { vector = 0; at_element = true; since = 0 }) known.1 in
-    ticked names (found_valid k it standing) standing.at_element (dereferenced k place name standing) (declared (world_of own) (set_scalar t.Int (held (element (free_call (operator star) place (None ∷ Some name ∷ [])) (with (iterator_operand it) none))))) s (λ n.
+    ticked names (found_valid k it standing) standing.at_element (dereferenced k place name standing)
+    (declared (world_of own)
+    (set_scalar t.Int (held (element (free_call (operator star) place (None ∷ Some name ∷ [])) (with (iterator_operand it) none))))) s (λ n.
     let now : State = record s { steps = n } in
-    subst (λ (x : ℕ). Goes names (found_valid k it standing) standing.at_element (dereferenced k place name standing) (star_flow place name x now (lib (operator star) (record { site = 0; object = None; values = iterator x ∷ [] }) s.memory s.picks)))
+    subst (λ (x : ℕ). Goes names (found_valid k it standing) standing.at_element (dereferenced k place name standing)
+    (star_flow place name x now (lib (operator star) (record { site = 0; object = None; values = iterator x ∷ [] }) s.memory s.picks)))
     (sym same)
     (⊎_elim
     (λ (stays : Stays s.memory stamp.0 (is_filled k standing.vector) (killers_of k standing) standing).
-    subst (λ (out : LibOut). Goes names (found_valid k it standing) standing.at_element (dereferenced k place name standing) (star_flow place name stamp.0 now out))
+    subst (λ (out : LibOut). Goes names (found_valid k it standing) standing.at_element (dereferenced k place name standing)
+    (star_flow place name stamp.0 now out))
     (sym (lib-star_valid s.memory stamp.0 standing.vector 0 s.picks (locate-at s.memory standing.vector 0 stamp.0 d.sound stays.here)))
     (star_valid names k place name it stamp.0 standing now d stamp.1 stays))
     (λ (dead : (site : ℕ) × (killer s.memory stamp.0 ≡ Some site) × Contains (killers_of k standing) site).
-    subst (λ (out : LibOut). Goes names (found_valid k it standing) standing.at_element (dereferenced k place name standing) (star_flow place name stamp.0 now out))
+    subst (λ (out : LibOut). Goes names (found_valid k it standing) standing.at_element (dereferenced k place name standing)
+    (star_flow place name stamp.0 now out))
     (sym (lib-star_invalid s.memory stamp.0 s.picks (locate-dropped s.memory stamp.0 dead.0 d.sound (dropped-killer s.memory stamp.0 dead.0 dead.1))))
     (star_invalid names k place name it stamp.0 dead.0 standing now dead.1 dead.2))
     (rw is (d.stands it stamp.0 known.0 stamp.1 known.1))))

@@ -1,14 +1,11 @@
-pub mod Numbers
+-- What a run of the tool did, and the answer to a text.
 pub mod Command
+pub mod Numbers
 pub mod Texts
-pub mod Form
 pub mod Refusals
-pub mod Begins
-pub mod Slots
+pub mod Subset
+pub mod Exactness
 pub mod Answers
 pub mod Outcome
-pub mod Analysis
-pub mod KnownView
-pub mod Told
-pub mod Reading
-pub mod Exactness
+-- What private contracts say: the code's own functions, which the lemmas tie to those definitions. Nobody has to believe them.
+pub mod Means

@@ -1,6 +1,6 @@
-//! The analysis of a text of the form that is checked so far.
+//! The analysis of a text of the subset that is checked so far.
 ghost use Rattle.std.specs.Prelude.{◌≡◌, ◌++◌, [], List, ℕ, length, take, drop, slice_set, slice_index_or, IfOk, OnOk};
-ghost use Rattle.sl_tool.specs.Analysis.{
+ghost use Rattle.sl_tool.specs.Means.Analysis.{
   nothing_known,
   sites_on,
   fault_in,
@@ -124,8 +124,8 @@ fn tell(
 }
 
 impl Known {
-    ghost use Rattle.sl_tool.specs.KnownView.{known_of};
-    ghost use Rattle.sl_tool.specs.Analysis.{
+    ghost use Rattle.sl_tool.specs.Means.KnownView.{known_of};
+    ghost use Rattle.sl_tool.specs.Means.Analysis.{
       standing_at,
       is_filled,
       with_vector,

@@ -4,7 +4,7 @@ ghost use Rattle.sl_syntax.specs.TreeView.{program_of};
 ghost use Rattle.sl_model.specs.Covers.{Warning as WarningValue};
 ghost use Rattle.sl_model.specs.Texts.{report_text};
 ghost use Rattle.sl_tool.specs.Answers.{AnswerTo, IsReport, status_of};
-ghost use Rattle.sl_tool.specs.Form.{IsOfText};
+ghost use Rattle.sl_tool.specs.Subset.{IsOfText};
 ghost use Rattle.sl_tool.specs.Refusals.{IsParsed};
 
 use crate::analysis::warnings_in;

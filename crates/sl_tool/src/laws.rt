@@ -8,7 +8,7 @@ ghost use Rattle.sl_model.specs.Texts.{report_text};
 ghost use Rattle.sl_syntax.specs.View.{typed_of};
 ghost use Rattle.sl_syntax.specs.declared.typed.Typed.{Typed};
 ghost use Rattle.sl_tool.specs.Answers.{AnswerTo, IsReport, status_of};
-ghost use Rattle.sl_tool.specs.Form.{IsBuilt, IsOfText};
+ghost use Rattle.sl_tool.specs.Subset.{IsBuilt, IsOfText};
 ghost use Rattle.sl_tool.specs.declared.status.Status.{Status};
 
 /// A text that is refused has one line that refuses it, and no other answer.
@@ -18,14 +18,14 @@ pub fn one_refusal()
         (status ≡ Status.Refused) × (bytes ≡ line) }
 {}
 
-/// The answer to a text of the form that isn't too long is a report on it.
+/// The answer to a text of the subset that isn't too long is a report on it.
 pub fn each_text_is_reported()
     ensures { (file text bytes : List ℕ) (status : Status) (p : Typed) →
         length text ≤ TEXT_BYTES → IsBuilt text p → AnswerTo file text status bytes →
         (r : List Warning) × IsReport p r × (status ≡ status_of r) × (bytes ≡ report_text file p.sites r) }
 {}
 
-/// In a text of the form each variable that is used is in scope.
+/// In a text of the subset each variable that is used is in scope.
 pub fn each_text_is_scoped()
     ensures { (p : Typed) → IsOfText p → IsScoped lib_shape lib_makes (typed_of p) }
 {}

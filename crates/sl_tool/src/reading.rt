@@ -1,8 +1,8 @@
-//! Reads the tokens of a text of the form that is checked so far into numbers.
+//! Reads the tokens of a text of the subset that is checked so far into numbers.
 ghost use Rattle.std.specs.Prelude.{IfOk};
-ghost use Rattle.sl_tool.specs.Begins.{StopsAt};
-ghost use Rattle.sl_tool.specs.Form.{ReadsAs};
-ghost use Rattle.sl_tool.specs.Reading.{MatchRead};
+ghost use Rattle.sl_syntax.specs.Begins.{Stops, words_in};
+ghost use Rattle.sl_tool.specs.Subset.{IsInSubset, ReadsAs};
+ghost use Rattle.sl_tool.specs.Means.Reading.{MatchRead};
 
 pub mod body;
 pub mod items;
@@ -21,9 +21,10 @@ use std::alloc::{AllocError, Global};
 use stopping::stop_in_head;
 use tokens::place_in;
 
-/// The text in numbers, where the tokens are a text of the form; otherwise the number of the token at which they stop.
+/// The text in numbers, where the tokens are a text of the subset; otherwise the number of the token at which they
+/// stop.
 pub fn read_text(alloc: Global, tokens: &[Token]) -> Result<Read<Typed>, AllocError>
-    ensures { IfOk result (λ read. MatchRead read (ReadsAs tokens.now) (StopsAt tokens.now)) }
+    ensures { IfOk result (λ read. MatchRead read (ReadsAs tokens.now) (Stops IsInSubset (words_in tokens.now))) }
 {
     let Some(body) = body_of(tokens) else {
         return Ok(Read::Stops(stop_in_head(alloc, tokens)));

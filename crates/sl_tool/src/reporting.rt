@@ -1,11 +1,14 @@
 //! The report of what the analysis warns of.
 ghost use Rattle.std.specs.Prelude.{◌≡◌, IfOk};
 ghost use Rattle.sl_warnings.specs.Views.{warning_of as kept_warning, sites_in};
-ghost use Rattle.sl_tool.specs.Exactness.{Ascend, AreInOrder, KillersAscend};
-ghost use Rattle.sl_tool.specs.Told.{kind_of, killers_in, warning_of, report_of};
+ghost use Rattle.sl_tool.specs.Exactness.{Ascend};
+ghost use Rattle.sl_warnings.specs.Reports.{IsAscending};
+ghost use Rattle.sl_tool.specs.Means.Told.{KillersAscend};
+ghost use Rattle.sl_tool.specs.Means.Told.{kind_of, killers_in, warning_of, report_of};
 
 use crate::analysis::{Fault, Warning};
 use crate::reading::names::copy_of;
+use sl_base::failures::{END_ITERATOR, INVALID_ITERATOR};
 use sl_base::{Name, Site};
 use sl_kind::Kills;
 use sl_warnings::{Report, Warning as KeptWarning};
@@ -13,7 +16,7 @@ use std::alloc::{AllocError, Global};
 
 /// The report with these warnings, on a text with these names.
 pub fn report_on(alloc: Global, names: &[Name], warnings: &[Warning]) -> Result<Report, AllocError>
-    requires in_order { AreInOrder (report_of names.now warnings.now) }
+    requires in_order { IsAscending (report_of names.now warnings.now) }
     requires ascend { KillersAscend (report_of names.now warnings.now) }
     ensures { IfOk result (λ report. report ≡ report_of names.now warnings.now) }
 {
@@ -44,8 +47,8 @@ fn kind_of(fault: &Fault) -> u8
     ensures { result ≡ kind_of fault.now }
 {
     match fault {
-        Fault::InvalidIterator(_) => 1,
-        Fault::EndIterator => 4,
+        Fault::InvalidIterator(_) => INVALID_ITERATOR,
+        Fault::EndIterator => END_ITERATOR,
     }
 }
 

@@ -5,8 +5,8 @@ ghost use Rattle.sl_base.specs.declared.word.Word.{Word};
 ghost use Rattle.sl_base.specs.declared.word.Word.TheVariants.{Mark as MarkWord};
 ghost use Rattle.sl_syntax.specs.Begins.{Stops};
 ghost use Rattle.sl_syntax.specs.Begins.{words_in};
-ghost use Rattle.sl_tool.specs.Form.{head_words, no_scope};
-ghost use Rattle.sl_tool.specs.Reading.{IsBody, IsRead, MatchRead};
+ghost use Rattle.sl_tool.specs.Subset.{head_words, no_scope};
+ghost use Rattle.sl_tool.specs.Means.Reading.{IsBody, IsRead, MatchRead};
 
 use crate::reading::read::Read;
 use crate::reading::reader::Reader;

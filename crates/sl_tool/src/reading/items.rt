@@ -1,8 +1,8 @@
 //! The statement whose tokens begin a list of tokens, one function a kind.
 ghost use Rattle.std.specs.Prelude.{◌≡◌, ℕ, List, MatchOption};
 ghost use Rattle.sl_syntax.specs.Begins.{words_in};
-ghost use Rattle.sl_tool.specs.Form.{begin_item, dereference_item, push_back_item, vector_item};
-ghost use Rattle.sl_tool.specs.Reading.{BeginsWith};
+ghost use Rattle.sl_tool.specs.Subset.{begin_item, dereference_item, push_back_item, vector_item};
+ghost use Rattle.sl_tool.specs.Means.Reading.{BeginsWith};
 
 use crate::reading::tokens::{
     is_key, is_lib, is_mark, is_name, name_and_number, name_in, names_in,

@@ -1,6 +1,6 @@
 //! Names among names.
 ghost use Rattle.std.specs.Prelude.{◌≡◌, ◌<◌, ◌≤◌, ◌↔◌, length, Contains};
-ghost use Rattle.sl_tool.specs.Form.{number_of_name};
+ghost use Rattle.sl_tool.specs.Subset.{number_of_name};
 
 use sl_base::Name;
 

@@ -2,7 +2,7 @@
 ghost use Rattle.std.specs.Prelude.{◌≡◌, ◌↔◌, Contains, IsTrue, IfOk};
 ghost use Rattle.std.specs.List.{list_any};
 ghost use Rattle.sl_syntax.specs.View.{is_vector};
-ghost use Rattle.sl_tool.specs.Form.{begin_item, dereference_item, push_back_item, vector_item};
+ghost use Rattle.sl_tool.specs.Subset.{begin_item, dereference_item, push_back_item, vector_item};
 
 use crate::reading::items::{
     BEGIN_TOKENS, DEREFERENCE_TOKENS, PUSH_BACK_TOKENS, VECTOR_TOKENS, begin_at, dereference_at,
@@ -28,7 +28,7 @@ pub struct Reader {
 }
 
 impl Reader {
-    ghost use Rattle.sl_tool.specs.Reading.{IsSmall, IsTaken, TakesItem, no_reader, scope_of, text_of};
+    ghost use Rattle.sl_tool.specs.Means.Reading.{IsSmall, IsTaken, TakesItem, no_reader, scope_of, text_of};
 
     /// Nothing is read.
     pub fn new(alloc: Global) -> Reader

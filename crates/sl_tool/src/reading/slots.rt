@@ -1,6 +1,6 @@
 //! The kinds of statements, as rows of what may stand at each of their places.
 ghost use Rattle.std.specs.Prelude.{◌≡◌, MatchOption};
-ghost use Rattle.sl_tool.specs.Slots.{
+ghost use Rattle.sl_tool.specs.Means.Slots.{
   BeginsKind,
   head_slots as head_value,
   slots_of as slots_value,

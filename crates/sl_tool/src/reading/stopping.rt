@@ -3,11 +3,11 @@ ghost use Rattle.std.specs.Prelude.{◌≡◌, ◌↔◌, ◌∷◌, [], ℕ, Li
 ghost use Rattle.sl_base.specs.declared.mark.Mark.TheVariants.{RightBrace};
 ghost use Rattle.sl_base.specs.declared.word.Word.TheVariants.{Mark as MarkWord, Name as NameWord};
 ghost use Rattle.sl_syntax.specs.Begins.{Stops};
-ghost use Rattle.sl_tool.specs.Begins.{StopsAt};
+ghost use Rattle.sl_tool.specs.Subset.{IsInSubset};
 ghost use Rattle.sl_syntax.specs.Begins.{words_in};
-ghost use Rattle.sl_tool.specs.Form.{Scope, IsNew};
-ghost use Rattle.sl_tool.specs.Reading.{IsBody, StopsIn, StopsInHead, scope_of};
-ghost use Rattle.sl_tool.specs.Slots.{Fit, Fits, IsPossible};
+ghost use Rattle.sl_tool.specs.Subset.{Scope, IsNew};
+ghost use Rattle.sl_tool.specs.Means.Reading.{IsBody, StopsIn, StopsInHead, scope_of};
+ghost use Rattle.sl_tool.specs.Means.Slots.{Fit, Fits, IsPossible};
 
 use crate::reading::names::number_of;
 use crate::reading::reader::Reader;

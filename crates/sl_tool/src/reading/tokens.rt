@@ -1,6 +1,6 @@
 //! What tokens say, and where.
 ghost use Rattle.std.specs.Prelude.{◌≡◌, ℕ, ◌↔◌, List, IsTrue, MatchOption};
-ghost use Rattle.sl_tool.specs.Form.{place_in as place_value};
+ghost use Rattle.sl_tool.specs.Subset.{place_in as place_value};
 ghost use Rattle.sl_base.specs.declared.word.Word.TheVariants.{
   Key as KeyWord,
   Lib as LibWord,

@@ -1,5 +1,5 @@
 use Rattle.std.proofs.Common.{◌≡◌, ◌++◌, drop}
-use Rattle.sl_tool.specs.Analysis.{sites_on}
+use Rattle.sl_tool.specs.Means.Analysis.{sites_on}
 use Rattle.sl_tool.proofs.analysis.sites_of.Given as goal
 
 abbrev pub invariant-loop-push : goal.invariant-loop-push

@@ -1,6 +1,6 @@
 use Rattle.std.proofs.Common.{◌≡◌, ◌++◌, drop}
-use Rattle.sl_tool.specs.Analysis.{nothing_known, warnings_of}
-use Rattle.sl_tool.specs.KnownView.{known_of}
+use Rattle.sl_tool.specs.Means.Analysis.{nothing_known, warnings_of}
+use Rattle.sl_tool.specs.Means.KnownView.{known_of}
 use Rattle.sl_tool.proofs.analysis.warnings_in.Given as goal
 
 abbrev pub invariant-loop-stmt : goal.invariant-loop-stmt

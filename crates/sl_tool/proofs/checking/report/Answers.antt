@@ -1,14 +1,16 @@
 use Rattle.std.proofs.Common.{sym}
-use Rattle.sl_tool.specs.Analysis.{nothing_known, warnings_of}
-use Rattle.sl_tool.specs.Told.{report_of}
+use Rattle.sl_tool.specs.Means.Analysis.{nothing_known, warnings_of}
+use Rattle.sl_tool.specs.Means.Told.{report_of}
 use Rattle.sl_tool.proofs.Reported.{is_report, ordered, ascending}
 use Rattle.sl_tool.proofs.checking.report.Goals as goal
 
 pub report_on-requires-clause-in_order : goal.report_on-requires-clause-in_order
-report_on-requires-clause-in_order c = rw (c.as_slice-2.ensures, c.as_slice-3.ensures, c.in_ok-warnings.ensures, c.as_slice.ensures) (ordered c.args.p.now c.requires)
+report_on-requires-clause-in_order c = rw (c.as_slice-2.ensures, c.as_slice-3.ensures, c.in_ok-warnings.ensures, c.as_slice.ensures)
+    (ordered c.args.p.now c.requires)
 
 pub report_on-requires-clause-ascend : goal.report_on-requires-clause-ascend
-report_on-requires-clause-ascend c = rw (c.as_slice-2.ensures, c.as_slice-3.ensures, c.in_ok-warnings.ensures, c.as_slice.ensures) (ascending c.args.p.now c.requires)
+report_on-requires-clause-ascend c = rw (c.as_slice-2.ensures, c.as_slice-3.ensures, c.in_ok-warnings.ensures, c.as_slice.ensures)
+    (ascending c.args.p.now c.requires)
 
 pub returns : goal.returns
 returns c =

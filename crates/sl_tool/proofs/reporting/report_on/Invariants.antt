@@ -1,5 +1,5 @@
 use Rattle.std.proofs.Common.{◌≡◌, ◌++◌, drop}
-use Rattle.sl_tool.specs.Told.{report_of}
+use Rattle.sl_tool.specs.Means.Told.{report_of}
 use Rattle.sl_tool.proofs.reporting.report_on.Given as goal
 
 abbrev pub invariant-loop-warning : goal.invariant-loop-warning

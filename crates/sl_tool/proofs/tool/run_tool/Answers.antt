@@ -10,7 +10,8 @@ pub returns-in_default : goal.returns-in_default
 returns-in_default g c = rw (← c.in_default.ensures) (λ other. Keeps-refl _, NoFault-same _ _, rw c.as_bytes.ensures.value at c.deliver.ensures)
 
 pub returns-in_default-format : goal.returns-in_default-format
-returns-in_default-format g c = rw (← c.in-Some.ensures) (λ other is. Keeps-refl _, no_memory refl (NoFault-same _ _) (IsReadInPart-none TEXT_BYTES _) refl (Keeps-refl _))
+returns-in_default-format g c =
+    rw (← c.in-Some.ensures) (λ other is. Keeps-refl _, no_memory refl (NoFault-same _ _) (IsReadInPart-none TEXT_BYTES _) refl (Keeps-refl _))
 
 pub returns-in-Err-Memory : goal.returns-in-Err-Memory
 returns-in-Err-Memory g c = rw (← c.in-Some.ensures) (

@@ -1,7 +1,7 @@
 use Rattle.std.proofs.Common.{◌≡◌, ◌∙◌, arith, subst}
 use Rattle.sl_syntax.specs.Begins.{words_in}
-use Rattle.sl_tool.specs.Reading.{scope_of}
-use Rattle.sl_tool.specs.Slots.{IsPossible}
+use Rattle.sl_tool.specs.Means.Reading.{scope_of}
+use Rattle.sl_tool.specs.Means.Slots.{IsPossible}
 use Rattle.sl_tool.proofs.ItemLaws.{front}
 use Rattle.sl_tool.proofs.KindLaws.{one_kind}
 use Rattle.sl_tool.proofs.StopHereLaws.{in_none, in_brace, in_other, in_item}
@@ -11,7 +11,8 @@ pub returns-in-empty : goal.returns-in-empty
 returns-in-empty c = in_none _ _ (omega arith)
 
 pub returns-in-len1-up : goal.returns-in-len1-up
-returns-in-len1-up c = in_brace _ _ _ _ (front c.args.tokens.now 0 c.brace-item.result (omega arith) c.brace-item.is) (c.is_mark.ensures.0 c.if-is_mark.true)
+returns-in-len1-up c = in_brace _ _ _ _ (front c.args.tokens.now 0 c.brace-item.result (omega arith) c.brace-item.is)
+    (c.is_mark.ensures.0 c.if-is_mark.true)
 
 pub returns-in-Some : goal.returns-in-Some
 returns-in-Some c =

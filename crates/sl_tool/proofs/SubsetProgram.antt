@@ -1,4 +1,4 @@
--- A text of the form is a program: one function, whose items are the statements.
+-- A text of the subset is a program: one function, whose items are the statements.
 use Rattle.std.proofs.Common.{◌≡◌, ℕ, ◌≤◌, List, [], ◌∷◌, ◌++◌, Some, codes, refl, sym, ap, ◌∙◌, arith}
 use Rattle.std.proofs.lemmas.List.{append-nil}
 use Rattle.std.specs.List.{flat_map}
@@ -17,8 +17,8 @@ use Rattle.sl_syntax.specs.Shaped.{IsItem, AreItems}
 use Rattle.sl_syntax.specs.Tree as t
 use Rattle.sl_syntax.specs.Written.{Written, words_of, item_written, items_written, at}
 use Rattle.sl_syntax.proofs.WrittenLaws.{words_of-append}
-use Rattle.sl_tool.specs.Begins.{IsText}
-use Rattle.sl_tool.specs.Form.{Item, vector_item, push_back_item, begin_item, dereference_item, item_words, head_words}
+use Rattle.sl_tool.specs.Subset.{IsInSubset}
+use Rattle.sl_tool.specs.Subset.{Item, vector_item, push_back_item, begin_item, dereference_item, item_words, head_words}
 
 abbrev called : List ℕ → Identifier
 called name = record { name = name; place = nowhere }
@@ -30,9 +30,11 @@ member_call object function xs = t.member_call (t.name (called object)) (called 
 -- the item that a statement is
 abbrev tree_of : Item → t.Item
 tree_of (vector_item name) = t.declares (t.declares_container (record { place = nowhere; form = f.Vector }) (called name) t.absent)
-tree_of (push_back_item vector number) = t.states (t.does nowhere (t.evaluates (member_call vector (codes "push_back") (t.with (t.number nowhere number) t.none))))
+tree_of (push_back_item vector number) =
+    t.states (t.does nowhere (t.evaluates (member_call vector (codes "push_back") (t.with (t.number nowhere number) t.none))))
 tree_of (begin_item name vector) = t.declares (t.declares_auto nowhere (called name) (member_call vector (codes "begin") t.none))
-tree_of (dereference_item name iterator) = t.declares (t.declares_scalar nowhere c.Int (called name) (Some (t.prefix p.Dereference nowhere (t.name (called iterator)))))
+tree_of (dereference_item name iterator) =
+    t.declares (t.declares_scalar nowhere c.Int (called name) (Some (t.prefix p.Dereference nowhere (t.name (called iterator)))))
 
 abbrev trees_of : List Item → t.Items
 trees_of [] = t.no_more
@@ -70,14 +72,24 @@ items-low (i ∷ is) = omega (arith, item-low i, items-low is)
 
 -- `int main()` with these statements
 abbrev main_of : List Item → t.Program
-main_of is = record { place = nowhere; result = z.Scalar c.Int; name = called (codes "main"); params = []; opens = nowhere; items = trees_of is; closes = nowhere } ∷ []
+main_of is = record {
+  place = nowhere;
+  result = z.Scalar c.Int;
+  name = called (codes "main");
+  params = [];
+  opens = nowhere;
+  items = trees_of is;
+  closes = nowhere;
+} ∷ []
 
 closed : (xs : List Written) → words_of (xs ++ at nowhere (w.Mark m.RightBrace) ∷ [] ++ []) ≡ words_of xs ++ w.Mark m.RightBrace ∷ []
 closed xs = rw (append-nil, words_of-append xs (at nowhere (w.Mark m.RightBrace) ∷ [])) refl
 
-pub text_is_program : (ws : List Word) → IsText ws → IsProgram ws
+pub text_is_program : (ws : List Word) → IsInSubset ws → IsProgram ws
 text_is_program ws text = (
   main_of text.items,
   record { some = omega arith; each = (items-fit text.items, tt); depth = omega (arith, items-low text.items) },
-  ap (λ (l : List Word). head_words ++ l) (closed (items_written (trees_of text.items)) ∙ ap (λ (l : List Word). l ++ w.Mark m.RightBrace ∷ []) (items-words text.items)) ∙ sym text.are_items,
+  ap (λ (l : List Word). head_words ++ l)
+      (closed (items_written (trees_of text.items)) ∙ ap (λ (l : List Word). l ++ w.Mark m.RightBrace ∷ []) (items-words text.items))
+      ∙ sym text.are_items,
 )

@@ -1,14 +1,15 @@
--- Statements as rows of slots, and how many words fit them. A means of the reader: proofs/StopLaws ties it to the form.
+-- Statements as rows of slots, and how many words fit them. A means of the reader: proofs/StopLaws ties it to the subset.
 use Rattle.std.specs.Prelude.{◌≡◌, ℕ, zero, suc, ◌+◌, ◌<◌, List, [], ◌∷◌, length, Contains, codes}
 use Rattle.sl_base.specs.declared.limits.TheConstants.{CONTAINERS, ITERATORS, SCALARS, SITES}
 use Rattle.sl_base.specs.declared.mark.Mark.TheVariants.{LeftParenthesis, RightParenthesis, LeftBrace, Less, Greater, Equal, Star, Semicolon, Dot}
 use Rattle.sl_base.specs.declared.word.Word.{Word}
 use Rattle.sl_base.specs.declared.word.Word.TheVariants.{Name, Lib, Key, Number, Mark}
 use Rattle.sl_tool.specs.declared.reading.slots.Slot.{Slot}
-use Rattle.sl_tool.specs.declared.reading.slots.Slot.TheVariants.{VectorLib, IntKey, AutoKey, MainName, PushBackName, BeginName, ThisMark, NewName, VectorName, IteratorName, AnyNumber}
+use Rattle.sl_tool.specs.declared.reading.slots.Slot.TheVariants.{VectorLib, IntKey, AutoKey, MainName, PushBackName, BeginName, ThisMark, NewName}
+use Rattle.sl_tool.specs.declared.reading.slots.Slot.TheVariants.{VectorName, IteratorName, AnyNumber}
 use Rattle.sl_tool.specs.declared.reading.slots.Kind.{Kind}
 use Rattle.sl_tool.specs.declared.reading.slots.Kind.TheVariants.{Vector, PushBack, Begin, Dereference}
-use Rattle.sl_tool.specs.Form.{Scope, IsNew}
+use Rattle.sl_tool.specs.Subset.{Scope, IsNew}
 
 -- the word may stand there
 abbrev pub Fits : Scope → Slot → Word → Type 0
@@ -39,8 +40,10 @@ head_slots = IntKey ∷ MainName ∷ ThisMark LeftParenthesis ∷ ThisMark Right
 
 abbrev pub slots_of : Kind → List Slot
 slots_of Vector = VectorLib ∷ ThisMark Less ∷ IntKey ∷ ThisMark Greater ∷ NewName ∷ ThisMark Semicolon ∷ []
-slots_of PushBack = VectorName ∷ ThisMark Dot ∷ PushBackName ∷ ThisMark LeftParenthesis ∷ AnyNumber ∷ ThisMark RightParenthesis ∷ ThisMark Semicolon ∷ []
-slots_of Begin = AutoKey ∷ NewName ∷ ThisMark Equal ∷ VectorName ∷ ThisMark Dot ∷ BeginName ∷ ThisMark LeftParenthesis ∷ ThisMark RightParenthesis ∷ ThisMark Semicolon ∷ []
+slots_of PushBack = VectorName ∷ ThisMark Dot ∷ PushBackName ∷ ThisMark LeftParenthesis ∷ AnyNumber ∷ ThisMark RightParenthesis
+    ∷ ThisMark Semicolon ∷ []
+slots_of Begin = AutoKey ∷ NewName ∷ ThisMark Equal ∷ VectorName ∷ ThisMark Dot ∷ BeginName ∷ ThisMark LeftParenthesis ∷ ThisMark RightParenthesis
+    ∷ ThisMark Semicolon ∷ []
 slots_of Dereference = IntKey ∷ NewName ∷ ThisMark Equal ∷ ThisMark Star ∷ IteratorName ∷ ThisMark Semicolon ∷ []
 
 -- a statement of the kind begins with a word like this

@@ -13,9 +13,10 @@ use Rattle.sl_tool.specs.declared.reading.reader.Reader.{Reader}
 use Rattle.sl_tool.specs.declared.reading.read.Read.{Read}
 use Rattle.sl_tool.specs.declared.reading.read.Read.TheVariants.{Whole, Stops as ReadStops}
 use Rattle.sl_syntax.specs.Begins.{Stops}
-use Rattle.sl_tool.specs.Begins.{IsText}
+use Rattle.sl_tool.specs.Subset.{IsInSubset}
 use Rattle.sl_syntax.specs.Begins.{words_in}
-use Rattle.sl_tool.specs.Form.{head_words, Item, push_back_item, item_words, Scope, no_scope, IsAllowed, after_item, after_items, AllAllowed, typed_item, typed_items, push_places, place_in}
+use Rattle.sl_tool.specs.Subset.{head_words, Item, push_back_item, item_words, Scope, no_scope, IsAllowed, after_item, after_items, AllAllowed}
+use Rattle.sl_tool.specs.Subset.{typed_item, typed_items, push_places, place_in}
 
 -- the words begin with those of the statement
 abbrev pub BeginsWith : List Word → Item → Type 0
@@ -51,7 +52,9 @@ pub record Adds (old new : Reader) (tokens : List Token) (i : Item) : Type 0 whe
 
 -- so many tokens are read as the statement; or it may not stand here, and nothing is read
 abbrev pub IsTaken : Reader → Reader → List Token → Item → Option ℕ → Type 0
-IsTaken old new tokens i taken = MatchOption taken ((IsAllowed (scope_of old) i → ⊥) × (new ≡ old)) (λ n. (n ≡ length (item_words i)) × Adds old new tokens i)
+IsTaken old new tokens i taken =
+    MatchOption taken ((IsAllowed (scope_of old) i → ⊥) × (new ≡ old))
+    (λ n. (n ≡ length (item_words i)) × Adds old new tokens i)
 
 -- The statement whose tokens begin these is taken. None where no statement begins them, or it may not stand here; then nothing is read.
 abbrev pub TakesItem : Reader → Reader → List Token → Option ℕ → Type 0
@@ -61,7 +64,12 @@ TakesItem old new tokens taken =
 
 -- the text that is read, up to this brace
 abbrev pub text_of : Reader → Place → Typed
-text_of r close = record { stmts = r.stmts; close = close; sites = r.sites ++ (if list_any is_vector r.stmts then close ∷ [] else []); names = r.names }
+text_of r close = record {
+  stmts = r.stmts;
+  close = close;
+  sites = r.sites ++ (if list_any is_vector r.stmts then close ∷ [] else []);
+  names = r.names;
+}
 
 -- the tokens are these statements and a closing brace, where this is declared and there may be so many
 pub record AreItems (s : Scope) (tokens : List Token) (room : ℕ) (items : List Item) : Type 0 where
@@ -76,14 +84,15 @@ pub record IsBody (s : Scope) (room : ℕ) (words : List Word) : Type 0 where
   pub allowed : AllAllowed s items
   pub few : length items ≤ room
 
--- Where words stop of which no statement is read: one may follow, they aren't the closing brace alone, and no statement begins them that may stand here.
+-- Where words stop of which no statement is read: one may follow, they aren't the closing brace alone, and no statement begins them that may
+-- stand here.
 abbrev pub StopsIn : Scope → List Word → ℕ → Type 0
 StopsIn s words k =
     (room : ℕ) → 0 < room → (words ≡ Mark RightBrace ∷ [] → ⊥) → ((i : Item) → BeginsWith words i → IsAllowed s i → ⊥) → Stops (IsBody s room) words k
 
 -- Where words stop that don't begin with `int main() {`.
 abbrev pub StopsInHead : List Word → ℕ → Type 0
-StopsInHead words k = ((rest : List Word) → words ≡ head_words ++ rest → ⊥) → Stops IsText words k
+StopsInHead words k = ((rest : List Word) → words ≡ head_words ++ rest → ⊥) → Stops IsInSubset words k
 
 -- what is read, by whether it is all
 abbrev pub MatchRead : {T : Type 0} → Read T → (T → Type 0) → (ℕ → Type 0) → Type 0

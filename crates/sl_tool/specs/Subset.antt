@@ -1,10 +1,12 @@
 -- The texts that the tool checks so far: `int main()` with vectors of int, `push_back` of a number, `begin`, and `*` of an iterator.
 -- A name is new in each declaration, and what is used is declared before ([basic.scope.block], [basic.lookup]).
-use Rattle.std.specs.Prelude.{◌≡◌, ℕ, ◌+◌, ◌-◌, ◌≤◌, ◌<◌, List, [], ◌∷◌, ◌++◌, length, map, drop, flat_map, slice_index_or, Contains, codes, if◌then◌else◌}
+use Rattle.std.specs.Prelude.{◌≡◌, ℕ, ◌+◌, ◌-◌, ◌≤◌, ◌<◌, List, [], ◌∷◌, ◌++◌, length, map, drop, flat_map, slice_index_or, Contains, codes}
+use Rattle.std.specs.Prelude.{if◌then◌else◌}
 use Rattle.std.specs.List.{position_or_len, list_any}
 use Rattle.std.specs.Str.{bytes_eq}
 use Rattle.sl_base.specs.declared.limits.TheConstants.{CONTAINERS, ITERATORS, SCALARS, SITES, STATEMENTS}
-use Rattle.sl_base.specs.declared.mark.Mark.TheVariants.{LeftParenthesis, RightParenthesis, LeftBrace, RightBrace, Less, Greater, Equal, Star, Semicolon, Dot}
+use Rattle.sl_base.specs.declared.mark.Mark.TheVariants.{LeftParenthesis, RightParenthesis, LeftBrace, RightBrace, Less, Greater, Equal, Star}
+use Rattle.sl_base.specs.declared.mark.Mark.TheVariants.{Semicolon, Dot}
 use Rattle.sl_base.specs.declared.place.Place.{Place}
 use Rattle.sl_base.specs.declared.token.Token.{Token}
 use Rattle.sl_base.specs.declared.word.Word.{Word}
@@ -29,8 +31,11 @@ pub data Item : Type 0 where
 
 abbrev pub item_words : Item → List Word
 item_words (vector_item name) = Lib (codes "vector") ∷ Mark Less ∷ Key (codes "int") ∷ Mark Greater ∷ Name name ∷ Mark Semicolon ∷ []
-item_words (push_back_item vector number) = Name vector ∷ Mark Dot ∷ Name (codes "push_back") ∷ Mark LeftParenthesis ∷ Number number ∷ Mark RightParenthesis ∷ Mark Semicolon ∷ []
-item_words (begin_item name vector) = Key (codes "auto") ∷ Name name ∷ Mark Equal ∷ Name vector ∷ Mark Dot ∷ Name (codes "begin") ∷ Mark LeftParenthesis ∷ Mark RightParenthesis ∷ Mark Semicolon ∷ []
+item_words (push_back_item vector number) =
+    Name vector ∷ Mark Dot ∷ Name (codes "push_back") ∷ Mark LeftParenthesis ∷ Number number ∷ Mark RightParenthesis ∷ Mark Semicolon ∷ []
+item_words (begin_item name vector) =
+    Key (codes "auto") ∷ Name name ∷ Mark Equal
+    ∷ Name vector ∷ Mark Dot ∷ Name (codes "begin") ∷ Mark LeftParenthesis ∷ Mark RightParenthesis ∷ Mark Semicolon ∷ []
 item_words (dereference_item name iterator) = Key (codes "int") ∷ Name name ∷ Mark Equal ∷ Mark Star ∷ Name iterator ∷ Mark Semicolon ∷ []
 
 -- `int main() {`
@@ -41,7 +46,8 @@ head_words = Key (codes "int") ∷ Name (codes "main") ∷ Mark LeftParenthesis 
 abbrev pub text_words : List Item → List Word
 text_words items = head_words ++ (flat_map item_words items ++ Mark RightBrace ∷ [])
 
--- what is declared so far, in its order: the names of vectors, of iterators, of numbers, and of all of them; and how many calls of `push_back` there are
+-- what is declared so far, in its order: the names of vectors, of iterators, of numbers, and of all of them; and how many calls of
+-- `push_back` there are
 pub record Scope : Type 0 where
   pub vectors : List (List ℕ)
   pub iterators : List (List ℕ)
@@ -86,9 +92,11 @@ place_in tokens k = slice_index_or (map (λ (t : Token). t.place) tokens) k (rec
 -- the statement whose tokens begin these, in numbers
 abbrev pub typed_item : Scope → List Token → Item → Stmt
 typed_item s tokens (vector_item name) = Vector (place_in tokens 0)
-typed_item s tokens (push_back_item vector number) = PushBack (place_in tokens 2) (number_of_name s.vectors vector) (number_of_name s.names vector) s.pushes number
+typed_item s tokens (push_back_item vector number) =
+    PushBack (place_in tokens 2) (number_of_name s.vectors vector) (number_of_name s.names vector) s.pushes number
 typed_item s tokens (begin_item name vector) = Begin (place_in tokens 5) (number_of_name s.vectors vector) (number_of_name s.names vector)
-typed_item s tokens (dereference_item name iterator) = Dereference (place_in tokens 3) (number_of_name s.iterators iterator) (number_of_name s.names iterator)
+typed_item s tokens (dereference_item name iterator) =
+    Dereference (place_in tokens 3) (number_of_name s.iterators iterator) (number_of_name s.names iterator)
 
 -- the statements whose tokens begin these, in numbers
 abbrev pub typed_items : Scope → List Token → List Item → List Stmt
@@ -98,7 +106,8 @@ typed_items s tokens (i ∷ is) = typed_item s tokens i ∷ typed_items (after_i
 -- the places of the calls of `push_back` whose tokens begin these
 abbrev pub push_places : List Token → List Item → List Place
 push_places tokens [] = []
-push_places tokens (push_back_item vector number ∷ is) = place_in tokens 2 ∷ push_places (drop (length (item_words (push_back_item vector number))) tokens) is
+push_places tokens (push_back_item vector number ∷ is) =
+    place_in tokens 2 ∷ push_places (drop (length (item_words (push_back_item vector number))) tokens) is
 push_places tokens (i ∷ is) = push_places (drop (length (item_words i)) tokens) is
 
 -- what is declared behind statements
@@ -119,7 +128,7 @@ typed_text tokens items =
       names = (after_items no_scope items).names;
     }
 
--- these tokens are a text of the form, and this is the text in numbers
+-- these tokens are a text of the subset, and this is the text in numbers
 pub record ReadsAs (tokens : List Token) (p : Typed) : Type 0 where
   pub items : List Item
   pub words : words_in tokens ≡ text_words items
@@ -127,18 +136,17 @@ pub record ReadsAs (tokens : List Token) (p : Typed) : Type 0 where
   pub few : length items ≤ STATEMENTS
   pub typed : p ≡ typed_text tokens items
 
--- the text has tokens, and they are a text of the form, which is this in numbers
+-- the text has tokens, and they are a text of the subset, which is this in numbers
 abbrev pub IsBuilt : List ℕ → Typed → Type 0
 IsBuilt text p = (tokens : List Token) × Tokens text tokens × ReadsAs tokens p
 
--- this is a text of the form in numbers
+-- the words are a text of the subset
+pub record IsInSubset (words : List Word) : Type 0 where
+  pub items : List Item
+  pub are_items : words ≡ text_words items
+  pub allowed : AllAllowed no_scope items
+  pub few : length items ≤ STATEMENTS
+
+-- this is a text of the subset in numbers
 abbrev pub IsOfText : Typed → Type 0
 IsOfText p = (text : List ℕ) × IsBuilt text p
-
--- each statement uses vectors and iterators that are declared before it, of which there are this many at first
-abbrev pub UsesDeclared : ℕ → ℕ → List Stmt → Type 0
-UsesDeclared vectors iterators [] = Unit {0}
-UsesDeclared vectors iterators (Vector place ∷ ss) = UsesDeclared (vectors + 1) iterators ss
-UsesDeclared vectors iterators (PushBack place vector name site number ∷ ss) = (vector < vectors) × UsesDeclared vectors iterators ss
-UsesDeclared vectors iterators (Begin place vector name ∷ ss) = (vector < vectors) × UsesDeclared vectors (iterators + 1) ss
-UsesDeclared vectors iterators (Dereference place iterator name ∷ ss) = (iterator < iterators) × UsesDeclared vectors iterators ss
