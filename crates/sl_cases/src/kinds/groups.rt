@@ -5,22 +5,31 @@ mod operator;
 mod statement;
 
 use crate::case::SourceFile;
+use sl_syntax::{Function, Item};
 use sl_tool::program_of;
 use statement::item_text;
 use std::alloc::{AllocError, Global};
 
 /// A line for each item of a text's functions.
 pub fn answer(alloc: Global, file: &SourceFile) -> Result<Vec<u8>, AllocError> {
-    let parsed = match program_of(alloc, file.name, file.bytes)? {
-        Ok(parsed) => parsed,
-        Err(line) => return line.as_slice().to_vec(alloc),
-    };
-    let mut all = String::new(alloc);
-    for function in &parsed.program.functions {
-        for item in &function.body.items {
-            all.push_str(&item_text(alloc, item)?)?;
-            all.push_str("\n")?;
-        }
+    match program_of(alloc, file.name, file.bytes)? {
+        Ok(parsed) => lines_of(alloc, &parsed.program.functions),
+        Err(line) => line.as_slice().to_vec(alloc),
     }
-    Ok(all.into_bytes())
+}
+
+fn lines_of(alloc: Global, functions: &[Function]) -> Result<Vec<u8>, AllocError> {
+    let mut all = Vec::new(alloc);
+    for function in functions {
+        push_lines(alloc, &mut all, &function.body.items)?;
+    }
+    Ok(all)
+}
+
+fn push_lines(alloc: Global, all: &mut Vec<u8>, items: &[Item]) -> Result<(), AllocError> {
+    for item in items {
+        all.extend_from_slice(item_text(alloc, item)?.as_bytes())?;
+        all.extend_from_slice(b"\n")?;
+    }
+    Ok(())
 }

@@ -2,29 +2,37 @@
 
 use crate::case::SourceFile;
 use crate::kinds::word::word_text;
+use sl_base::Token;
 use sl_base::limits::TEXT_BYTES;
 use sl_lexer::lex;
 use std::alloc::{AllocError, Global};
 
-/// The tokens of a text, each on a line: its word, its offset and its place.
+/// The tokens of a text, one a line.
 pub fn answer(alloc: Global, file: &SourceFile) -> Result<Vec<u8>, AllocError> {
-    let mut all = String::new(alloc);
     let text = file.bytes;
     if text.len() > TEXT_BYTES {
-        all.push_str("too long\n")?;
-        return Ok(all.into_bytes());
+        return b"too long\n".to_vec(alloc);
     }
     match lex(alloc, text) {
-        Ok(tokens) => {
-            for token in tokens.as_slice() {
-                let word = word_text(alloc, &token.word)?;
-                let offset = token.offset;
-                let line = token.place.line;
-                let col = token.place.col;
-                all.push_str(&format!(in alloc; "{word} {offset} {line}:{col}\n")?)?;
-            }
-        }
-        Err(error) => all.push_str(&format!(in alloc; "{error}\n")?)?,
+        Ok(tokens) => lines_of(alloc, tokens.as_slice()),
+        Err(error) => Ok(format!(in alloc; "{error}\n")?.into_bytes()),
     }
-    Ok(all.into_bytes())
+}
+
+// A line for each token.
+fn lines_of(alloc: Global, tokens: &[Token]) -> Result<Vec<u8>, AllocError> {
+    let mut all = Vec::new(alloc);
+    for token in tokens {
+        all.extend_from_slice(line_of(alloc, token)?.as_bytes())?;
+    }
+    Ok(all)
+}
+
+// A token's word, its offset and its place.
+fn line_of(alloc: Global, token: &Token) -> Result<String, AllocError> {
+    let word = word_text(alloc, &token.word)?;
+    let offset = token.offset;
+    let line = token.place.line;
+    let col = token.place.col;
+    format!(in alloc; "{word} {offset} {line}:{col}\n")
 }

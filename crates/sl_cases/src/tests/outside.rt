@@ -3,6 +3,7 @@
 use sl_base::{MemFiles, MemSink, RealFiles, StdSink};
 use sl_tool::run_tool;
 use std::alloc::{AllocError, Global};
+use std::process::Abort;
 use std::test::Fail;
 
 /// What a run is given: the text of `a.cpp`, how many bytes a read gives, the numbers of the calls that fail, and the
@@ -26,15 +27,6 @@ const HONEST: Outside<'static> = Outside {
 
 const PASSED: &str = "a.cpp: passed\n";
 
-/// What a run of `check a.cpp` did: its status, the reads and writes that failed, and what it wrote.
-#[derive(Drop)]
-struct Ran {
-    status: u8,
-    read_faults: u64,
-    write_faults: u64,
-    out: Vec<u8>,
-}
-
 fn words_of(alloc: Global, words: &[&str]) -> Result<Vec<String>, AllocError> {
     let mut all = Vec::new(alloc);
     for word in words {
@@ -43,20 +35,25 @@ fn words_of(alloc: Global, words: &[&str]) -> Result<Vec<String>, AllocError> {
     Ok(all)
 }
 
-fn check(alloc: Global, outside: &Outside) -> Result<Ran, AllocError> {
+fn files_of(alloc: Global, outside: &Outside) -> Result<MemFiles, AllocError> {
     let mut all = Vec::new(alloc);
     let name = String::from_str(alloc, "a.cpp")?;
     all.push((name, outside.text.to_vec(alloc)?))?;
-    let mut files = MemFiles::new(all, outside.chunk.max(1), outside.read_fails.to_vec(alloc)?);
+    Ok(MemFiles::new(all, outside.chunk.max(1), outside.read_fails.to_vec(alloc)?))
+}
+
+// Runs `check a.cpp`: how it ends and what it writes. A status that tells of a fault has one fault.
+fn check(rt: &impl Abort, alloc: Global, outside: &Outside, want: (u8, &str)) -> Result<(), Fail> {
+    let mut files = files_of(alloc, outside)?;
     let mut out = MemSink::new(alloc, 10, outside.room, outside.write_fails.to_vec(alloc)?)?;
     let words = words_of(alloc, &["check", "a.cpp"])?;
     let status = run_tool(alloc, &words, &mut files, &mut out).number();
-    Ok(Ran {
-        status,
-        read_faults: files.faults(),
-        write_faults: out.faults(),
-        out: out.bytes().to_vec(alloc)?,
-    })
+    let (number, text) = want;
+    assert_eq!(rt; status, number, "{text}");
+    assert_eq!(rt; out.bytes(), text.as_bytes());
+    assert_eq!(rt; out.faults(), u64::from(status == 5), "{text}");
+    assert!(rt; status != 4 || files.faults() == 1, "{text}");
+    Ok(())
 }
 
 #[test]
@@ -67,15 +64,12 @@ fn reads_that_fail(rt: HostRuntime) -> Result<(), Fail> {
             read_fails: &[call],
             ..HONEST
         };
-        let ran = check(rt.alloc(), &outside)?;
-        let (status, line) = if call < 3 {
+        let want = if call < 3 {
             (4, "read fault: a.cpp\n")
         } else {
             (0, PASSED)
         };
-        assert_eq!(rt; ran.status, status, "read {call}");
-        assert_eq!(rt; ran.out.as_slice(), line.as_bytes(), "read {call}");
-        assert_eq!(rt; ran.read_faults, u64::from(call < 3), "read {call}");
+        check(&rt, rt.alloc(), &outside, want)?;
     }
     Ok(())
 }
@@ -97,26 +91,13 @@ fn writes_that_fail(rt: HostRuntime) -> Result<(), Fail> {
             room,
             ..HONEST
         };
-        let ran = check(rt.alloc(), &outside)?;
-        assert_eq!(rt; ran.status, status, "write {call}, room {room}");
-        assert_eq!(rt;
-            ran.out.as_slice(),
-            line.as_bytes(),
-            "write {call}, room {room}"
-        );
-        assert_eq!(rt;
-            ran.write_faults,
-            u64::from(status == 5),
-            "write {call}, room {room}"
-        );
+        check(&rt, rt.alloc(), &outside, (status, line))?;
     }
     Ok(())
 }
 
-#[test]
-fn answers_that_are_cut(rt: HostRuntime) -> Result<(), Fail> {
-    // A report may be cut.
-    let text = b"int main() {
+/// A text that is warned of.
+const WARNED: &[u8] = b"int main() {
   std::vector<int> v;
   v.push_back(1);
   auto it = v.begin();
@@ -124,24 +105,23 @@ fn answers_that_are_cut(rt: HostRuntime) -> Result<(), Fail> {
   int x = *it;
 }
 ";
+
+#[test]
+fn answers_that_are_cut(rt: HostRuntime) -> Result<(), Fail> {
+    // A report may be cut.
     let outside = Outside {
-        text,
+        text: WARNED,
         write_fails: &[1],
         ..HONEST
     };
-    let ran = check(rt.alloc(), &outside)?;
-    assert_eq!(rt; ran.status, 5);
-    assert_eq!(rt; ran.out.as_slice(), b"a.cpp:6:11".as_slice());
-    // The line of a fault may fail too.
+    check(&rt, rt.alloc(), &outside, (5, "a.cpp:6:11"))?;
+    // The line of a read that failed may fail too.
     let outside = Outside {
         read_fails: &[1],
         write_fails: &[0],
         ..HONEST
     };
-    let ran = check(rt.alloc(), &outside)?;
-    assert_eq!(rt; ran.status, 5);
-    assert_eq!(rt; ran.write_faults, 1);
-    Ok(())
+    check(&rt, rt.alloc(), &outside, (5, ""))
 }
 
 #[test]
@@ -183,9 +163,7 @@ fn lengths(rt: HostRuntime) -> Result<(), Fail> {
             chunk: 10_000,
             ..HONEST
         };
-        let ran = check(rt.alloc(), &outside)?;
-        assert_eq!(rt; ran.status, status, "{length} bytes");
-        assert_eq!(rt; ran.out.as_slice(), line.as_bytes(), "{length} bytes");
+        check(&rt, rt.alloc(), &outside, (status, line))?;
     }
     Ok(())
 }
@@ -220,13 +198,13 @@ fn counted(alloc: Global, counts: &Counts) -> Result<String, AllocError> {
 #[test]
 fn limits_of_the_subset(rt: HostRuntime) -> Result<(), Fail> {
     let cases = [
-        (16, 4095, 32, 48, PASSED),
-        (17, 4095, 32, 48, "a.cpp:18:1: refused: not built\n"),
-        (16, 4096, 32, 48, "a.cpp:4113:1: refused: not built\n"),
-        (16, 4095, 33, 48, "a.cpp:4145:1: refused: not built\n"),
-        (16, 4095, 32, 49, "a.cpp:4193:1: refused: not built\n"),
+        (16, 4095, 32, 48, 0, PASSED),
+        (17, 4095, 32, 48, 2, "a.cpp:18:1: refused: not built\n"),
+        (16, 4096, 32, 48, 2, "a.cpp:4113:1: refused: not built\n"),
+        (16, 4095, 33, 48, 2, "a.cpp:4145:1: refused: not built\n"),
+        (16, 4095, 32, 49, 2, "a.cpp:4193:1: refused: not built\n"),
     ];
-    for (vectors, pushes, iterators, numbers, line) in cases {
+    for (vectors, pushes, iterators, numbers, status, line) in cases {
         let counts = Counts {
             vectors,
             pushes,
@@ -239,12 +217,7 @@ fn limits_of_the_subset(rt: HostRuntime) -> Result<(), Fail> {
             chunk: 10_000,
             ..HONEST
         };
-        let ran = check(rt.alloc(), &outside)?;
-        assert_eq!(rt;
-            ran.out.as_slice(),
-            line.as_bytes(),
-            "{vectors} {pushes} {iterators} {numbers}"
-        );
+        check(&rt, rt.alloc(), &outside, (status, line))?;
     }
     Ok(())
 }
