@@ -2,6 +2,7 @@
 //! each public call of the crates below, once, where it succeeds.
 
 mod calls_of_base;
+mod calls_of_expressions;
 mod calls_of_grammar;
 mod calls_of_kind;
 mod calls_of_lexer;

@@ -130,7 +130,8 @@ number-shape (b ∷ bs) (suc m) h e =
     let parts = and_parts (is_digit b) (cond (b == 48) (length (take m bs) == 0) (list_all is_digit (take m bs))) e in
     let d : is_digit b ≡ true = parts.0 in
     let more : suc m ≤ number_len (b ∷ bs) =
-    elim (b == 48) as (λ t. cond t (length (take m bs) == 0) (list_all is_digit (take m bs)) ≡ true → suc m ≤ cond t 1 (prefix_len is_digit (b ∷ bs))) [
+    elim (b == 48) as (λ t. cond t (length (take m bs) == 0) (list_all is_digit (take m bs)) ≡ true
+    → suc m ≤ cond t 1 (prefix_len is_digit (b ∷ bs))) [
       | true ↦ λ z. omega (arith, eqb-true (length (take m bs)) 0 z, length-take-le m bs (omega arith))
       | false ↦ λ a. rw d (omega (arith, run-most is_digit bs m (omega arith) a))
     ] parts.1 in

@@ -114,7 +114,8 @@ impl Sink for MemSink {
 
         // What goes on as before.
         ensures most { IfOk result (λ n.
-            n ≡ min (sink_chunk self.old) (min (length piece.now) (sink_room self.old - length (sink_bytes self.old)))) }
+            n ≡ min (sink_chunk self.old)
+            (min (length piece.now) (sink_room self.old - length (sink_bytes self.old)))) }
         ensures chunk { sink_chunk self.new ≡ sink_chunk self.old }
         ensures room { sink_room self.new ≡ sink_room self.old }
         ensures listed { sink_fails self.new ≡ sink_fails self.old }
