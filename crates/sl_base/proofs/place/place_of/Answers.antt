@@ -1,7 +1,6 @@
 use Rattle.std.proofs.Common.{refl, [], ap, take, ◌∙◌}
 use Rattle.std.proofs.lemmas.List.{take_min}
-use Rattle.sl_base.specs.Places.{place_at, line_after, col_after}
-use Rattle.sl_base.specs.declared.place.Place.{Place}
+use Rattle.sl_base.specs.Places.{line_after, col_after}
 use Rattle.sl_base.proofs.PlaceLaws.{IsAfter-is}
 use Rattle.sl_base.proofs.place.place_of.Goals as goal
 

@@ -1,5 +1,5 @@
 use Rattle.std.proofs.Common.{ℕ, arith, length-take}
-use Rattle.sl_base.proofs.Told.{OthersKept-trans, OthersKept-all, NoFault-refl, NoFault-trans, OnErr-any, IsReadInPart-next}
+use Rattle.sl_base.proofs.Told.{OthersKept-trans, OthersKept-all, NoFault-trans, OnErr-any, IsReadInPart-next}
 use Rattle.sl_base.proofs.outside.reading.read_all.Goals as goal
 
 pub returns-in-Err-clause-others : goal.returns-in-Err-clause-others
