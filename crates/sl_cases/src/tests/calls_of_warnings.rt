@@ -30,6 +30,10 @@ fn calls_of_warnings(rt: HostRuntime) -> Result<(), Fail> {
     tells_its_sites();
     let first = Kills::empty().with(Site::new(0));
     let third = Kills::empty().with(Site::new(2));
+    let mut joined = warning(7, 1, b"*", 1, first);
+    joined.join(&third);
+    assert!(rt; joined.killers.has(Site::new(2)));
+    assert_eq!(rt; joined.spot().col, 5);
     let mut report = Report::new(rt.alloc());
     let sites = [
         Place { line: 3, col: 1 },
