@@ -1,5 +1,5 @@
 -- One more read or write of told bytes.
-use Rattle.std.proofs.Common.{◌≡◌, ℕ, ◌+◌, ◌-◌, ◌≤◌, List, ◌++◌, length, take, drop, Option, Result, Ok, Err, OnErr, refl, ◌∙◌, arith, length-drop}
+use Rattle.std.proofs.Common.{◌≡◌, ℕ, ◌+◌, ◌-◌, ◌≤◌, List, ◌++◌, length, take, drop, Option, Result, Ok, Err, OnErr, ◌∙◌, arith, length-drop}
 use Rattle.std.proofs.Common.{length-append, length-take}
 use Rattle.std.specs.Io.KnownBytes.{Appends, Consumes}
 use Rattle.std.proofs.KnownBytes.{Appends-trans, Keeps-refl, Keeps-trans, Consumes-trans}
@@ -28,10 +28,7 @@ pub IsReadInPart-next : (limit : ℕ) (a b c : Option (List ℕ)) (front buf : L
 IsReadInPart-next limit a b c front buf n p q short =
     (front ++ take n buf, omega (arith, length-append front (take n buf), length-take n buf), Consumes-trans a b c front (take n buf) p q)
 
--- nothing failed so far, and nothing fails after that
-pub NoFault-refl : (n : ℕ) (blamed : List ℕ → Type 0) → NoFault n n blamed blamed
-NoFault-refl n blamed = record { count = refl; blame = λ name. (λ h. h, λ h. h) }
-
+-- nothing failed so far, and nothing failed after that
 pub NoFault-trans : (a b c : ℕ) (p q r : List ℕ → Type 0) → NoFault a b p q → NoFault b c q r → NoFault a c p r
 NoFault-trans a b c p q r h k = record {
   count = k.count ∙ h.count;
