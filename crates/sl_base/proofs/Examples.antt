@@ -5,7 +5,8 @@ use Rattle.sl_base.specs.Comments.{is_line_comment, is_block_comment}
 use Rattle.sl_base.specs.Directives.{opens_directive, closes_directive}
 use Rattle.sl_base.specs.Headers.{is_header}
 use Rattle.sl_base.specs.Marks.{mark_of}
-use Rattle.sl_base.specs.Pieces.{comment_piece, directive_piece, name_piece, lib_piece, text_piece, HasForm, is_lib, is_number, word_of, open_text, bad_directive, bad_byte, rule_of}
+use Rattle.sl_base.specs.Pieces.{comment_piece, directive_piece, name_piece, lib_piece, text_piece, HasForm, is_lib, is_number, word_of, open_text}
+use Rattle.sl_base.specs.Pieces.{bad_directive, bad_byte, rule_of}
 use Rattle.sl_base.specs.Quoted.{unescaped, is_character}
 use Rattle.sl_base.specs.declared.mark.Mark.TheVariants.{LessEqual}
 use Rattle.sl_base.specs.declared.word.Word.TheVariants.{Key, Name, Lib, Text}

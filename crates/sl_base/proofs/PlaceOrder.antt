@@ -1,5 +1,6 @@
 -- The places of a text come in the order of its offsets.
-use Rattle.std.proofs.Common.{arith, ◌≡◌, ℕ, zero, suc, ◌+◌, ◌-◌, ◌<◌, ◌≤◌, Bool, true, false, not, List, [], ◌∷◌, length, take, reverse, get_or, inl, inr, refl, ap, sym, subst, ◌∙◌, if◌then◌else◌}
+use Rattle.std.proofs.Common.{arith, ◌≡◌, ℕ, zero, suc, ◌+◌, ◌-◌, ◌<◌, ◌≤◌, Bool, true, false, not, List, [], ◌∷◌, length, take, reverse, get_or, inl}
+use Rattle.std.proofs.Common.{inr, refl, ap, sym, subst, ◌∙◌, if◌then◌else◌}
 use Rattle.std.specs.List.{prefix_len}
 use Rattle.std.proofs.lemmas.List.{take_more, reverse-append}
 use Rattle.std.proofs.lemmas.List.Sums.{count_by_more_yes, count_by_more_no}
@@ -28,17 +29,20 @@ next_place text i within = by_byte (is_line_feed (get_or text i 0)) refl
     by_byte true e = inl (let n = count_by_more_yes is_line_feed text i 0 within e in omega arith)
     by_byte false e = inr (
       ap (λ n. n + 1) (sym (count_by_more_no is_line_feed text i 0 within e)),
-      (let n : prefix_len is_other (reverse (take (i + 1) text)) ≡ 1 + prefix_len is_other (reverse (take i text)) = ap (prefix_len is_other) last ∙ ap (λ b. if not b then 1 + prefix_len is_other (reverse (take i text)) else 0) e in
+      (let n : prefix_len is_other (reverse (take (i + 1) text)) ≡ 1 + prefix_len is_other (reverse (take i text)) = ap (prefix_len is_other) last
+          ∙ ap (λ b. if not b then 1 + prefix_len is_other (reverse (take i text)) else 0) e in
           omega arith),
     )
 
 -- the place of an offset comes before that of a later one
 later_place : (text : List ℕ) (i d : ℕ) → i + suc d ≤ length text → IsPlaceBefore (place_at text i) (place_at text (i + suc d))
-later_place text i zero h = let e : i + 1 ≡ i + suc zero = omega arith in subst (λ n. IsPlaceBefore (place_at text i) (place_at text n)) e (next_place text i (omega arith))
+later_place text i zero h = let e : i + 1 ≡ i + suc zero = omega arith in subst (λ n. IsPlaceBefore (place_at text i) (place_at text n)) e
+    (next_place text i (omega arith))
 later_place text i (suc d) h =
     let e : i + suc d + 1 ≡ i + suc (suc d) = omega arith in
     subst (λ n. IsPlaceBefore (place_at text i) (place_at text n)) e
-    (place_trans (place_at text i) (place_at text (i + suc d)) (place_at text (i + suc d + 1)) (later_place text i d (omega arith)) (next_place text (i + suc d) (omega arith)))
+    (place_trans (place_at text i) (place_at text (i + suc d)) (place_at text (i + suc d + 1)) (later_place text i d (omega arith))
+    (next_place text (i + suc d) (omega arith)))
 
 -- an earlier offset has an earlier place
 pub place-ascends : (text : List ℕ) (i j : ℕ) → i < j → j ≤ length text → IsPlaceBefore (place_at text i) (place_at text j)

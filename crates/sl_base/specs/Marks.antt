@@ -2,14 +2,22 @@
 use Rattle.std.specs.Prelude.{ℕ, List, [], ◌∷◌, Option, option_map, find, codes}
 use Rattle.std.specs.Str.{bytes_eq}
 use Rattle.sl_base.specs.declared.mark.Mark.{Mark}
-use Rattle.sl_base.specs.declared.mark.Mark.TheVariants.{LeftBrace, RightBrace, LeftParenthesis, RightParenthesis, LeftBracket, RightBracket, Less, Greater, LessEqual, GreaterEqual, EqualEqual, NotEqual, Equal, PlusEqual, MinusEqual, StarEqual, SlashEqual, PercentEqual, Plus, Minus, Star, Slash, Percent, PlusPlus, MinusMinus, Not, AndAnd, OrOr, And, Comma, Semicolon, Colon, ColonColon, Dot, Arrow, ShiftLeft, ShiftRight}
+use Rattle.sl_base.specs.declared.mark.Mark.TheVariants.{LeftBrace, RightBrace, LeftParenthesis, RightParenthesis, LeftBracket, RightBracket, Less}
+use Rattle.sl_base.specs.declared.mark.Mark.TheVariants.{Greater, LessEqual, GreaterEqual, EqualEqual, NotEqual, Equal, PlusEqual, MinusEqual}
+use Rattle.sl_base.specs.declared.mark.Mark.TheVariants.{StarEqual, SlashEqual, PercentEqual, Plus, Minus, Star, Slash, Percent, PlusPlus, MinusMinus}
+use Rattle.sl_base.specs.declared.mark.Mark.TheVariants.{Not, AndAnd, OrOr, And, Comma, Semicolon, Colon, ColonColon, Dot, Arrow, ShiftLeft}
+use Rattle.sl_base.specs.declared.mark.Mark.TheVariants.{ShiftRight}
 
 abbrev pub marks : List (List ℕ × Mark)
 marks =
-    (codes "{", LeftBrace) ∷ (codes "}", RightBrace) ∷ (codes "(", LeftParenthesis) ∷ (codes ")", RightParenthesis) ∷ (codes "[", LeftBracket) ∷ (codes "]", RightBracket)
-    ∷ (codes "<", Less) ∷ (codes ">", Greater) ∷ (codes "<=", LessEqual) ∷ (codes ">=", GreaterEqual) ∷ (codes "==", EqualEqual) ∷ (codes "!=", NotEqual)
-    ∷ (codes "=", Equal) ∷ (codes "+=", PlusEqual) ∷ (codes "-=", MinusEqual) ∷ (codes "*=", StarEqual) ∷ (codes "/=", SlashEqual) ∷ (codes "%=", PercentEqual)
-    ∷ (codes "+", Plus) ∷ (codes "-", Minus) ∷ (codes "*", Star) ∷ (codes "/", Slash) ∷ (codes "%", Percent) ∷ (codes "++", PlusPlus) ∷ (codes "--", MinusMinus)
+    (codes "{", LeftBrace) ∷ (codes "}", RightBrace) ∷ (codes "(", LeftParenthesis) ∷ (codes ")", RightParenthesis) ∷ (codes "[", LeftBracket)
+    ∷ (codes "]", RightBracket)
+    ∷ (codes "<", Less) ∷ (codes ">", Greater) ∷ (codes "<=", LessEqual) ∷ (codes ">=", GreaterEqual) ∷ (codes "==", EqualEqual)
+    ∷ (codes "!=", NotEqual)
+    ∷ (codes "=", Equal) ∷ (codes "+=", PlusEqual) ∷ (codes "-=", MinusEqual) ∷ (codes "*=", StarEqual) ∷ (codes "/=", SlashEqual)
+    ∷ (codes "%=", PercentEqual)
+    ∷ (codes "+", Plus) ∷ (codes "-", Minus) ∷ (codes "*", Star) ∷ (codes "/", Slash) ∷ (codes "%", Percent) ∷ (codes "++", PlusPlus)
+    ∷ (codes "--", MinusMinus)
     ∷ (codes "!", Not) ∷ (codes "&&", AndAnd) ∷ (codes "||", OrOr) ∷ (codes "&", And)
     ∷ (codes ",", Comma) ∷ (codes ";", Semicolon) ∷ (codes ":", Colon) ∷ (codes "::", ColonColon) ∷ (codes ".", Dot) ∷ (codes "->", Arrow)
     ∷ (codes "<<", ShiftLeft) ∷ (codes ">>", ShiftRight) ∷ []

@@ -1,6 +1,7 @@
 -- The pieces of a text, ISO/IEC 14882:2017, [lex.pptoken] and [lex.token]: which bytes form one, which one stands at an offset,
 -- and which rule is broken there. The limits on names and numbers and what may not follow a number are this project's choice.
-use Rattle.std.specs.Prelude.{◌≡◌, ℕ, ◌+◌, ◌-◌, ◌*◌, ◌<◌, ◌≤◌, ◌==◌, ◌&&◌, ◌||◌, ◌⊎◌, Bool, true, false, IsTrue, is_some, List, [], ◌∷◌, length, take, drop, fold, codes, Option, Some, None, option_map, Err, if◌then◌else◌}
+use Rattle.std.specs.Prelude.{◌≡◌, ℕ, ◌+◌, ◌-◌, ◌*◌, ◌<◌, ◌≤◌, ◌==◌, ◌&&◌, ◌||◌, ◌⊎◌, Bool, true, false, IsTrue, is_some, List, [], ◌∷◌, length, take}
+use Rattle.std.specs.Prelude.{drop, fold, codes, Option, Some, None, option_map, Err, if◌then◌else◌}
 use Rattle.std.specs.List.{list_all}
 use Rattle.std.specs.Str.{bytes_eq}
 use Rattle.sl_base.specs.declared.limits.TheConstants.{NAME_BYTES, LARGEST_NUMBER}
@@ -124,7 +125,8 @@ pub data Breaks (text : List ℕ) (seen : Bool) (from : ℕ) : TokenRule → ℕ
   wrong_escape : (len n : ℕ) → IsLongest text seen from text_piece len → unescaped false (between (take len (drop from text))) ≡ Err n
       → Breaks text seen from bad_byte (from + n)
   -- a backslash directly before a line's end, in a comment
-  joint : (len n : ℕ) → IsLongest text seen from comment_piece len → n < len → IsTrue (begins_joint (drop (from + n) text)) → Breaks text seen from bad_byte (from + n)
+  joint : (len n : ℕ) → IsLongest text seen from comment_piece len → n < len → IsTrue (begins_joint (drop (from + n) text))
+      → Breaks text seen from bad_byte (from + n)
   -- a bad number, at its first byte
   no_number : (len : ℕ) → IsLongest text seen from number_piece len → IsBadNumber (take len (drop from text)) (drop (from + len) text)
       → Breaks text seen from bad_number from

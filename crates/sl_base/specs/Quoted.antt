@@ -1,5 +1,6 @@
 -- Texts in quotes, ISO/IEC 14882:2017, [lex.string] and [lex.ccon]: where one ends, and which bytes it writes.
-use Rattle.std.specs.Prelude.{ℕ, ◌+◌, ◌==◌, ◌&&◌, ◌||◌, Bool, true, false, not, is_some, List, [], ◌∷◌, ◌++◌, drop, take, length, ◌-◌, Option, Some, None, option_map, Result, Ok, Err, if◌then◌else◌}
+use Rattle.std.specs.Prelude.{ℕ, ◌+◌, ◌==◌, ◌&&◌, ◌||◌, Bool, true, false, not, is_some, List, [], ◌∷◌, ◌++◌, drop, take, length, ◌-◌, Option, Some}
+use Rattle.std.specs.Prelude.{None, option_map, Result, Ok, Err, if◌then◌else◌}
 use Rattle.sl_base.specs.Places.{is_line_feed}
 
 -- the byte that an escape writes, by the byte behind its backslash: `\n`, `\t`, `\\`, `\"` and `\'`

@@ -1,6 +1,7 @@
 -- The tokens of a text, ISO/IEC 14882:2017, [lex.phases] and [lex.pptoken]: a cut into pieces by longest match. Where no cut covers the
 -- text, the fault: the first rule that is broken directly behind the longest cut.
-use Rattle.std.specs.Prelude.{◌≡◌, ℕ, ◌+◌, ◌<◌, ◌≤◌, ◌||◌, Bool, false, is_some, List, [], ◌∷◌, length, take, drop, slice_get, Option, Some, option_map}
+use Rattle.std.specs.Prelude.{◌≡◌, ℕ, ◌+◌, ◌<◌, ◌≤◌, ◌||◌, Bool, false, is_some, List, [], ◌∷◌, length, take, drop, slice_get, Option, Some}
+use Rattle.std.specs.Prelude.{option_map}
 use Rattle.std.specs.List.{filter_map}
 use Rattle.sl_base.specs.declared.token.Token.{Token}
 use Rattle.sl_base.specs.declared.word.Word.{Word}
@@ -15,7 +16,8 @@ pub record Piece : Type 0 where
 
 -- the token that a piece is, if it is one
 abbrev pub token_of : List ℕ → Piece → Option Token
-token_of text p = option_map (λ (w : Word). record { word = w; offset = p.from; place = place_at text p.from }) (word_of p.kind (take p.len (drop p.from text)))
+token_of text p = option_map (λ (w : Word). record { word = w; offset = p.from; place = place_at text p.from })
+    (word_of p.kind (take p.len (drop p.from text)))
 
 -- whether a token stands before what follows these pieces, if `seen` says so of what stands before them
 abbrev pub seen_after : List ℕ → Bool → List Piece → Bool

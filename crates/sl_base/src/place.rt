@@ -34,7 +34,8 @@ impl Place {
     }
 }
 
-/// The place of an offset, in bytes from 0. One past the text has the place directly behind the text. It takes no memory.
+/// The place of an offset, in bytes from 0. An offset past the text has the place directly behind the text.
+/// It takes no memory.
 pub fn place_of(text: &[u8], offset: usize) -> Place
     requires short { length text.now < 2 ^ 32 - 1 }
     ensures { result ≡ place_at text.now offset }

@@ -5,17 +5,18 @@ use Rattle.std.proofs.lemmas.Bool.{false≢true}
 use Rattle.sl_base.specs.declared.mark.Mark.TheVariants as m
 use Rattle.sl_base.specs.declared.place.Place.{Place}
 use Rattle.sl_base.specs.declared.token.Token.{Token}
-use Rattle.sl_syntax.specs.declared.kind.Kind.{Kind}
-use Rattle.sl_syntax.specs.declared.kind.Kind.TheVariants as k
+use Rattle.sl_syntax.specs.declared.token_kind.TokenKind.{TokenKind}
+use Rattle.sl_syntax.specs.declared.token_kind.TokenKind.TheVariants as k
 use Rattle.sl_syntax.specs.Depth.{declaration_height, stmt_height}
 use Rattle.sl_syntax.specs.Shaped.{IsCond, IsStmt, IsItem}
 use Rattle.sl_syntax.specs.Tree as t
 use Rattle.sl_syntax.specs.Tree.{Cond, Declaration, Stmt, Item}
-use Rattle.sl_syntax.specs.Written.{Written, cond_written, declaration_written, container_written, effect_written, stmt_written, item_written, from_place}
+use Rattle.sl_syntax.specs.Written.{Written, cond_written, declaration_written, container_written, effect_written, stmt_written, item_written}
+use Rattle.sl_syntax.specs.Written.{from_place}
 use Rattle.sl_syntax.specs.Written as v
-use Rattle.sl_grammar.specs.Effects.{effect}
-use Rattle.sl_grammar.specs.Statements.{is_else, is_item, declared, item_by, for_behind, for_by, effect_stmt, stmt_by}
-use Rattle.sl_grammar.specs.Steps.{Reader, Tall, ◌>>=◌, pure, only, kind_at, is_mark}
+use Rattle.sl_grammar.specs.Means.Effects.{effect}
+use Rattle.sl_grammar.specs.Means.Statements.{is_else, is_item, declared, item_by, for_behind, for_by, effect_stmt, stmt_by}
+use Rattle.sl_grammar.specs.Means.Steps.{Reader, Tall, ◌>>=◌, pure, only, kind_at, is_mark}
 use Rattle.sl_grammar.proofs.CompleteDeclarations.{reader_of, type-kind}
 use Rattle.sl_grammar.proofs.CompleteEffects.{EndsEffect, begins_effect, begins-effect, effect-begins, effect-some}
 use Rattle.sl_grammar.proofs.CompleteKinds.{expr-begins, scalar-kind}
@@ -23,15 +24,17 @@ use Rattle.sl_grammar.proofs.KindLaws.{not_mark}
 use Rattle.sl_grammar.proofs.Spelling.{Spelled, split, at_word, from_word}
 
 pub semicolon-ends : EndsEffect (k.Mark m.Semicolon)
-semicolon-ends = record { ends = record { stops = omega arith; not_call = refl }; no_read = refl; no_print = refl; no_assignment = λ room. refl }
+semicolon-ends =
+    record { ends = record { stops = omega arith; not_call = refl }; no_read = refl; no_print = refl; no_assignment = λ depth_left. refl }
 
 pub parenthesis-ends : EndsEffect (k.Mark m.RightParenthesis)
-parenthesis-ends = record { ends = record { stops = omega arith; not_call = refl }; no_read = refl; no_print = refl; no_assignment = λ room. refl }
+parenthesis-ends =
+    record { ends = record { stops = omega arith; not_call = refl }; no_read = refl; no_print = refl; no_assignment = λ depth_left. refl }
 
-pub effect-not_semicolon : (kind : Kind) → begins_effect kind ≡ true → is_mark m.Semicolon kind ≡ false
+pub effect-not_semicolon : (kind : TokenKind) → begins_effect kind ≡ true → is_mark m.Semicolon kind ≡ false
 effect-not_semicolon kind h = not_mark begins_effect m.Semicolon kind refl h
 
-pub effect-not_parenthesis : (kind : Kind) → begins_effect kind ≡ true → is_mark m.RightParenthesis kind ≡ false
+pub effect-not_parenthesis : (kind : TokenKind) → begins_effect kind ≡ true → is_mark m.RightParenthesis kind ≡ false
 effect-not_parenthesis kind h = not_mark begins_effect m.RightParenthesis kind refl h
 
 pub cond-begins : (c : Cond) (ts rest : List Token) → IsCond c → Spelled (cond_written c) ts rest → begins_effect (kind_at ts) ≡ true
@@ -40,7 +43,7 @@ cond-begins (t.tests_no_read place r) ts rest g s = at_word s (λ o us e a. rw e
 cond-begins (t.tests x) ts rest g s = begins-effect (kind_at ts) (expr-begins x ts rest g s)
 
 -- the word begins a statement
-abbrev pub begins_stmt : Kind → Bool
+abbrev pub begins_stmt : TokenKind → Bool
 begins_stmt (k.Mark m.LeftBrace) = true
 begins_stmt k.If = true
 begins_stmt k.While = true
@@ -50,7 +53,7 @@ begins_stmt k.Continue = true
 begins_stmt k.Return = true
 begins_stmt kind = begins_effect kind
 
-begins-stmt : (kind : Kind) → begins_effect kind ≡ true → begins_stmt kind ≡ true
+begins-stmt : (kind : TokenKind) → begins_effect kind ≡ true → begins_stmt kind ≡ true
 begins-stmt (k.Mark m.LeftBrace) h = refl
 begins-stmt (k.Mark _) h = h
 begins-stmt k.If h = refl
@@ -71,13 +74,13 @@ stmt-begins (t.does place e) ts rest g s =
 stmt-begins _ ts rest g s = at_word s (λ o us e a. rw e refl)
 
 -- the word begins an item
-abbrev pub begins_item : Kind → Bool
+abbrev pub begins_item : TokenKind → Bool
 begins_item (k.Scalar s) = true
 begins_item k.Auto = true
 begins_item (k.Container f) = true
 begins_item kind = begins_stmt kind
 
-begins-item : (kind : Kind) → begins_stmt kind ≡ true → begins_item kind ≡ true
+begins-item : (kind : TokenKind) → begins_stmt kind ≡ true → begins_item kind ≡ true
 begins-item (k.Scalar s) h = refl
 begins-item k.Auto h = refl
 begins-item (k.Container f) h = refl
@@ -93,11 +96,11 @@ pub item-begins : (x : Item) (ts rest : List Token) → IsItem x → Spelled (it
 item-begins (t.declares d) ts rest g s = split (declaration_written d) s (λ mid a b. declaration-begins d ts mid a)
 item-begins (t.states x) ts rest g s = begins-item (kind_at ts) (stmt-begins x ts rest g s)
 
-pub item-not_else : (kind : Kind) → begins_item kind ≡ true → is_else kind ≡ false
+pub item-not_else : (kind : TokenKind) → begins_item kind ≡ true → is_else kind ≡ false
 item-not_else k.Else h = absurd (false≢true h)
 item-not_else _ h = refl
 
-pub item-goes_on : (kind : Kind) → begins_item kind ≡ true → is_item kind ≡ true
+pub item-goes_on : (kind : TokenKind) → begins_item kind ≡ true → is_item kind ≡ true
 item-goes_on (k.Mark m.RightBrace) h = absurd (false≢true h)
 item-goes_on (k.Mark _) h = refl
 item-goes_on _ h = refl
@@ -129,29 +132,29 @@ pub item-some : (x : Item) → 1 ≤ length (item_written x)
 item-some (t.declares d) = rw length-append (omega (arith, declaration-some d))
 item-some (t.states x) = stmt-some x
 
-module _ (inner : Reader (Tall Stmt)) (room : ℕ) where
+module _ (inner : Reader (Tall Stmt)) (depth_left : ℕ) where
   pub declared-kind : (d : Declaration) (ts rest : List Token) → Spelled (declaration_written d) ts rest
-      → item_by room inner (kind_at ts) ≡ only (nat_lt 1 room) (declared room (reader_of (room - 2) d))
+      → item_by depth_left inner (kind_at ts) ≡ only (nat_lt 1 depth_left) (declared depth_left (reader_of (depth_left - 2) d))
   declared-kind (t.declares_scalar place s x None) ts rest h = at_word h (λ o us e a. rw (e, scalar-kind s) refl)
   declared-kind (t.declares_scalar place s x (Some y)) ts rest h = at_word h (λ o us e a. rw (e, scalar-kind s) refl)
   declared-kind (t.declares_auto place x y) ts rest h = at_word h (λ o us e a. rw e refl)
   declared-kind (t.declares_container c x i) ts rest h = split (container_written c) h (λ mid a b. rw (type-kind c ts mid a) refl)
 
-  pub stated-kind : (kind : Kind) → begins_stmt kind ≡ true → item_by room inner kind ≡ (inner >>= (λ s. pure (t.states s.0, s.1)))
+  pub stated-kind : (kind : TokenKind) → begins_stmt kind ≡ true → item_by depth_left inner kind ≡ (inner >>= (λ s. pure (t.states s.0, s.1)))
   stated-kind (k.Scalar s) h = absurd (false≢true h)
   stated-kind k.Auto h = absurd (false≢true h)
   stated-kind (k.Container f) h = absurd (false≢true h)
   stated-kind _ h = refl
 
-  pub for-kind : (place : Place) (kind : Kind) → begins_effect kind ≡ true
-      → for_by inner room place kind ≡ (effect room >>= (λ e. for_behind inner room place (Some (t.first_effect e.0), e.1)))
+  pub for-kind : (place : Place) (kind : TokenKind) → begins_effect kind ≡ true
+      → for_by inner depth_left place kind ≡ (effect depth_left >>= (λ e. for_behind inner depth_left place (Some (t.first_effect e.0), e.1)))
   for-kind place (k.Scalar s) h = absurd (false≢true h)
   for-kind place k.Auto h = absurd (false≢true h)
   for-kind place (k.Mark m.Semicolon) h = absurd (false≢true h)
   for-kind place (k.Mark _) h = refl
   for-kind place _ h = refl
 
-  pub does-kind : (kind : Kind) → begins_effect kind ≡ true → stmt_by inner room kind ≡ effect_stmt inner room
+  pub does-kind : (kind : TokenKind) → begins_effect kind ≡ true → stmt_by inner depth_left kind ≡ effect_stmt inner depth_left
   does-kind (k.Mark m.LeftBrace) h = absurd (false≢true h)
   does-kind (k.Mark _) h = refl
   does-kind k.If h = absurd (false≢true h)

@@ -4,7 +4,7 @@ use Rattle.std.specs.Prelude.{⊤}
 use Rattle.std.proofs.lemmas.Bool.{lt-ltb}
 use Rattle.sl_base.specs.declared.mark.Mark.TheVariants as m
 use Rattle.sl_base.specs.declared.token.Token.{Token}
-use Rattle.sl_syntax.specs.declared.kind.Kind.TheVariants as k
+use Rattle.sl_syntax.specs.declared.token_kind.TokenKind.TheVariants as k
 use Rattle.sl_syntax.specs.declared.tree.declaration.ContainerType.{ContainerType}
 use Rattle.sl_syntax.specs.declared.tree.function.Param.{Param}
 use Rattle.sl_syntax.specs.declared.tree.function.Param.TheVariants as r
@@ -12,11 +12,14 @@ use Rattle.sl_syntax.specs.Depth.{list_height, highest, initializer_height, decl
 use Rattle.sl_syntax.specs.Shaped.{AreExprs, IsInitializer, IsDeclaration}
 use Rattle.sl_syntax.specs.Tree as t
 use Rattle.sl_syntax.specs.Tree.{Exprs, Initializer, Declaration}
-use Rattle.sl_syntax.specs.Written.{is_map, list_written, elements_written, container_written, initializer_written, declaration_written, param_written, params_written}
+use Rattle.sl_syntax.specs.Written.{is_map, list_written, elements_written, container_written, initializer_written, declaration_written}
+use Rattle.sl_syntax.specs.Written.{param_written, params_written}
 use Rattle.sl_syntax.specs.Written as v
-use Rattle.sl_grammar.specs.Declarations.{int, elements_by, container_type, optional_value, scalar_declaration, auto_declaration, braces, constructed, initializer, container_declaration, scalar_param, container_param, const_param, param, comma_param, params}
-use Rattle.sl_grammar.specs.Expressions.{expr}
-use Rattle.sl_grammar.specs.Steps.{Reader, Tall, kind_at, is_mark, mark, identifier}
+use Rattle.sl_grammar.specs.Means.Declarations.{int, elements_by, container_type, optional_value, scalar_declaration, auto_declaration, braces}
+use Rattle.sl_grammar.specs.Means.Declarations.{constructed, initializer, container_declaration, scalar_param, container_param, const_param, param}
+use Rattle.sl_grammar.specs.Means.Declarations.{comma_param, params}
+use Rattle.sl_grammar.specs.Means.Expressions.{expr}
+use Rattle.sl_grammar.specs.Means.Steps.{Reader, Tall, kind_at, is_mark, mark, identifier}
 use Rattle.sl_grammar.proofs.CompleteExpressions.{whole-complete}
 use Rattle.sl_grammar.proofs.CompleteKinds.{scalar-kind, form-kind}
 use Rattle.sl_grammar.proofs.CompleteLists.{brace-close, list-reads, list_before-reads}
@@ -45,27 +48,29 @@ type-kind c ts rest s = at_word s (λ o us e a. rw e (form-kind c.form))
 
 -- the reader of this declaration
 abbrev pub reader_of : ℕ → Declaration → Reader (Tall Declaration)
-reader_of room (t.declares_scalar place s x v) = scalar_declaration room s
-reader_of room (t.declares_auto place x v) = auto_declaration room
-reader_of room (t.declares_container c x i) = container_declaration room c.form
+reader_of depth_left (t.declares_scalar place s x v) = scalar_declaration depth_left s
+reader_of depth_left (t.declares_auto place x v) = auto_declaration depth_left
+reader_of depth_left (t.declares_container c x i) = container_declaration depth_left c.form
 
-module _ (room : ℕ) where
-  braces-read : (equal : Bool) (xs : Exprs) (ts rest : List Token) → AreExprs xs → list_height xs ≤ room
+module _ (depth_left : ℕ) where
+  braces-read : (equal : Bool) (xs : Exprs) (ts rest : List Token) → AreExprs xs → list_height xs ≤ depth_left
       → Spelled (list_written xs ++ v.mark m.RightBrace ∷ []) ts rest
-      → braces room equal ts ≡ Ok ((t.braces equal xs, list_height xs), rest)
+      → braces depth_left equal ts ≡ Ok ((t.braces equal xs, list_height xs), rest)
   unfolding braces mark
   braces-read equal xs ts rest a l s =
       split (list_written xs) s (λ mid b c.
       plain_word c (λ o place us e d.
       let e2 : us ≡ rest = d.spells in
-      let list = list_before-reads (expr (room + 1) 1) (expr room 1) room (room + 1) (whole-complete (room + 1)) (whole-complete room)
+      let list = list_before-reads (expr (depth_left + 1) 1) (expr depth_left 1) depth_left (depth_left + 1) (whole-complete (depth_left + 1))
+      (whole-complete depth_left)
       (omega arith) m.RightBrace xs ts mid brace-close a l
       (rw e (record { is = refl; ends = record { stops = omega arith; not_call = refl }; no_comma = refl })) b in
       rw (list, e, e2) refl))
 
-  initializer-reads : (i : Initializer) (ts rest : List Token) → IsInitializer i → initializer_height i ≤ room → kind_at rest ≡ k.Mark m.Semicolon
+  initializer-reads : (i : Initializer) (ts rest : List Token) → IsInitializer i → initializer_height i ≤ depth_left
+      → kind_at rest ≡ k.Mark m.Semicolon
       → Spelled (initializer_written i) ts rest
-      → initializer room ts ≡ Ok ((i, initializer_height i), rest)
+      → initializer depth_left ts ≡ Ok ((i, initializer_height i), rest)
   unfolding initializer constructed mark identifier
   initializer-reads t.absent ts rest g l f s = let e : ts ≡ rest = s.spells in rw (e, f) refl
   initializer-reads (t.copies x) ts rest g l f s =
@@ -81,14 +86,15 @@ module _ (room : ℕ) where
       split (list_written (t.with x xs)) s1 (λ mid a b.
       plain_word b (λ o2 p2 t2 e2 s2.
       let e : t2 ≡ rest = s2.spells in
-      let inside = list-reads (expr (room + 1) 1) (expr room 1) room (room + 1) (whole-complete (room + 1)) (whole-complete room) (omega arith) x xs t1 mid g.1 l
+      let inside = list-reads (expr (depth_left + 1) 1) (expr depth_left 1) depth_left (depth_left + 1) (whole-complete (depth_left + 1))
+      (whole-complete depth_left) (omega arith) x xs t1 mid g.1 l
       (rw e2 (record { stops = omega arith; not_call = refl })) (rw e2 refl) a in
       rw (e1, inside, e2, e) refl)))
 
   -- The words of a declaration, before a `;`, are read as that declaration.
-  pub declaration-complete : (d : Declaration) (ts rest : List Token) → IsDeclaration d → declaration_height d ≤ room + 1
+  pub declaration-complete : (d : Declaration) (ts rest : List Token) → IsDeclaration d → declaration_height d ≤ depth_left + 1
       → kind_at rest ≡ k.Mark m.Semicolon → Spelled (declaration_written d) ts rest
-      → reader_of room d ts ≡ Ok ((d, declaration_height d), rest)
+      → reader_of depth_left d ts ≡ Ok ((d, declaration_height d), rest)
   unfolding scalar_declaration auto_declaration container_declaration optional_value mark identifier
   declaration-complete (t.declares_scalar place s x None) ts rest g l f h =
       at_word h (λ o1 t1 e1 s1. at_word s1 (λ o2 t2 e2 s2.
@@ -96,14 +102,24 @@ module _ (room : ℕ) where
       rw (e1, e2, e, f) refl))
   declaration-complete (t.declares_scalar place s x (Some value)) ts rest g l f h =
       at_word h (λ o1 t1 e1 s1. at_word s1 (λ o2 t2 e2 s2. plain_word s2 (λ o3 p3 t3 e3 s3.
-      rw (e1, e2, e3, (whole-complete (room + 1)).reads value t3 rest g (omega arith) (rw f (record { stops = omega arith; not_call = refl })) s3) refl)))
+      rw (
+        e1,
+        e2,
+        e3,
+        (whole-complete (depth_left + 1)).reads value t3 rest g (omega arith) (rw f (record { stops = omega arith; not_call = refl })) s3,
+      ) refl)))
   declaration-complete (t.declares_auto place x value) ts rest g l f h =
       at_word h (λ o1 t1 e1 s1. at_word s1 (λ o2 t2 e2 s2. plain_word s2 (λ o3 p3 t3 e3 s3.
-      rw (e1, e2, e3, (whole-complete (room + 1)).reads value t3 rest g (omega arith) (rw f (record { stops = omega arith; not_call = refl })) s3) refl)))
+      rw (
+        e1,
+        e2,
+        e3,
+        (whole-complete (depth_left + 1)).reads value t3 rest g (omega arith) (rw f (record { stops = omega arith; not_call = refl })) s3,
+      ) refl)))
   declaration-complete (t.declares_container c x i) ts rest g l f h =
       split (container_written c) h (λ mid a b.
       at_word b (λ o us e d.
-      rw (lt-ltb 0 room (omega arith), type-reads c ts mid a, e, initializer-reads i us rest g (omega arith) f d) refl))
+      rw (lt-ltb 0 depth_left (omega arith), type-reads c ts mid a, e, initializer-reads i us rest g (omega arith) f d) refl))
 
 param-reads : (x : Param) (ts rest : List Token) → Spelled (param_written x) ts rest → param ts ≡ Ok ((x, param_height x), rest)
 unfolding param scalar_param container_param const_param mark identifier
@@ -133,7 +149,8 @@ param-begins (r.Reference place s x) ts rest h = at_word h (λ o1 t1 e1 s1. rw (
 param-begins (r.Container c x) ts rest h = split (container_written c) h (λ mid a b. rw (type-kind c ts mid a) refl)
 param-begins (r.ConstContainer place c x) ts rest h = at_word h (λ o1 t1 e1 s1. rw e1 refl)
 
-param-turn : (x : Param) (ts mid : List Token) → Anything x → ⊤ → Spelled (comma_param_written x) ts mid → Turn (is_mark m.Comma) comma_param param_height x ts mid
+param-turn : (x : Param) (ts mid : List Token) → Anything x → ⊤ → Spelled (comma_param_written x) ts mid
+    → Turn (is_mark m.Comma) comma_param param_height x ts mid
 unfolding mark
 param-turn x ts mid p f s = plain_word s (λ o place us e a. record { goes_on = rw e refl; reads = rw (e, param-reads x us mid a) refl })
 
@@ -144,7 +161,8 @@ unfolding params
 params-complete [] ts rest f s = let e : ts ≡ rest = s.spells in rw (e, f) refl
 params-complete (x ∷ xs) ts rest f s =
     split (param_written x) s (λ mid a b.
-    let r = row (is_mark m.Comma) comma_param param_height comma_param_written Anything (λ kind. ⊤) param-turn (λ y us vs p q. tt) (λ y. omega arith) xs mid rest
+    let r = row (is_mark m.Comma) comma_param param_height comma_param_written Anything (λ kind. ⊤) param-turn (λ y us vs p q. tt)
+    (λ y. omega arith) xs mid rest
     (each-anything xs) tt (rw f refl) b in
     let others = all-row (is_mark m.Comma) comma_param param_height xs (x ∷ []) (param_height x) mid rest r in
     rw (param-begins x ts mid a, param-reads x ts mid a, others) refl)

@@ -6,8 +6,8 @@ use Rattle.sl_base.specs.declared.mark.Mark.TheVariants as m
 use Rattle.sl_base.specs.declared.scalar.Scalar.{Scalar}
 use Rattle.sl_base.specs.declared.scalar.Scalar.TheVariants as c
 use Rattle.sl_base.specs.declared.token.Token.{Token}
-use Rattle.sl_syntax.specs.declared.kind.Kind.{Kind}
-use Rattle.sl_syntax.specs.declared.kind.Kind.TheVariants as k
+use Rattle.sl_syntax.specs.declared.token_kind.TokenKind.{TokenKind}
+use Rattle.sl_syntax.specs.declared.token_kind.TokenKind.TheVariants as k
 use Rattle.sl_syntax.specs.declared.operator.Arithmetic.TheVariants as a
 use Rattle.sl_syntax.specs.declared.operator.Assignment.{Assignment}
 use Rattle.sl_syntax.specs.declared.operator.Assignment.TheVariants as g
@@ -16,14 +16,14 @@ use Rattle.sl_syntax.specs.declared.operator.BinaryOperator.TheVariants as b
 use Rattle.sl_syntax.specs.declared.operator.Comparison.TheVariants as l
 use Rattle.sl_syntax.specs.declared.operator.PrefixOperator.{PrefixOperator}
 use Rattle.sl_syntax.specs.declared.operator.PrefixOperator.TheVariants as p
-use Rattle.sl_syntax.specs.Kinds.{kind_of}
+use Rattle.sl_syntax.specs.TokenKinds.{kind_of}
 use Rattle.sl_syntax.specs.Shaped.{binary_level, IsExpr}
 use Rattle.sl_syntax.specs.Tree as t
 use Rattle.sl_syntax.specs.Tree.{Expr}
 use Rattle.sl_syntax.specs.Written.{binary_mark, prefix_mark, assignment_mark, truth_word, scalar_word, form_word, written}
-use Rattle.sl_grammar.specs.Effects.{assignment_of}
-use Rattle.sl_grammar.specs.Expressions.{infix_of, goes_on}
-use Rattle.sl_grammar.specs.Steps.{kind_at, is_mark}
+use Rattle.sl_grammar.specs.Means.Effects.{assignment_of}
+use Rattle.sl_grammar.specs.Means.Expressions.{infix_of, goes_on}
+use Rattle.sl_grammar.specs.Means.Steps.{kind_at, is_mark}
 use Rattle.sl_grammar.proofs.Spelling.{Spelled, split, at_word}
 
 pub truth-kind : (v : Bool) → kind_of (truth_word v) ≡ k.Truth v
@@ -59,13 +59,13 @@ binary-not_call (b.Comparison l.Equal) = refl
 binary-not_call (b.Arithmetic a.Add) = refl
 binary-not_call _ = refl
 
-pub assignment-mark : (room : ℕ) (op : Assignment) → assignment_of room (k.Mark (assignment_mark op)) ≡ Some op
-assignment-mark room g.Set = refl
-assignment-mark room (g.Update a.Add) = refl
-assignment-mark room _ = refl
+pub assignment-mark : (depth_left : ℕ) (op : Assignment) → assignment_of depth_left (k.Mark (assignment_mark op)) ≡ Some op
+assignment-mark depth_left g.Set = refl
+assignment-mark depth_left (g.Update a.Add) = refl
+assignment-mark depth_left _ = refl
 
 -- What follows an expression, after which it goes on by no operator that binds so tightly, and not as a call.
-pub record Ends (least : ℕ) (kind : Kind) : Type 0 where
+pub record Ends (least : ℕ) (kind : TokenKind) : Type 0 where
   pub stops : goes_on kind < least
   pub not_call : is_mark m.LeftParenthesis kind ≡ false
 
@@ -75,7 +75,7 @@ assignment-ends (g.Update a.Add) = record { stops = omega arith; not_call = refl
 assignment-ends _ = record { stops = omega arith; not_call = refl }
 
 -- no word binds exactly as an operator before an operand does
-pub sign-level : (kind : Kind) → goes_on kind ≤ 7 → goes_on kind < 7
+pub sign-level : (kind : TokenKind) → goes_on kind ≤ 7 → goes_on kind < 7
 sign-level (k.Mark m.PlusPlus) h = absurd (omega arith)
 sign-level (k.Mark m.MinusMinus) h = absurd (omega arith)
 sign-level (k.Mark m.LeftBracket) h = absurd (omega arith)
@@ -85,7 +85,7 @@ sign-level (k.Mark _) h = omega arith
 sign-level _ h = omega arith
 
 -- the word begins an expression
-abbrev pub begins_expr : Kind → Bool
+abbrev pub begins_expr : TokenKind → Bool
 begins_expr k.Number = true
 begins_expr (k.Truth v) = true
 begins_expr k.Name = true

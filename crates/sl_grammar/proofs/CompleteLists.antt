@@ -4,14 +4,14 @@ use Rattle.std.proofs.lemmas.Bool.{lt-ltb}
 use Rattle.sl_base.specs.declared.mark.Mark.{Mark}
 use Rattle.sl_base.specs.declared.mark.Mark.TheVariants as m
 use Rattle.sl_base.specs.declared.token.Token.{Token}
-use Rattle.sl_syntax.specs.declared.kind.Kind.{Kind}
+use Rattle.sl_syntax.specs.declared.token_kind.TokenKind.{TokenKind}
 use Rattle.sl_syntax.specs.Depth.{height, list_height, rest_height, highest}
 use Rattle.sl_syntax.specs.Shaped.{IsExpr, AreExprs, Each}
 use Rattle.sl_syntax.specs.Tree as t
 use Rattle.sl_syntax.specs.Tree.{Expr, Exprs, exprs_from}
 use Rattle.sl_syntax.specs.Written.{written, list_written, rest_written}
-use Rattle.sl_grammar.specs.Expressions.{comma_expr, list_behind, list, list_before}
-use Rattle.sl_grammar.specs.Steps.{Reader, Tall, kind_at, is_mark, all_behind, mark}
+use Rattle.sl_grammar.specs.Means.Expressions.{comma_expr, list_behind, list, list_before}
+use Rattle.sl_grammar.specs.Means.Steps.{Reader, Tall, kind_at, is_mark, all_behind, mark}
 use Rattle.sl_grammar.proofs.CompleteKinds.{Ends, begins_expr, expr-begins}
 use Rattle.sl_grammar.proofs.CompleteSteps.{Turn, row, all-row}
 use Rattle.sl_grammar.proofs.KindLaws.{not_mark}
@@ -24,14 +24,14 @@ pub record ReadsWhole (bound : ℕ) (reader : Reader (Tall Expr)) : Type 0 where
       → reader ts ≡ Ok ((r, height r), rest)
 
 -- the word is this mark, behind a list
-pub record Closes (close : Mark) (kind : Kind) : Type 0 where
+pub record Closes (close : Mark) (kind : TokenKind) : Type 0 where
   pub is : is_mark close kind ≡ true
   pub ends : Ends 1 kind
   pub no_comma : is_mark m.Comma kind ≡ false
 
 -- no expression begins with this mark
 pub record IsClose (close : Mark) : Type 0 where
-  pub begins : (kind : Kind) → begins_expr kind ≡ true → is_mark close kind ≡ false
+  pub begins : (kind : TokenKind) → begins_expr kind ≡ true → is_mark close kind ≡ false
 
 pub parenthesis-close : IsClose m.RightParenthesis
 parenthesis-close = record { begins = λ kind h. not_mark begins_expr m.RightParenthesis kind refl h }

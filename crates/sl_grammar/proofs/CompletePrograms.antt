@@ -6,13 +6,13 @@ use Rattle.sl_base.specs.declared.token.Token.{Token}
 use Rattle.sl_syntax.specs.declared.tree.function.ResultType.{ResultType}
 use Rattle.sl_syntax.specs.declared.tree.function.ResultType.TheVariants as z
 use Rattle.sl_syntax.specs.Depth.{function_height, depth}
-use Rattle.sl_syntax.specs.Kinds.{kind_of}
+use Rattle.sl_syntax.specs.TokenKinds.{kind_of}
 use Rattle.sl_syntax.specs.Placed.{Placed}
 use Rattle.sl_syntax.specs.Shaped.{Each, IsFunction, AreSome, Shaped}
 use Rattle.sl_syntax.specs.Tree.{Function, Program}
 use Rattle.sl_syntax.specs.Written.{result_word, params_written, function_written, program_written}
-use Rattle.sl_grammar.specs.Statements.{is_more, stmt, function_behind, function_by, function, program}
-use Rattle.sl_grammar.specs.Steps.{mark, identifier}
+use Rattle.sl_grammar.specs.Means.Statements.{is_more, stmt, function_behind, function_by, function, program}
+use Rattle.sl_grammar.specs.Means.Steps.{mark, identifier}
 use Rattle.sl_grammar.proofs.CompleteBlocks.{block-reads}
 use Rattle.sl_grammar.proofs.CompleteDeclarations.{params-complete}
 use Rattle.sl_grammar.proofs.CompleteKinds.{scalar-kind}

@@ -5,17 +5,21 @@ use Rattle.sl_base.specs.declared.mark.Mark.TheVariants as m
 use Rattle.sl_base.specs.declared.place.Place.{Place}
 use Rattle.sl_base.specs.declared.scalar.Scalar.{Scalar}
 use Rattle.sl_base.specs.declared.token.Token.{Token}
-use Rattle.sl_syntax.specs.declared.kind.Kind.TheVariants as k
+use Rattle.sl_syntax.specs.declared.token_kind.TokenKind.TheVariants as k
 use Rattle.sl_syntax.specs.declared.tree.identifier.Identifier.{Identifier}
 use Rattle.sl_syntax.specs.Depth.{height, option_height, effect_height, cond_height, stmt_height}
 use Rattle.sl_syntax.specs.Shaped.{IfThere, ends_open, IsExpr, IsEffect, IsCond, IsFirst, IsStmt}
 use Rattle.sl_syntax.specs.Tree as t
 use Rattle.sl_syntax.specs.Tree.{Expr, Effect, Cond, First, Stmt}
-use Rattle.sl_syntax.specs.Written.{Written, written, option_written, effect_written, cond_written, first_written, value_written, tested, stmt_written}
+use Rattle.sl_syntax.specs.Written.{Written, written, option_written, effect_written, cond_written, first_written, value_written, tested}
+use Rattle.sl_syntax.specs.Written.{stmt_written}
 use Rattle.sl_syntax.specs.Written as v
-use Rattle.sl_grammar.specs.Statements.{first_of, is_else, condition, otherwise, choice, loop, optional_cond, optional_effect, for_behind, range_behind, valued_first, variable_behind, declared_first, for_by, for_loop, return_stmt, effect_stmt, word_stmt, stmt_by, stmt}
-use Rattle.sl_grammar.specs.Steps.{here, Reader, Tall, kind_at, mark, identifier}
-use Rattle.sl_grammar.proofs.CompleteBegins.{semicolon-ends, parenthesis-ends, effect-not_semicolon, effect-not_parenthesis, cond-begins, does-some, stmt-height_some, for-kind, does-kind}
+use Rattle.sl_grammar.specs.Means.Statements.{first_of, is_else, condition, otherwise, choice, loop, optional_cond, optional_effect, for_behind}
+use Rattle.sl_grammar.specs.Means.Statements.{range_behind, valued_first, variable_behind, declared_first, for_by, for_loop, return_stmt, effect_stmt}
+use Rattle.sl_grammar.specs.Means.Statements.{word_stmt, stmt_by, stmt}
+use Rattle.sl_grammar.specs.Means.Steps.{here, Reader, Tall, kind_at, mark, identifier}
+use Rattle.sl_grammar.proofs.CompleteBegins.{semicolon-ends, parenthesis-ends, effect-not_semicolon, effect-not_parenthesis, cond-begins, does-some}
+use Rattle.sl_grammar.proofs.CompleteBegins.{stmt-height_some, for-kind, does-kind}
 use Rattle.sl_grammar.proofs.CompleteBlocks.{ReadsStmts, block-reads}
 use Rattle.sl_grammar.proofs.CompleteEffects.{and-false, effect-complete, effect-begins, cond-complete}
 use Rattle.sl_grammar.proofs.CompleteExpressions.{whole-complete}
@@ -28,37 +32,38 @@ abbrev for_written : Option Cond → Option Effect → Stmt → List Written
 for_written c step x = v.mark m.Semicolon ∷ (option_written cond_written c ++ v.mark m.Semicolon ∷
     (option_written effect_written step ++ v.mark m.RightParenthesis ∷ stmt_written x))
 
-module _ (inner : Reader (Tall Stmt)) (room : ℕ) (i : ReadsStmts room inner) where
-  condition-reads : {C : Type 0} (c : Cond) (xs : List Written) (ts rest : List Token) → IsCond c → cond_height c ≤ room → Spelled (tested c xs) ts rest
-      → ((us : List Token) → condition inner room ts ≡ Ok ((c, cond_height c), us) → Spelled xs us rest → C) → C
+module _ (inner : Reader (Tall Stmt)) (depth_left : ℕ) (i : ReadsStmts depth_left inner) where
+  condition-reads : {C : Type 0} (c : Cond) (xs : List Written) (ts rest : List Token) → IsCond c → cond_height c ≤ depth_left
+      → Spelled (tested c xs) ts rest
+      → ((us : List Token) → condition inner depth_left ts ≡ Ok ((c, cond_height c), us) → Spelled xs us rest → C) → C
   unfolding condition mark
   condition-reads c xs ts rest g l s go =
       plain_word s (λ o place us e a.
       split (cond_written c) a (λ mid b d.
       plain_word d (λ o2 place2 vs e2 z.
-      go vs (rw (e, cond-complete room c us mid g l (rw e2 parenthesis-ends) b, e2) refl) z)))
+      go vs (rw (e, cond-complete depth_left c us mid g l (rw e2 parenthesis-ends) b, e2) refl) z)))
 
-  optional_cond-reads : (c : Option Cond) (ts rest : List Token) → IfThere IsCond c → option_height cond_height c ≤ room
+  optional_cond-reads : (c : Option Cond) (ts rest : List Token) → IfThere IsCond c → option_height cond_height c ≤ depth_left
       → kind_at rest ≡ k.Mark m.Semicolon → Spelled (option_written cond_written c) ts rest
-      → optional_cond inner room ts ≡ Ok ((c, option_height cond_height c), rest)
+      → optional_cond inner depth_left ts ≡ Ok ((c, option_height cond_height c), rest)
   unfolding optional_cond
   optional_cond-reads None ts rest g l f s = let e : ts ≡ rest = s.spells in rw (e, f) refl
   optional_cond-reads (Some c) ts rest g l f s =
-      rw (effect-not_semicolon (kind_at ts) (cond-begins c ts rest g s), cond-complete room c ts rest g l (rw f semicolon-ends) s) refl
+      rw (effect-not_semicolon (kind_at ts) (cond-begins c ts rest g s), cond-complete depth_left c ts rest g l (rw f semicolon-ends) s) refl
 
-  optional_effect-reads : (e : Option Effect) (ts rest : List Token) → IfThere IsEffect e → option_height effect_height e ≤ room
+  optional_effect-reads : (e : Option Effect) (ts rest : List Token) → IfThere IsEffect e → option_height effect_height e ≤ depth_left
       → kind_at rest ≡ k.Mark m.RightParenthesis
-      → Spelled (option_written effect_written e) ts rest → optional_effect inner room ts ≡ Ok ((e, option_height effect_height e), rest)
+      → Spelled (option_written effect_written e) ts rest → optional_effect inner depth_left ts ≡ Ok ((e, option_height effect_height e), rest)
   unfolding optional_effect
   optional_effect-reads None ts rest g l f s = let e : ts ≡ rest = s.spells in rw (e, f) refl
   optional_effect-reads (Some x) ts rest g l f s =
-      rw (effect-not_parenthesis (kind_at ts) (effect-begins x ts rest g s), effect-complete room x ts rest g l (rw f parenthesis-ends) s) refl
+      rw (effect-not_parenthesis (kind_at ts) (effect-begins x ts rest g s), effect-complete depth_left x ts rest g l (rw f parenthesis-ends) s) refl
 
   for_behind-reads : (place : Place) (first : Tall (Option First)) (c : Option Cond) (step : Option Effect) (x : Stmt) (ts rest : List Token)
-      → IfThere IsCond c → IfThere IsEffect step → IsStmt x → option_height cond_height c ≤ room → option_height effect_height step ≤ room
-      → stmt_height x ≤ room
+      → IfThere IsCond c → IfThere IsEffect step → IsStmt x → option_height cond_height c ≤ depth_left → option_height effect_height step ≤ depth_left
+      → stmt_height x ≤ depth_left
       → (ends_open x ≡ true → is_else (kind_at rest) ≡ false) → Spelled (for_written c step x) ts rest
-      → for_behind inner room place first ts ≡ Ok (
+      → for_behind inner depth_left place first ts ≡ Ok (
         (
           t.for place first.0 c step x,
           max first.1
@@ -84,22 +89,22 @@ module _ (inner : Reader (Tall Stmt)) (room : ℕ) (i : ReadsStmts room inner) w
 
   -- behind the variable that the head of a `for` declares
   valued-reads : (place at : Place) (type : Option Scalar) (x : Identifier) (y : Expr) (xs : List Written) (result : Tall Stmt) (ts rest : List Token)
-      → IsExpr y → height y < room
+      → IsExpr y → height y < depth_left
       → Spelled (value_written y ++ v.mark m.Semicolon ∷ xs) ts rest
-      → ((us : List Token) → Spelled (v.mark m.Semicolon ∷ xs) us rest → for_behind inner room place
+      → ((us : List Token) → Spelled (v.mark m.Semicolon ∷ xs) us rest → for_behind inner depth_left place
       (Some (first_of type at x y), height y + 1) us ≡ Ok (result, rest))
-      → variable_behind inner room place at type x ts ≡ Ok (result, rest)
+      → variable_behind inner depth_left place at type x ts ≡ Ok (result, rest)
   unfolding variable_behind valued_first mark
   valued-reads place at type x y xs result ts rest g l s go =
       plain_word s (λ o place2 us e a.
       split (written y) a (λ mid b d.
       let stop : kind_at mid ≡ k.Mark m.Semicolon = plain_word d (λ o2 place3 vs e2 z. rw e2 refl) in
-      rw (e, and-false, (whole-complete room).reads y us mid g l (rw stop semicolon-ends.ends) b) (go mid d)))
+      rw (e, and-false, (whole-complete depth_left).reads y us mid g l (rw stop semicolon-ends.ends) b) (go mid d)))
 
   first-reads : (place : Place) (first : Option First) (c : Option Cond) (step : Option Effect) (x : Stmt) (ts rest : List Token)
-      → IfThere IsFirst first → IfThere IsCond c → IfThere IsEffect step → IsStmt x → stmt_height (t.for place first c step x) ≤ suc room
+      → IfThere IsFirst first → IfThere IsCond c → IfThere IsEffect step → IsStmt x → stmt_height (t.for place first c step x) ≤ suc depth_left
       → (ends_open x ≡ true → is_else (kind_at rest) ≡ false) → Spelled (option_written first_written first ++ for_written c step x) ts rest
-      → for_by inner room place (kind_at ts) ts ≡ Ok ((t.for place first c step x, stmt_height (t.for place first c step x)), rest)
+      → for_by inner depth_left place (kind_at ts) ts ≡ Ok ((t.for place first c step x, stmt_height (t.for place first c step x)), rest)
   unfolding declared_first identifier
   first-reads place None c step x ts rest g0 g1 g2 g3 l open_end s =
       let stop : kind_at ts ≡ k.Mark m.Semicolon = plain_word s (λ o place2 us e z. rw e refl) in
@@ -117,39 +122,49 @@ module _ (inner : Reader (Tall Stmt)) (room : ℕ) (i : ReadsStmts room inner) w
   first-reads place (Some (t.first_effect e)) c step x ts rest g0 g1 g2 g3 l open_end s =
       split (effect_written e) s (λ mid a b.
       let stop : kind_at mid ≡ k.Mark m.Semicolon = plain_word b (λ o2 place3 vs e2 z. rw e2 refl) in
-      rw (for-kind inner room place (kind_at ts) (effect-begins e ts mid g0 a), effect-complete room e ts mid g0 (omega arith) (rw stop semicolon-ends) a)
-      (for_behind-reads place (Some (t.first_effect e), effect_height e) c step x mid rest g1 g2 g3 (omega arith) (omega arith) (omega arith) open_end b))
+      rw (
+        for-kind inner depth_left place (kind_at ts) (effect-begins e ts mid g0 a),
+        effect-complete depth_left e ts mid g0 (omega arith) (rw stop semicolon-ends) a,
+      )
+      (for_behind-reads place (Some (t.first_effect e), effect_height e) c step x mid rest g1 g2 g3 (omega arith) (omega arith)
+      (omega arith) open_end b))
 
-  does-reads : (e : Effect) (ts rest : List Token) → IsEffect e → effect_height e ≤ room → Spelled (effect_written e ++ v.mark m.Semicolon ∷ []) ts rest
-      → stmt_by inner room (kind_at ts) ts ≡ Ok ((t.does (here ts) e, effect_height e + 1), rest)
+  does-reads : (e : Effect) (ts rest : List Token) → IsEffect e → effect_height e ≤ depth_left
+      → Spelled (effect_written e ++ v.mark m.Semicolon ∷ []) ts rest
+      → stmt_by inner depth_left (kind_at ts) ts ≡ Ok ((t.does (here ts) e, effect_height e + 1), rest)
   unfolding effect_stmt mark
   does-reads e ts rest g l s =
       split (effect_written e) s (λ mid a b.
       plain_word b (λ o place us e2 z.
       let e3 : us ≡ rest = z.spells in
-      rw (does-kind inner room (kind_at ts) (effect-begins e ts mid g a), effect-complete room e ts mid g l (rw e2 semicolon-ends) a, e2, e3) refl))
+      rw (
+        does-kind inner depth_left (kind_at ts) (effect-begins e ts mid g a),
+        effect-complete depth_left e ts mid g l (rw e2 semicolon-ends) a,
+        e2,
+        e3,
+      ) refl))
 
-  body-reads : (x : Stmt) (ts rest : List Token) → IsStmt x → stmt_height x ≤ suc room → (ends_open x ≡ true → is_else (kind_at rest) ≡ false)
+  body-reads : (x : Stmt) (ts rest : List Token) → IsStmt x → stmt_height x ≤ suc depth_left → (ends_open x ≡ true → is_else (kind_at rest) ≡ false)
       → Spelled (stmt_written x) ts rest
-      → stmt_by inner room (kind_at ts) ts ≡ Ok ((x, stmt_height x), rest)
+      → stmt_by inner depth_left (kind_at ts) ts ≡ Ok ((x, stmt_height x), rest)
   unfolding choice otherwise loop for_loop declared_first range_behind variable_behind return_stmt word_stmt mark identifier
   body-reads (t.block opens items closes) ts rest g l f s =
       let brace : kind_at ts ≡ k.Mark m.LeftBrace = at_word s (λ o us e a. rw e refl) in
-      rw (brace, block-reads inner room i opens closes items ts rest g (omega arith) s) refl
+      rw (brace, block-reads inner depth_left i opens closes items ts rest g (omega arith) s) refl
   body-reads (t.choice place c x) ts rest g l f s =
       at_word s (λ o us e a.
       condition-reads c (stmt_written x) us rest g.0 (omega arith) a (λ mid h b.
-      let room_left : 0 < room = omega (arith, stmt-height_some x) in
-      rw (e, lt-ltb 0 room room_left, h, i.reads x mid rest g.1 (omega arith) (λ _. f refl) b, f refl) refl))
+      let room_left : 0 < depth_left = omega (arith, stmt-height_some x) in
+      rw (e, lt-ltb 0 depth_left room_left, h, i.reads x mid rest g.1 (omega arith) (λ _. f refl) b, f refl) refl))
   body-reads (t.choice_else place c x y) ts rest g l f s =
       at_word s (λ o us e a.
       condition-reads c _ us rest g.0 (omega arith) a (λ mid h b.
-      let room_left : 0 < room = omega (arith, stmt-height_some x) in
+      let room_left : 0 < depth_left = omega (arith, stmt-height_some x) in
       split (stmt_written x) b (λ mid2 d z.
       plain_word z (λ o2 place2 vs e2 w2.
       rw (
         e,
-        lt-ltb 0 room room_left,
+        lt-ltb 0 depth_left room_left,
         h,
         i.reads x mid mid2 g.1 (omega arith) (λ is_open. absurd (false≢true (sym g.2 ∙ is_open))) d,
         e2,
@@ -158,23 +173,23 @@ module _ (inner : Reader (Tall Stmt)) (room : ℕ) (i : ReadsStmts room inner) w
   body-reads (t.while place c x) ts rest g l f s =
       at_word s (λ o us e a.
       condition-reads c (stmt_written x) us rest g.0 (omega arith) a (λ mid h b.
-      let room_left : 0 < room = omega (arith, stmt-height_some x) in
-      rw (e, lt-ltb 0 room room_left, h, i.reads x mid rest g.1 (omega arith) f b) refl))
+      let room_left : 0 < depth_left = omega (arith, stmt-height_some x) in
+      rw (e, lt-ltb 0 depth_left room_left, h, i.reads x mid rest g.1 (omega arith) f b) refl))
   body-reads (t.for place first c step x) ts rest g l f s =
       at_word s (λ o us e a.
       plain_word a (λ o2 place2 vs e2 b.
-      let room_left : 0 < room = omega (arith, stmt-height_some x) in
-      rw (e, lt-ltb 0 room room_left, e2) (first-reads place first c step x vs rest g.0 g.1 g.2 g.3 l f b)))
+      let room_left : 0 < depth_left = omega (arith, stmt-height_some x) in
+      rw (e, lt-ltb 0 depth_left room_left, e2) (first-reads place first c step x vs rest g.0 g.1 g.2 g.3 l f b)))
   body-reads (t.range_for place false x y body) ts rest g l f s =
       at_word s (λ o1 t1 e1 s1. plain_word s1 (λ o2 p2 t2 e2 s2. plain_word s2 (λ o3 p3 t3 e3 s3.
       at_word s3 (λ o4 t4 e4 s4. plain_word s4 (λ o5 p5 t5 e5 s5. at_word s5 (λ o6 t6 e6 s6. plain_word s6 (λ o7 p7 t7 e7 s7.
-      let room_left : 0 < room = omega (arith, stmt-height_some body) in
-      rw (e1, lt-ltb 0 room room_left, e2, e3, e4, e5, e6, e7, i.reads body t7 rest g (omega arith) f s7) refl)))))))
+      let room_left : 0 < depth_left = omega (arith, stmt-height_some body) in
+      rw (e1, lt-ltb 0 depth_left room_left, e2, e3, e4, e5, e6, e7, i.reads body t7 rest g (omega arith) f s7) refl)))))))
   body-reads (t.range_for place true x y body) ts rest g l f s =
       at_word s (λ o1 t1 e1 s1. plain_word s1 (λ o2 p2 t2 e2 s2. plain_word s2 (λ o3 p3 t3 e3 s3.
       at_word s3 (λ o4 t4 e4 s4. plain_word s4 (λ o5 p5 t5 e5 s5. at_word s5 (λ o6 t6 e6 s6. plain_word s6 (λ o7 p7 t7 e7 s7.
-      let room_left : 0 < room = omega (arith, stmt-height_some body) in
-      rw (e1, lt-ltb 0 room room_left, e2, e3, e4, e5, e6, e7, i.reads body t7 rest g (omega arith) f s7) refl)))))))
+      let room_left : 0 < depth_left = omega (arith, stmt-height_some body) in
+      rw (e1, lt-ltb 0 depth_left room_left, e2, e3, e4, e5, e6, e7, i.reads body t7 rest g (omega arith) f s7) refl)))))))
   body-reads (t.break place) ts rest g l f s =
       at_word s (λ o us e a. plain_word a (λ o2 p2 vs e2 b. let e3 : vs ≡ rest = b.spells in rw (e, e2, e3) refl))
   body-reads (t.continue place) ts rest g l f s =
@@ -189,7 +204,7 @@ module _ (inner : Reader (Tall Stmt)) (room : ℕ) (i : ReadsStmts room inner) w
       rw (
         e,
         semicolon-close.begins (kind_at us) (expr-begins x us mid g b),
-        (whole-complete (room + 1)).reads x us mid g (omega arith) (rw e2 semicolon-ends.ends) b,
+        (whole-complete (depth_left + 1)).reads x us mid g (omega arith) (rw e2 semicolon-ends.ends) b,
         e2,
         e3,
       ) refl)))
@@ -199,7 +214,8 @@ module _ (inner : Reader (Tall Stmt)) (room : ℕ) (i : ReadsStmts room inner) w
       rw at (does-reads e ts rest g (omega arith) h.0)
 
 -- The words of a statement, where no `else` follows that it would take, are read as that statement.
-pub stmt-complete : (room : ℕ) → ReadsStmts room (stmt room)
+pub stmt-complete : (depth_left : ℕ) → ReadsStmts depth_left (stmt depth_left)
 unfolding stmt
 stmt-complete zero = record { reads = λ x ts rest g l f s. absurd (omega (arith, stmt-height_some x)) }
-stmt-complete (suc room) = record { reads = λ x ts rest g l f s. body-reads (stmt room) room (stmt-complete room) x ts rest g l f s }
+stmt-complete (suc depth_left) =
+    record { reads = λ x ts rest g l f s. body-reads (stmt depth_left) depth_left (stmt-complete depth_left) x ts rest g l f s }

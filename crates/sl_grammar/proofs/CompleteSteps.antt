@@ -1,15 +1,16 @@
 -- What the tokens are that spell some words, and how a row of items is read.
-use Rattle.std.proofs.Common.{append-nil, subst, ◌≡◌, ℕ, zero, suc, ◌<◌, ◌≤◌, max, Bool, true, false, List, [], ◌∷◌, ◌++◌, length, flat_map, Ok, refl, sym, ◌∙◌, arith, append_assoc}
+use Rattle.std.proofs.Common.{append-nil, subst, ◌≡◌, ℕ, zero, suc, ◌<◌, ◌≤◌, max, Bool, true, false, List, [], ◌∷◌, ◌++◌, length, flat_map, Ok, refl}
+use Rattle.std.proofs.Common.{sym, ◌∙◌, arith, append_assoc}
 use Rattle.sl_base.specs.declared.token.Token.{Token}
-use Rattle.sl_syntax.specs.declared.kind.Kind.{Kind}
+use Rattle.sl_syntax.specs.declared.token_kind.TokenKind.{TokenKind}
 use Rattle.sl_syntax.specs.Depth.{highest}
 use Rattle.sl_syntax.specs.Shaped.{Each}
 use Rattle.sl_syntax.specs.Written.{Written}
-use Rattle.sl_grammar.specs.Steps.{Outcome, Reader, Tall, kind_at, repeat, all_behind}
+use Rattle.sl_grammar.specs.Means.Steps.{Outcome, Reader, Tall, kind_at, repeat, all_behind}
 use Rattle.sl_grammar.proofs.Spelling.{Spelled, split, spells-length}
 
 -- one turn of a repetition reads this item
-pub record Turn {A : Type 0} (goes : Kind → Bool) (item : Reader (Tall A)) (h : A → ℕ) (x : A) (ts mid : List Token) : Type 0 where
+pub record Turn {A : Type 0} (goes : TokenKind → Bool) (item : Reader (Tall A)) (h : A → ℕ) (x : A) (ts mid : List Token) : Type 0 where
   pub goes_on : goes (kind_at ts) ≡ true
   pub reads : item ts ≡ Ok ((x, h x), mid)
 
@@ -28,7 +29,7 @@ done_more : {A : Type 0} (h : A → ℕ) (done : List A) (top : ℕ) (x : A) (xs
     (Ok ((done ++ x ∷ xs, max top (max (h x) (highest h xs))), rest))
 done_more h done top x xs rest = rw (append_assoc, max-assoc) refl
 
-module _ {A : Type 0} (goes : Kind → Bool) (item : Reader (Tall A)) (h : A → ℕ) where
+module _ {A : Type 0} (goes : TokenKind → Bool) (item : Reader (Tall A)) (h : A → ℕ) where
   -- turn by turn these items are read, each takes a token at least, and nothing goes on
   abbrev pub Row : List A → List Token → List Token → Type 0
   Row [] ts rest = (ts ≡ rest) × (goes (kind_at rest) ≡ false)
@@ -52,7 +53,7 @@ module _ {A : Type 0} (goes : Kind → Bool) (item : Reader (Tall A)) (h : A →
   all-row xs done top ts rest r = repeat-row xs (length ts) done top ts rest (row-length xs ts rest r) r
 
   -- Items that are spelled one behind another are a row, where each is read before what fits behind it and begins with what fits.
-  module _ (w : A → List Written) (P : A → Type 0) (Fits : Kind → Type 0)
+  module _ (w : A → List Written) (P : A → Type 0) (Fits : TokenKind → Type 0)
       (turn : (x : A) (ts mid : List Token) → P x → Fits (kind_at mid) → Spelled (w x) ts mid → Turn goes item h x ts mid)
       (first : (x : A) (ts mid : List Token) → P x → Spelled (w x) ts mid → Fits (kind_at ts)) (some : (x : A) → 1 ≤ length (w x)) where
     fits : (xs : List A) (ts rest : List Token) → Each P xs → Fits (kind_at rest) → Spelled (flat_map w xs) ts rest → Fits (kind_at ts)
@@ -64,4 +65,9 @@ module _ {A : Type 0} (goes : Kind → Bool) (item : Reader (Tall A)) (h : A →
     row [] ts rest p f e s = (s.spells, e)
     row (x ∷ xs) ts rest p f e s =
         split (w x) s
-        (λ mid a b. (mid, turn x ts mid p.0 (fits xs mid rest p.1 f b) a, omega (arith, some x, spells-length (w x) ts mid a.spells), row xs mid rest p.1 f e b))
+        (λ mid a b. (
+          mid,
+          turn x ts mid p.0 (fits xs mid rest p.1 f b) a,
+          omega (arith, some x, spells-length (w x) ts mid a.spells),
+          row xs mid rest p.1 f e b,
+        ))

@@ -10,12 +10,12 @@ use Rattle.sl_base.specs.contracts.mark.Mark.{the_type}
 use Rattle.sl_base.specs.declared.mark.Mark.{Mark}
 use Rattle.sl_base.specs.declared.word.Word.{Word}
 use Rattle.sl_base.specs.declared.word.Word.TheVariants as w
-use Rattle.sl_syntax.specs.declared.kind.Kind.{Kind}
-use Rattle.sl_syntax.specs.declared.kind.Kind.TheVariants as k
-use Rattle.sl_syntax.specs.Kinds.{keys, libs, kind_or, kind_in, kind_of}
+use Rattle.sl_syntax.specs.declared.token_kind.TokenKind.{TokenKind}
+use Rattle.sl_syntax.specs.declared.token_kind.TokenKind.TheVariants as k
+use Rattle.sl_syntax.specs.TokenKinds.{keys, libs, kind_or, kind_in, kind_of}
 use Rattle.sl_syntax.specs.Shaped.{Each}
 use Rattle.sl_syntax.specs.Written.{truth_word, scalar_word, form_word}
-use Rattle.sl_grammar.specs.Steps.{is_mark, name_in, number_in, text_in}
+use Rattle.sl_grammar.specs.Means.Steps.{is_mark, number_in, text_in}
 
 pub some_one : {A : Type 0} {a b : A} → Some a ≡ Some b → a ≡ b
 some_one h = cc
@@ -26,7 +26,7 @@ both true b h = (refl, h)
 both false b h = absurd (false≢true h)
 
 -- the word of a kind that has just one
-abbrev pub fixed : Kind → Option Word
+abbrev pub fixed : TokenKind → Option Word
 fixed (k.Scalar s) = Some (scalar_word s)
 fixed (k.Container f) = Some (form_word f)
 fixed (k.Truth v) = Some (truth_word v)
@@ -47,30 +47,31 @@ fixed (k.Mark m) = Some (w.Mark m)
 fixed _ = None
 
 -- what a row gives: its kind where its bytes are those, and else what the others give
-row_gives : (Q : List ℕ → Kind → Type 0) (bytes : List ℕ) (instead : Kind) (row : List ℕ × Kind) (others : Option (List ℕ × Kind)) (test : Bool)
+row_gives : (Q : List ℕ → TokenKind → Type 0) (bytes : List ℕ) (instead : TokenKind) (row : List ℕ × TokenKind) (others : Option (List ℕ × TokenKind))
+    (test : Bool)
     → (test ≡ true → row.0 ≡ bytes) → Q row.0 row.1 → Q bytes (kind_or instead (option_map (λ m. m.1) others))
     → Q bytes (kind_or instead (option_map (λ m. m.1) (cond test (Some row) others)))
 row_gives Q bytes instead row others true same here there = subst (λ (b : List ℕ). Q b row.1) (same refl) here
 row_gives Q bytes instead row others false same here there = there
 
 -- what holds of each row and of what stands instead holds of the kind
-pub in_rows : (Q : List ℕ → Kind → Type 0) (bytes : List ℕ) (instead : Kind) → Q bytes instead → (rows : List (List ℕ × Kind))
-    → Each (λ (row : List ℕ × Kind). Q row.0 row.1) rows → Q bytes (kind_in rows instead bytes)
+pub in_rows : (Q : List ℕ → TokenKind → Type 0) (bytes : List ℕ) (instead : TokenKind) → Q bytes instead → (rows : List (List ℕ × TokenKind))
+    → Each (λ (row : List ℕ × TokenKind). Q row.0 row.1) rows → Q bytes (kind_in rows instead bytes)
 in_rows Q bytes instead other [] each = other
 in_rows Q bytes instead other (row ∷ rows) each =
     row_gives Q bytes instead row (find (λ m. bytes_eq m.0 bytes) rows) (bytes_eq row.0 bytes) (bytes_eq-Decides row.0 bytes).0 each.0
     (in_rows Q bytes instead other rows each.1)
 
 -- a key or lib is the only word of its kind
-abbrev Only : (List ℕ → Word) → List ℕ → Kind → Type 0
+abbrev Only : (List ℕ → Word) → List ℕ → TokenKind → Type 0
 Only make bytes kind = (x : Word) → fixed kind ≡ Some x → make bytes ≡ x
 
-none_fixed : (make : List ℕ → Word) (bytes : List ℕ) (kind : Kind) → fixed kind ≡ None → Only make bytes kind
+none_fixed : (make : List ℕ → Word) (bytes : List ℕ) (kind : TokenKind) → fixed kind ≡ None → Only make bytes kind
 none_fixed make bytes kind h x e = absurd cc
 
 -- rows of which each is its kind's own word
-only_rows : (make : List ℕ → Word) (rows : List (List ℕ × Kind)) → Each (λ (row : List ℕ × Kind). fixed row.1 ≡ Some (make row.0)) rows
-    → Each (λ (row : List ℕ × Kind). Only make row.0 row.1) rows
+only_rows : (make : List ℕ → Word) (rows : List (List ℕ × TokenKind)) → Each (λ (row : List ℕ × TokenKind). fixed row.1 ≡ Some (make row.0)) rows
+    → Each (λ (row : List ℕ × TokenKind). Only make row.0 row.1) rows
 only_rows make [] h = tt
 only_rows make (row ∷ rows) h = (λ x e. some_one (sym h.0 ∙ e), only_rows make rows h.1)
 
@@ -92,49 +93,38 @@ fixed_word (w.Text bytes) x e = absurd cc
 fixed_word (w.Mark m) x e = cc
 
 -- the same, by its kind
-pub word_of_kind : (y : Word) (kind : Kind) (x : Word) → kind_of y ≡ kind → fixed kind ≡ Some x → y ≡ x
+pub word_of_kind : (y : Word) (kind : TokenKind) (x : Word) → kind_of y ≡ kind → fixed kind ≡ Some x → y ≡ x
 word_of_kind y kind x h e = fixed_word y x (ap fixed h ∙ e)
 
 -- whether a table may have the kind
-abbrev of_table : Kind → Bool
+abbrev of_table : TokenKind → Bool
 of_table k.Name = false
 of_table k.Number = false
 of_table k.Text = false
 of_table _ = true
 
-abbrev no_library : Kind → Bool
-no_library k.Library = false
-no_library _ = true
-
 -- a test that all kinds of a table pass
-abbrev all_pass : (Kind → Bool) → List (List ℕ × Kind) → Bool
+abbrev all_pass : (TokenKind → Bool) → List (List ℕ × TokenKind) → Bool
 all_pass test [] = true
 all_pass test (row ∷ rows) = test row.1 && all_pass test rows
 
-each_passes : (test : Kind → Bool) (rows : List (List ℕ × Kind)) → all_pass test rows ≡ true
-    → Each (λ (row : List ℕ × Kind). test row.1 ≡ true) rows
+each_passes : (test : TokenKind → Bool) (rows : List (List ℕ × TokenKind)) → all_pass test rows ≡ true
+    → Each (λ (row : List ℕ × TokenKind). test row.1 ≡ true) rows
 each_passes test [] h = tt
 each_passes test (row ∷ rows) h =
     let of = both (test row.1) (all_pass test rows) h in
     (of.0, each_passes test rows of.1)
 
-key_passes : (test : Kind → Bool) (bytes : List ℕ) → test k.Other ≡ true → all_pass test keys ≡ true → test (kind_in keys k.Other bytes) ≡ true
+key_passes : (test : TokenKind → Bool) (bytes : List ℕ) → test k.Other ≡ true → all_pass test keys ≡ true → test (kind_in keys k.Other bytes) ≡ true
 key_passes test bytes other all = in_rows (λ _ kind. test kind ≡ true) bytes k.Other other keys (each_passes test keys all)
 
-lib_passes : (test : Kind → Bool) (bytes : List ℕ) → test k.Library ≡ true → all_pass test libs ≡ true → test (kind_in libs k.Library bytes) ≡ true
+lib_passes : (test : TokenKind → Bool) (bytes : List ℕ) → test k.Library ≡ true → all_pass test libs ≡ true
+    → test (kind_in libs k.Library bytes) ≡ true
 lib_passes test bytes other all = in_rows (λ _ kind. test kind ≡ true) bytes k.Library other libs (each_passes test libs all)
 
 -- two kinds that a test tells apart
-apart : (test : Kind → Bool) (a b : Kind) → test a ≡ true → test b ≡ false → a ≡ b → ⊥
+apart : (test : TokenKind → Bool) (a b : TokenKind) → test a ≡ true → test b ≡ false → a ≡ b → ⊥
 apart test a b yes_a no_b e = false≢true (sym no_b ∙ ap test (sym e) ∙ yes_a)
-
-pub name_word : (y : Word) → kind_of y ≡ k.Name → y ≡ w.Name (name_in y)
-name_word (w.Name name) h = refl
-name_word (w.Lib name) h = absurd (apart of_table _ _ (lib_passes of_table name refl refl) refl h)
-name_word (w.Key name) h = absurd (apart of_table _ _ (key_passes of_table name refl refl) refl h)
-name_word (w.Number n) h = absurd cc
-name_word (w.Text bytes) h = absurd cc
-name_word (w.Mark m) h = absurd cc
 
 pub number_word : (y : Word) → kind_of y ≡ k.Number → y ≡ w.Number (number_in y)
 number_word (w.Name name) h = absurd cc
@@ -152,16 +142,7 @@ text_word (w.Number n) h = absurd cc
 text_word (w.Text bytes) h = refl
 text_word (w.Mark m) h = absurd cc
 
--- a function of the library is a lib that the grammar doesn't name
-pub library_word : (y : Word) → kind_of y ≡ k.Library → (y ≡ w.Lib (name_in y)) × (kind_of (w.Lib (name_in y)) ≡ k.Library)
-library_word (w.Name name) h = absurd cc
-library_word (w.Lib name) h = (refl, h)
-library_word (w.Key name) h = absurd (apart no_library _ _ (key_passes no_library name refl refl) refl h)
-library_word (w.Number n) h = absurd cc
-library_word (w.Text bytes) h = absurd cc
-library_word (w.Mark m) h = absurd cc
-
-abbrev no_end : Kind → Bool
+abbrev no_end : TokenKind → Bool
 no_end k.End = false
 no_end _ = true
 
@@ -175,12 +156,12 @@ not_end (w.Text bytes) h = absurd cc
 not_end (w.Mark m) h = absurd cc
 
 -- a kind that is seen to be this mark
-pub is_mark_kind : (x : Mark) (kind : Kind) → is_mark x kind ≡ true → kind ≡ k.Mark x
+pub is_mark_kind : (x : Mark) (kind : TokenKind) → is_mark x kind ≡ true → kind ≡ k.Mark x
 is_mark_kind x (k.Mark y) h = ap k.Mark (same_true the_type (search rules) y x h)
 is_mark_kind x _ h = absurd (false≢true h)
 
 -- a kind that passes a test is none of a mark that doesn't
-pub not_mark : (test : Kind → Bool) (x : Mark) (kind : Kind) → test (k.Mark x) ≡ false → test kind ≡ true → is_mark x kind ≡ false
+pub not_mark : (test : TokenKind → Bool) (x : Mark) (kind : TokenKind) → test (k.Mark x) ≡ false → test kind ≡ true → is_mark x kind ≡ false
 not_mark test x kind fails passes = by_test (is_mark x kind) refl where
   by_test : (b : Bool) → is_mark x kind ≡ b → is_mark x kind ≡ false
   by_test true e = absurd (apart test kind (k.Mark x) passes fails (is_mark_kind x kind e))

@@ -1,7 +1,10 @@
+-- ## Programs read, by hand
 mod Examples
+-- ## Words, their kinds and how tokens spell them
 pub mod KindLaws
 pub mod Spelling
 pub mod Rows
+-- ## Complete: what is written so is read
 pub mod CompleteSteps
 pub mod CompleteKinds
 pub mod CompleteLists
@@ -12,11 +15,13 @@ pub mod CompleteBegins
 pub mod CompleteBlocks
 pub mod CompleteStatements
 pub mod CompletePrograms
+-- ## Near: a reader looks at no token behind the one where it stops
 pub mod NearSteps
 pub mod NearExpressions
 pub mod NearDeclarations
 pub mod NearEffects
 pub mod NearStatements
+-- ## Sound: what is read is written so
 pub mod SoundSteps
 pub mod SoundLists
 pub mod SoundOperands
@@ -27,7 +32,7 @@ pub mod SoundBlocks
 pub mod SoundFors
 pub mod SoundStatements
 pub mod SoundPrograms
-pub mod ProgramLaws
+-- ## Viable: the tokens before a fault begin what is read
 pub mod ViableSteps
 pub mod ViableLists
 pub mod ViableOperands
@@ -39,3 +44,5 @@ pub mod ViableBlocks
 pub mod ViableFors
 pub mod ViableStatements
 pub mod ViablePrograms
+-- ## The laws of the reader of programs
+pub mod ProgramLaws

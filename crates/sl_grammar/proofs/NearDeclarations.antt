@@ -5,17 +5,20 @@ use Rattle.sl_base.specs.declared.mark.Mark.TheVariants as m
 use Rattle.sl_base.specs.declared.place.Place.{Place}
 use Rattle.sl_base.specs.declared.scalar.Scalar.{Scalar}
 use Rattle.sl_base.specs.declared.scalar.Scalar.TheVariants as c
-use Rattle.sl_syntax.specs.declared.kind.Kind.{Kind}
-use Rattle.sl_syntax.specs.declared.kind.Kind.TheVariants as k
+use Rattle.sl_syntax.specs.declared.token_kind.TokenKind.{TokenKind}
+use Rattle.sl_syntax.specs.declared.token_kind.TokenKind.TheVariants as k
 use Rattle.sl_syntax.specs.Written.{is_map}
-use Rattle.sl_grammar.specs.Declarations.{int_by, int, elements_by, container_type, optional_value, scalar_declaration, auto_declaration, braces, behind_equal_by, constructed, initializer_by, initializer, container_declaration, scalar_param, container_param, container_by, const_param, param_by, param, comma_param, params}
-use Rattle.sl_grammar.specs.Expressions.{expr}
-use Rattle.sl_grammar.specs.Steps.{is_mark}
+use Rattle.sl_grammar.specs.Means.Declarations.{int_by, int, elements_by, container_type, optional_value, scalar_declaration, auto_declaration}
+use Rattle.sl_grammar.specs.Means.Declarations.{braces, behind_equal_by, constructed, initializer_by, initializer, container_declaration}
+use Rattle.sl_grammar.specs.Means.Declarations.{scalar_param, container_param, container_by, const_param, param_by, param, comma_param, params}
+use Rattle.sl_grammar.specs.Means.Expressions.{expr}
+use Rattle.sl_grammar.specs.Means.Steps.{is_mark}
 use Rattle.sl_grammar.proofs.NearExpressions.{list-near, list_before-near, expr-near}
-use Rattle.sl_grammar.proofs.NearSteps.{Twins, Level, Any, plain, tall, yields, refuses, loose, skipped, chosen, by_test, under, mark-near, identifier-near, repeat-near}
+use Rattle.sl_grammar.proofs.NearSteps.{Twins, Level, Any, plain, tall, yields, refuses, loose, skipped, chosen, by_test, under, mark-near}
+use Rattle.sl_grammar.proofs.NearSteps.{identifier-near, repeat-near}
 
 module _ {b : ℕ} where
-  int_by-near : (kind : Kind) → Twins b 0 Any (int_by kind) (int_by kind)
+  int_by-near : (kind : TokenKind) → Twins b 0 Any (int_by kind) (int_by kind)
   int_by-near (k.Scalar c.Int) s s' = skipped (yields tt)
   int_by-near _ s s' = refuses
 
@@ -33,52 +36,56 @@ module _ {b : ℕ} where
   unfolding container_type
   container_type-near form s s' = skipped (plain (elements_by-near (is_map form) _ _) (λ _ _ _ _. yields tt))
 
-  module _ (room : ℕ) where
-    optional_value-near : Twins b 0 Level (optional_value room) (optional_value room)
+  module _ (depth_left : ℕ) where
+    optional_value-near : Twins b 0 Level (optional_value depth_left) (optional_value depth_left)
     unfolding optional_value
-    optional_value-near s s' = by_test (is_mark m.Equal) (skipped (loose (tall _ _ (expr-near (room + 1) 1 _ _) (λ _ _ _ _ _. yields refl))))
+    optional_value-near s s' = by_test (is_mark m.Equal) (skipped (loose (tall _ _ (expr-near (depth_left + 1) 1 _ _) (λ _ _ _ _ _. yields refl))))
         (yields refl)
 
-    pub scalar_declaration-near : (scalar : Scalar) → Twins b 1 Level (scalar_declaration room scalar) (scalar_declaration room scalar)
+    pub scalar_declaration-near : (scalar : Scalar) → Twins b 1 Level (scalar_declaration depth_left scalar) (scalar_declaration depth_left scalar)
     unfolding scalar_declaration
     scalar_declaration-near scalar s s' = skipped (plain (identifier-near _ _)
         (λ _ _ s s'. tall _ _ (optional_value-near s s') (λ _ _ _ _ _. yields refl)))
 
-    pub auto_declaration-near : Twins b 1 Level (auto_declaration room) (auto_declaration room)
+    pub auto_declaration-near : Twins b 1 Level (auto_declaration depth_left) (auto_declaration depth_left)
     unfolding auto_declaration
     auto_declaration-near s s' = skipped (plain (identifier-near _ _) (λ _ _ s s'. plain (mark-near m.Equal s s')
-        (λ _ _ s s'. tall _ _ (expr-near (room + 1) 1 s s') (λ _ _ _ _ _. yields refl))))
+        (λ _ _ s s'. tall _ _ (expr-near (depth_left + 1) 1 s s') (λ _ _ _ _ _. yields refl))))
 
-    braces-near : (equal : Bool) → Twins b 1 Level (braces room equal) (braces room equal)
+    braces-near : (equal : Bool) → Twins b 1 Level (braces depth_left equal) (braces depth_left equal)
     unfolding braces
-    braces-near equal s s' = tall _ _ (list_before-near (expr (room + 1) 1) (expr room 1) room (expr-near (room + 1) 1)
-        (expr-near room 1) m.RightBrace s s')
+    braces-near equal s s' = tall _ _ (list_before-near (expr (depth_left + 1) 1) (expr depth_left 1) depth_left (expr-near (depth_left + 1) 1)
+        (expr-near depth_left 1) m.RightBrace s s')
         (λ _ _ _ s s'. plain (mark-near m.RightBrace s s') (λ _ _ _ _. yields refl))
 
-    behind_equal_by-near : (kind : Kind) → Twins b 1 Level (behind_equal_by room kind) (behind_equal_by room kind)
+    behind_equal_by-near : (kind : TokenKind) → Twins b 1 Level (behind_equal_by depth_left kind) (behind_equal_by depth_left kind)
     behind_equal_by-near k.Name s s' = plain (identifier-near s s') (λ _ _ _ _. yields refl)
     behind_equal_by-near (k.Mark m.LeftBrace) s s' = skipped (braces-near true _ _)
     behind_equal_by-near _ s s' = refuses
 
-    constructed-near : Twins b 1 Level (constructed room) (constructed room)
+    constructed-near : Twins b 1 Level (constructed depth_left) (constructed depth_left)
     unfolding constructed
-    constructed-near s s' = skipped (tall _ _ (list-near (expr (room + 1) 1) (expr room 1) room (expr-near (room + 1) 1) (expr-near room 1) _ _)
+    constructed-near s s' =
+        skipped (tall _ _
+        (list-near (expr (depth_left + 1) 1) (expr depth_left 1) depth_left (expr-near (depth_left + 1) 1) (expr-near depth_left 1) _ _)
         (λ _ _ _ s s'. plain (mark-near m.RightParenthesis s s') (λ _ _ _ _. yields refl)))
 
-    initializer_by-near : (kind : Kind) → Twins b 0 Level (initializer_by room kind) (initializer_by room kind)
-    initializer_by-near (k.Mark m.Equal) s s' = skipped (loose (chosen (behind_equal_by room) (behind_equal_by room) behind_equal_by-near (drop 1 s)
+    initializer_by-near : (kind : TokenKind) → Twins b 0 Level (initializer_by depth_left kind) (initializer_by depth_left kind)
+    initializer_by-near (k.Mark m.Equal) s s' =
+        skipped (loose (chosen (behind_equal_by depth_left) (behind_equal_by depth_left) behind_equal_by-near (drop 1 s)
         (drop 1 s')))
     initializer_by-near (k.Mark m.LeftBrace) s s' = skipped (loose (braces-near false _ _))
     initializer_by-near (k.Mark m.LeftParenthesis) s s' = loose (constructed-near s s')
     initializer_by-near _ s s' = yields refl
 
-    initializer-near : Twins b 0 Level (initializer room) (initializer room)
+    initializer-near : Twins b 0 Level (initializer depth_left) (initializer depth_left)
     unfolding initializer
-    initializer-near s s' = chosen (initializer_by room) (initializer_by room) initializer_by-near s s'
+    initializer-near s s' = chosen (initializer_by depth_left) (initializer_by depth_left) initializer_by-near s s'
 
-    pub container_declaration-near : (form : Form) → Twins b 1 Level (container_declaration room form) (container_declaration room form)
+    pub container_declaration-near : (form : Form) → Twins b 1 Level (container_declaration depth_left form) (container_declaration depth_left form)
     unfolding container_declaration
-    container_declaration-near form s s' = under (nat_lt 0 room) (plain (container_type-near form s s') (λ _ _ s s'. plain (identifier-near s s')
+    container_declaration-near form s s' =
+        under (nat_lt 0 depth_left) (plain (container_type-near form s s') (λ _ _ s s'. plain (identifier-near s s')
         (λ _ _ s s'. tall _ _ (initializer-near s s') (λ _ _ _ _ _. yields refl))))
 
   scalar_param-near : (place place' : Place) (scalar : Scalar) → Twins b 1 Level (scalar_param place scalar) (scalar_param place' scalar)
@@ -91,7 +98,7 @@ module _ {b : ℕ} where
   container_param-near form s s' = plain (container_type-near form s s') (λ _ _ s s'. plain (mark-near m.And s s')
       (λ _ _ s s'. plain (identifier-near s s') (λ _ _ _ _. yields refl)))
 
-  container_by-near : (kind : Kind) → Twins b 1 Any (container_by kind) (container_by kind)
+  container_by-near : (kind : TokenKind) → Twins b 1 Any (container_by kind) (container_by kind)
   container_by-near (k.Container form) s s' = container_type-near form s s'
   container_by-near _ s s' = refuses
 
@@ -100,7 +107,7 @@ module _ {b : ℕ} where
   const_param-near s s' = skipped (plain (chosen container_by container_by container_by-near (drop 1 s) (drop 1 s'))
       (λ _ _ s s'. plain (mark-near m.And s s') (λ _ _ s s'. plain (identifier-near s s') (λ _ _ _ _. yields refl))))
 
-  param_by-near : (kind : Kind) → Twins b 1 Level (param_by kind) (param_by kind)
+  param_by-near : (kind : TokenKind) → Twins b 1 Level (param_by kind) (param_by kind)
   param_by-near (k.Scalar scalar) s s' = skipped (scalar_param-near _ _ scalar _ _)
   param_by-near (k.Container form) s s' = container_param-near form s s'
   param_by-near k.Const s s' = const_param-near s s'

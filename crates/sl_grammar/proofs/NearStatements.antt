@@ -1,156 +1,166 @@
 -- The readers of statements, functions and programs do the same up to a point.
-use Rattle.std.proofs.Common.{◌≡◌, ℕ, zero, suc, ◌+◌, ◌-◌, ◌≤◌, nat_lt, Bool, ◌&&◌, if◌then◌else◌, List, [], ◌∷◌, length, drop, Option, Some, None, Ok, Err, refl, subst}
+use Rattle.std.proofs.Common.{◌≡◌, ℕ, zero, suc, ◌+◌, ◌-◌, ◌≤◌, nat_lt, Bool, ◌&&◌, if◌then◌else◌, List, [], ◌∷◌, length, drop, Option, Some, None}
+use Rattle.std.proofs.Common.{Ok, Err, refl, subst}
 use Rattle.sl_base.specs.declared.limits.TheConstants.{TREE_DEPTH}
 use Rattle.sl_base.specs.declared.mark.Mark.TheVariants as m
 use Rattle.sl_base.specs.declared.place.Place.{Place}
 use Rattle.sl_base.specs.declared.scalar.Scalar.{Scalar}
 use Rattle.sl_base.specs.declared.token.Token.{Token}
-use Rattle.sl_syntax.specs.declared.kind.Kind.{Kind}
-use Rattle.sl_syntax.specs.declared.kind.Kind.TheVariants as k
+use Rattle.sl_syntax.specs.declared.token_kind.TokenKind.{TokenKind}
+use Rattle.sl_syntax.specs.declared.token_kind.TokenKind.TheVariants as k
 use Rattle.sl_syntax.specs.declared.tree.function.ResultType.{ResultType}
 use Rattle.sl_syntax.specs.declared.tree.function.ResultType.TheVariants as z
 use Rattle.sl_syntax.specs.declared.tree.identifier.Identifier.{Identifier}
 use Rattle.sl_syntax.specs.Tree as t
 use Rattle.sl_syntax.specs.Tree.{Cond, Declaration, First, Stmt}
 use Rattle.sl_grammar.specs.declared.fault.Fault.TheVariants.{Memory}
-use Rattle.sl_grammar.specs.Declarations.{scalar_declaration, auto_declaration, container_declaration}
-use Rattle.sl_grammar.specs.Statements.{is_else, is_item, is_more, ranges, is_auto, declared, item_by, item, braced, block, condition, otherwise, choice, loop, optional_cond, optional_effect, for_behind, range_behind, valued_first, variable_behind, declared_first, for_by, for_loop, returned, return_stmt, effect_stmt, word_stmt, stmt_by, stmt, function_behind, function_by, function, program}
-use Rattle.sl_grammar.specs.Expressions.{expr}
-use Rattle.sl_grammar.specs.Steps.{Reader, Tall, ◌>>=◌, ◌>>◌, pure, here, is_mark, mark}
+use Rattle.sl_grammar.specs.Means.Declarations.{scalar_declaration, auto_declaration, container_declaration}
+use Rattle.sl_grammar.specs.Means.Statements.{is_else, is_item, is_more, ranges, is_auto, declared, item_by, item, braced, block, condition}
+use Rattle.sl_grammar.specs.Means.Statements.{otherwise, choice, loop, optional_cond, optional_effect, for_behind, range_behind, valued_first}
+use Rattle.sl_grammar.specs.Means.Statements.{variable_behind, declared_first, for_by, for_loop, returned, return_stmt, effect_stmt, word_stmt}
+use Rattle.sl_grammar.specs.Means.Statements.{stmt_by, stmt, function_behind, function_by, function, program}
+use Rattle.sl_grammar.specs.Means.Expressions.{expr}
+use Rattle.sl_grammar.specs.Means.Steps.{Reader, Tall, ◌>>=◌, ◌>>◌, pure, here, is_mark, mark}
 use Rattle.sl_grammar.proofs.NearDeclarations.{scalar_declaration-near, auto_declaration-near, container_declaration-near, params-near}
 use Rattle.sl_grammar.proofs.NearEffects.{effect-near, cond-near}
 use Rattle.sl_grammar.proofs.NearExpressions.{expr-near}
-use Rattle.sl_grammar.proofs.NearSteps.{Same, Agree, left_over, Within, left-within, Twins, Level, plain, tall, yields, refuses, loose, skipped, taken, chosen, known, either, by_test, under, mark-near, identifier-near, repeat-near}
+use Rattle.sl_grammar.proofs.NearSteps.{Same, Agree, left_over, Within, left-within, Twins, Level, plain, tall, yields, refuses, loose, skipped}
+use Rattle.sl_grammar.proofs.NearSteps.{taken, chosen, known, either, by_test, under, mark-near, identifier-near, repeat-near}
 
-module _ (room : ℕ) where
+module _ (depth_left : ℕ) where
   abbrev valued : Place → Reader (Tall Stmt)
   valued place = do
-    v ← expr (room + 1) 1
+    v ← expr (depth_left + 1) 1
     mark m.Semicolon
     pure (t.gives_back place (Some v.0), v.1 + 1)
 
-  abbrev returned_by : Place → Kind → Reader (Tall Stmt)
+  abbrev returned_by : Place → TokenKind → Reader (Tall Stmt)
   returned_by place kind = λ s. if is_mark m.Semicolon kind then Ok ((t.gives_back place None, 1), drop 1 s) else valued place s
 
 module _ {b : ℕ} where
-  module _ (room : ℕ) where
+  module _ (depth_left : ℕ) where
     declared-near : (declaration : Reader (Tall Declaration)) → Twins b 1 Level declaration declaration
-        → Twins b 1 Level (declared room declaration) (declared room declaration)
+        → Twins b 1 Level (declared depth_left declaration) (declared depth_left declaration)
     declared-near declaration h s s' = tall _ _ (h s s') (λ _ _ _ s s'. plain (mark-near m.Semicolon s s') (λ _ _ _ _. yields refl))
 
     module _ (stmt : Reader (Tall Stmt)) (h : Twins b 1 Level stmt stmt) where
-      item_by-near : (kind : Kind) → Twins b 1 Level (item_by room stmt kind) (item_by room stmt kind)
-      item_by-near (k.Scalar c) s s' = under (nat_lt 1 room) (declared-near (scalar_declaration (room - 2) c)
-          (scalar_declaration-near (room - 2) c) s s')
-      item_by-near k.Auto s s' = under (nat_lt 1 room) (declared-near (auto_declaration (room - 2)) (auto_declaration-near (room - 2)) s s')
-      item_by-near (k.Container f) s s' = under (nat_lt 1 room) (declared-near (container_declaration (room - 2) f)
-          (container_declaration-near (room - 2) f) s s')
+      item_by-near : (kind : TokenKind) → Twins b 1 Level (item_by depth_left stmt kind) (item_by depth_left stmt kind)
+      item_by-near (k.Scalar c) s s' = under (nat_lt 1 depth_left) (declared-near (scalar_declaration (depth_left - 2) c)
+          (scalar_declaration-near (depth_left - 2) c) s s')
+      item_by-near k.Auto s s' =
+          under (nat_lt 1 depth_left) (declared-near (auto_declaration (depth_left - 2)) (auto_declaration-near (depth_left - 2)) s s')
+      item_by-near (k.Container f) s s' = under (nat_lt 1 depth_left) (declared-near (container_declaration (depth_left - 2) f)
+          (container_declaration-near (depth_left - 2) f) s s')
       item_by-near _ s s' = tall _ _ (h s s') (λ _ _ _ _ _. yields refl)
 
-      item-near : Twins b 1 Level (item room stmt) (item room stmt)
+      item-near : Twins b 1 Level (item depth_left stmt) (item depth_left stmt)
       unfolding item
-      item-near s s' = chosen (item_by room stmt) (item_by room stmt) item_by-near s s'
+      item-near s s' = chosen (item_by depth_left stmt) (item_by depth_left stmt) item_by-near s s'
 
-  module _ (inner : Reader (Tall Stmt)) (room : ℕ) (h : Twins b 1 Level inner inner) where
-    braced-near : Twins b 1 Level (braced inner room) (braced inner room)
+  module _ (inner : Reader (Tall Stmt)) (depth_left : ℕ) (h : Twins b 1 Level inner inner) where
+    braced-near : Twins b 1 Level (braced inner depth_left) (braced inner depth_left)
     unfolding braced
     braced-near s s' = plain (mark-near m.LeftBrace s s') (λ _ _ s s'. tall _ _
-        (repeat-near is_item (item room inner) (item-near room inner h) [] [] 0 s s')
+        (repeat-near is_item (item depth_left inner) (item-near depth_left inner h) [] [] 0 s s')
         (λ _ _ _ s s'. plain (mark-near m.RightBrace s s') (λ _ _ _ _. yields refl)))
 
-    block-near : Twins b 1 Level (block inner room) (block inner room)
+    block-near : Twins b 1 Level (block inner depth_left) (block inner depth_left)
     block-near s s' = tall _ _ (braced-near s s') (λ _ _ _ _ _. yields refl)
 
-    condition-near : Twins b 1 Level (condition inner room) (condition inner room)
+    condition-near : Twins b 1 Level (condition inner depth_left) (condition inner depth_left)
     unfolding condition
-    condition-near s s' = plain (mark-near m.LeftParenthesis s s') (λ _ _ s s'. tall _ _ (cond-near room s s')
+    condition-near s s' = plain (mark-near m.LeftParenthesis s s') (λ _ _ s s'. tall _ _ (cond-near depth_left s s')
         (λ _ _ _ s s'. plain (mark-near m.RightParenthesis s s') (λ _ _ _ _. yields refl)))
 
     otherwise-near : (place place' : Place) (c c' : Cond) (i : ℕ) (x x' : Stmt) (j : ℕ)
-        → Twins b 0 Level (otherwise inner room place (c, i) (x, j)) (otherwise inner room place' (c', i) (x', j))
+        → Twins b 0 Level (otherwise inner depth_left place (c, i) (x, j)) (otherwise inner depth_left place' (c', i) (x', j))
     unfolding otherwise
     otherwise-near place place' c c' i x x' j s s' = by_test is_else (skipped (loose (tall _ _ (h _ _) (λ _ _ _ _ _. yields refl)))) (yields refl)
 
-    choice-near : Twins b 1 Level (choice inner room) (choice inner room)
+    choice-near : Twins b 1 Level (choice inner depth_left) (choice inner depth_left)
     unfolding choice
-    choice-near s s' = under (nat_lt 0 room) (skipped (tall _ _ (condition-near _ _) (λ c c' i s s'. tall _ _ (h s s') (otherwise-near _ _ c c' i))))
+    choice-near s s' =
+        under (nat_lt 0 depth_left) (skipped (tall _ _ (condition-near _ _) (λ c c' i s s'. tall _ _ (h s s') (otherwise-near _ _ c c' i))))
 
-    loop-near : Twins b 1 Level (loop inner room) (loop inner room)
+    loop-near : Twins b 1 Level (loop inner depth_left) (loop inner depth_left)
     unfolding loop
-    loop-near s s' = under (nat_lt 0 room) (skipped (tall _ _ (condition-near _ _) (λ _ _ _ s s'. tall _ _ (h s s') (λ _ _ _ _ _. yields refl))))
+    loop-near s s' =
+        under (nat_lt 0 depth_left) (skipped (tall _ _ (condition-near _ _) (λ _ _ _ s s'. tall _ _ (h s s') (λ _ _ _ _ _. yields refl))))
 
-    optional_cond-near : Twins b 0 Level (optional_cond inner room) (optional_cond inner room)
+    optional_cond-near : Twins b 0 Level (optional_cond inner depth_left) (optional_cond inner depth_left)
     unfolding optional_cond
-    optional_cond-near s s' = by_test (is_mark m.Semicolon) (yields refl) (loose (tall _ _ (cond-near room s s') (λ _ _ _ _ _. yields refl)))
+    optional_cond-near s s' = by_test (is_mark m.Semicolon) (yields refl) (loose (tall _ _ (cond-near depth_left s s') (λ _ _ _ _ _. yields refl)))
 
-    optional_effect-near : Twins b 0 Level (optional_effect inner room) (optional_effect inner room)
+    optional_effect-near : Twins b 0 Level (optional_effect inner depth_left) (optional_effect inner depth_left)
     unfolding optional_effect
     optional_effect-near s s' = by_test (is_mark m.RightParenthesis) (yields refl)
-        (loose (tall _ _ (effect-near room s s') (λ _ _ _ _ _. yields refl)))
+        (loose (tall _ _ (effect-near depth_left s s') (λ _ _ _ _ _. yields refl)))
 
     for_behind-near : (place place' : Place) (x y : Option First) (z : ℕ)
-        → Twins b 1 Level (for_behind inner room place (x, z)) (for_behind inner room place' (y, z))
+        → Twins b 1 Level (for_behind inner depth_left place (x, z)) (for_behind inner depth_left place' (y, z))
     unfolding for_behind
     for_behind-near place place' x y z s s' = plain (mark-near m.Semicolon s s') (λ _ _ s s'. tall _ _ (optional_cond-near s s')
         (λ _ _ _ s s'. plain (mark-near m.Semicolon s s') (λ _ _ s s'. tall _ _ (optional_effect-near s s')
         (λ _ _ _ s s'. plain (mark-near m.RightParenthesis s s') (λ _ _ s s'. tall _ _ (h s s') (λ _ _ _ _ _. yields refl))))))
 
     range_behind-near : (place place' : Place) (auto : Bool) (x y : Identifier)
-        → Twins b 1 Level (range_behind inner room place auto x) (range_behind inner room place' auto y)
+        → Twins b 1 Level (range_behind inner depth_left place auto x) (range_behind inner depth_left place' auto y)
     unfolding range_behind
     range_behind-near place place' auto x y s s' = plain (mark-near m.Colon s s') (λ _ _ s s'. plain (identifier-near s s')
         (λ _ _ s s'. plain (mark-near m.RightParenthesis s s') (λ _ _ s s'. tall _ _ (h s s') (λ _ _ _ _ _. yields refl))))
 
     valued_first-near : (place place' at at' : Place) (type : Option Scalar) (x y : Identifier)
-        → Twins b 1 Level (valued_first inner room place at type x) (valued_first inner room place' at' type y)
+        → Twins b 1 Level (valued_first inner depth_left place at type x) (valued_first inner depth_left place' at' type y)
     unfolding valued_first
     valued_first-near place place' at at' type x y s s' = plain (mark-near m.Equal s s')
-        (λ _ _ s s'. tall _ _ (expr-near room 1 s s') (λ _ _ z s s'. for_behind-near place place' _ _ (z + 1) s s'))
+        (λ _ _ s s'. tall _ _ (expr-near depth_left 1 s s') (λ _ _ z s s'. for_behind-near place place' _ _ (z + 1) s s'))
 
     variable_behind-near : (place place' at at' : Place) (type : Option Scalar) (x y : Identifier)
-        → Twins b 1 Level (variable_behind inner room place at type x) (variable_behind inner room place' at' type y)
+        → Twins b 1 Level (variable_behind inner depth_left place at type x) (variable_behind inner depth_left place' at' type y)
     unfolding variable_behind
     variable_behind-near place place' at at' type x y s s' = by_test (λ v. ranges type && is_mark m.Colon v)
         (range_behind-near place place' (is_auto type) x y s s') (valued_first-near place place' at at' type x y s s')
 
     declared_first-near : (place place' : Place) (type : Option Scalar)
-        → Twins b 1 Level (declared_first inner room place type) (declared_first inner room place' type)
+        → Twins b 1 Level (declared_first inner depth_left place type) (declared_first inner depth_left place' type)
     unfolding declared_first
     declared_first-near place place' type s s' = skipped (plain (identifier-near _ _)
         (λ x y s s'. loose (variable_behind-near place place' _ _ type x y s s')))
 
-    for_by-near : (place place' : Place) (kind : Kind) → Twins b 1 Level (for_by inner room place kind) (for_by inner room place' kind)
+    for_by-near : (place place' : Place) (kind : TokenKind)
+        → Twins b 1 Level (for_by inner depth_left place kind) (for_by inner depth_left place' kind)
     for_by-near place place' (k.Scalar c) s s' = declared_first-near place place' (Some c) s s'
     for_by-near place place' k.Auto s s' = declared_first-near place place' None s s'
     for_by-near place place' (k.Mark m.Semicolon) s s' = for_behind-near place place' None None 0 s s'
-    for_by-near place place' _ s s' = tall _ _ (effect-near room s s') (λ x y z s s'. for_behind-near place place' (Some (t.first_effect x))
+    for_by-near place place' _ s s' = tall _ _ (effect-near depth_left s s') (λ x y z s s'. for_behind-near place place' (Some (t.first_effect x))
         (Some (t.first_effect y)) z s s')
 
-    for_loop-near : Twins b 1 Level (for_loop inner room) (for_loop inner room)
+    for_loop-near : Twins b 1 Level (for_loop inner depth_left) (for_loop inner depth_left)
     unfolding for_loop
-    for_loop-near s s' = under (nat_lt 0 room) (skipped (plain (mark-near m.LeftParenthesis _ _)
-        (λ _ _ u u'. chosen (for_by inner room (here s)) (for_by inner room (here s')) (for_by-near (here s) (here s')) u u')))
+    for_loop-near s s' = under (nat_lt 0 depth_left) (skipped (plain (mark-near m.LeftParenthesis _ _)
+        (λ _ _ u u'. chosen (for_by inner depth_left (here s)) (for_by inner depth_left (here s')) (for_by-near (here s) (here s')) u u')))
 
-    valued-near : (place place' : Place) → Twins b 1 Level (valued room place) (valued room place')
-    valued-near place place' s s' = tall _ _ (expr-near (room + 1) 1 s s') (λ _ _ _ s s'. plain (mark-near m.Semicolon s s') (λ _ _ _ _. yields refl))
+    valued-near : (place place' : Place) → Twins b 1 Level (valued depth_left place) (valued depth_left place')
+    valued-near place place' s s' =
+        tall _ _ (expr-near (depth_left + 1) 1 s s') (λ _ _ _ s s'. plain (mark-near m.Semicolon s s') (λ _ _ _ _. yields refl))
 
-    returned-near : (place place' : Place) → Twins b 1 Level (returned inner room place) (returned inner room place')
-    returned-near place place' s s' = known (returned_by room place) (returned_by room place') (valued-near place place')
+    returned-near : (place place' : Place) → Twins b 1 Level (returned inner depth_left place) (returned inner depth_left place')
+    returned-near place place' s s' = known (returned_by depth_left place) (returned_by depth_left place') (valued-near place place')
         (λ v u u' l l'. either (is_mark m.Semicolon v) (taken l l' refl) (valued-near place place' u u')) s s'
 
-    return_stmt-near : Twins b 1 Level (return_stmt inner room) (return_stmt inner room)
+    return_stmt-near : Twins b 1 Level (return_stmt inner depth_left) (return_stmt inner depth_left)
     unfolding return_stmt
     return_stmt-near s s' = skipped (returned-near _ _ _ _)
 
-    effect_stmt-near : Twins b 1 Level (effect_stmt inner room) (effect_stmt inner room)
+    effect_stmt-near : Twins b 1 Level (effect_stmt inner depth_left) (effect_stmt inner depth_left)
     unfolding effect_stmt
-    effect_stmt-near s s' = tall _ _ (effect-near room s s') (λ _ _ _ s s'. plain (mark-near m.Semicolon s s') (λ _ _ _ _. yields refl))
+    effect_stmt-near s s' = tall _ _ (effect-near depth_left s s') (λ _ _ _ s s'. plain (mark-near m.Semicolon s s') (λ _ _ _ _. yields refl))
 
-    word_stmt-near : (f : Place → Stmt) → Twins b 1 Level (word_stmt inner room f) (word_stmt inner room f)
+    word_stmt-near : (f : Place → Stmt) → Twins b 1 Level (word_stmt inner depth_left f) (word_stmt inner depth_left f)
     unfolding word_stmt
     word_stmt-near f s s' = skipped (plain (mark-near m.Semicolon _ _) (λ _ _ _ _. yields refl))
 
-    stmt_by-near : (kind : Kind) → Twins b 1 Level (stmt_by inner room kind) (stmt_by inner room kind)
+    stmt_by-near : (kind : TokenKind) → Twins b 1 Level (stmt_by inner depth_left kind) (stmt_by inner depth_left kind)
     stmt_by-near (k.Mark m.LeftBrace) s s' = block-near s s'
     stmt_by-near k.If s s' = choice-near s s'
     stmt_by-near k.While s s' = loop-near s s'
@@ -163,7 +173,9 @@ module _ {b : ℕ} where
   stmt-near : (n : ℕ) → Twins b 1 Level (stmt n) (stmt n)
   unfolding stmt
   stmt-near zero s s' = refuses
-  stmt-near (suc room) s s' = chosen (stmt_by (stmt room) room) (stmt_by (stmt room) room) (stmt_by-near (stmt room) room (stmt-near room)) s s'
+  stmt-near (suc depth_left) s s' =
+      chosen (stmt_by (stmt depth_left) depth_left) (stmt_by (stmt depth_left) depth_left)
+      (stmt_by-near (stmt depth_left) depth_left (stmt-near depth_left)) s s'
 
   function_behind-near : (result : ResultType) → Twins b 1 Level (function_behind result) (function_behind result)
   unfolding function_behind
@@ -172,7 +184,7 @@ module _ {b : ℕ} where
       (λ _ _ _ s s'. plain (mark-near m.RightParenthesis s s') (λ _ _ s s'. tall _ _
       (braced-near (stmt (TREE_DEPTH - 2)) (TREE_DEPTH - 2) (stmt-near (TREE_DEPTH - 2)) s s') (λ _ _ _ _ _. yields refl))))))
 
-  function_by-near : (kind : Kind) → Twins b 1 Level (function_by kind) (function_by kind)
+  function_by-near : (kind : TokenKind) → Twins b 1 Level (function_by kind) (function_by kind)
   function_by-near k.Void s s' = function_behind-near z.Void s s'
   function_by-near (k.Scalar c) s s' = function_behind-near (z.Scalar c) s s'
   function_by-near _ s s' = refuses

@@ -1,12 +1,17 @@
 -- Two readings of the same words do the same up to a point: what is said of steps, and of how they are put together.
-use Rattle.std.proofs.Common.{◌≡◌, ℕ, zero, suc, ◌+◌, ◌<◌, ◌≤◌, max, Bool, true, false, if◌then◌else◌, List, [], ◌∷◌, ◌++◌, length, drop, Ok, Err, refl, ap, subst, arith, length-drop}
+use Rattle.std.proofs.Common.{◌≡◌, ℕ, zero, suc, ◌+◌, ◌<◌, ◌≤◌, max, Bool, true, false, if◌then◌else◌, List, [], ◌∷◌, ◌++◌, length, drop, Ok, Err}
+use Rattle.std.proofs.Common.{refl, ap, subst, arith, length-drop}
 use Rattle.sl_base.specs.declared.mark.Mark.{Mark}
+use Rattle.sl_base.specs.declared.place.Place.{Place}
 use Rattle.sl_base.specs.declared.token.Token.{Token}
-use Rattle.sl_syntax.specs.declared.kind.Kind.{Kind}
-use Rattle.sl_syntax.specs.declared.kind.Kind.TheVariants as k
-use Rattle.sl_syntax.specs.Kinds.{kind_of}
+use Rattle.sl_base.specs.declared.word.Word.{Word}
+use Rattle.sl_base.specs.declared.word.Word.TheVariants as w
+use Rattle.sl_syntax.specs.declared.token_kind.TokenKind.{TokenKind}
+use Rattle.sl_syntax.specs.declared.token_kind.TokenKind.TheVariants as k
+use Rattle.sl_syntax.specs.TokenKinds.{kind_of}
 use Rattle.sl_grammar.specs.declared.fault.Fault.TheVariants.{Memory, Grammar}
-use Rattle.sl_grammar.specs.Steps.{refusal, Outcome, Reader, Tall, and_then, kind_at, here, is_mark, mark, identifier, identifier_by, library, library_by, repeat, all_behind}
+use Rattle.sl_grammar.specs.Means.Steps.{refusal, Outcome, Reader, Tall, and_then, kind_at, here, is_mark, mark, by_word, identifier, identifier_by}
+use Rattle.sl_grammar.specs.Means.Steps.{library, library_by, repeat, all_behind}
 
 -- how many tokens are left where a reader stops
 abbrev pub left_over : {A : Type 0} → Outcome A → ℕ
@@ -90,10 +95,16 @@ none-left (Err (Grammar zero)) h = refl
 none-left (Err (Grammar (suc k))) h = absurd (omega (arith, h))
 none-left (Err Memory) h = absurd h
 
-known-within : {A : Type 0} (d : ℕ) (F : Kind → Reader A) → Within d 0 (F k.End [])
-    → ((k : Kind) (s : List Token) → 1 ≤ length s → Within d (length s) (F k s)) → (s : List Token) → Within d (length s) (F (kind_at s) s)
+known-within : {A : Type 0} (d : ℕ) (F : TokenKind → Reader A) → Within d 0 (F k.End [])
+    → ((k : TokenKind) (s : List Token) → 1 ≤ length s → Within d (length s) (F k s)) → (s : List Token) → Within d (length s) (F (kind_at s) s)
 known-within d F l h [] = l
 known-within d F l h (t ∷ ts) = h (kind_of t.word) (t ∷ ts) (omega arith)
+
+worded-within : {A : Type 0} (d : ℕ) (F : Place → Word → Reader A)
+    → ((p : Place) (x : Word) (s : List Token) → 1 ≤ length s → Within d (length s) (F p x s))
+    → (s : List Token) → Within d (length s) (by_word F s)
+worded-within d F h [] = omega arith
+worded-within d F h (t ∷ ts) = h t.place t.word (t ∷ ts) (omega arith)
 
 module _ (b : ℕ) (s s' : List Token) where
   data Met : Type 0 where
@@ -176,7 +187,8 @@ module _ {b : ℕ} where
   }
 
   -- a choice by the next word
-  pub choose : {A : Type 0} {d : ℕ} {R : A → A → Type 0} {s s' : List Token} (F G : Kind → Outcome A) → ((k : Kind) → Near b d R s s' (F k) (G k))
+  pub choose : {A : Type 0} {d : ℕ} {R : A → A → Type 0} {s s' : List Token} (F G : TokenKind → Outcome A)
+      → ((k : TokenKind) → Near b d R s s' (F k) (G k))
       → Near b d R s s' (F (kind_at s)) (G (kind_at s'))
   choose {A} {d} {R} {s} {s'} F G h = record {
     agrees = λ e. elim (meets b s s' e) as (λ _. Agree b R (F (kind_at s)) (G (kind_at s'))) [
@@ -187,7 +199,7 @@ module _ {b : ℕ} where
     within' = (h (kind_at s')).within';
   }
 
-  pub chosen : {A : Type 0} {d : ℕ} {R : A → A → Type 0} (F G : Kind → Reader A) → ((k : Kind) → Twins b d R (F k) (G k))
+  pub chosen : {A : Type 0} {d : ℕ} {R : A → A → Type 0} (F G : TokenKind → Reader A) → ((k : TokenKind) → Twins b d R (F k) (G k))
       → Twins b d R (λ s. F (kind_at s) s) (λ s. G (kind_at s) s)
   chosen F G h s s' = choose (λ k. F k s) (λ k. G k s') (λ k. h k s s')
 
@@ -198,7 +210,7 @@ module _ {b : ℕ} where
   either false m n = n
 
   -- a test of the next word
-  pub by_test : {A : Type 0} {d : ℕ} {R : A → A → Type 0} {s s' : List Token} {o o' u u' : Outcome A} (goes : Kind → Bool) → Near b d R s s' o o'
+  pub by_test : {A : Type 0} {d : ℕ} {R : A → A → Type 0} {s s' : List Token} {o o' u u' : Outcome A} (goes : TokenKind → Bool) → Near b d R s s' o o'
       → Near b d R s s' u u' → Near b d R s s' (if goes (kind_at s) then o else u) (if goes (kind_at s') then o' else u')
   by_test {o} {o'} {u} {u'} goes m n = choose (λ k. if goes k then o else u) (λ k. if goes k then o' else u') (λ k. either (goes k) m n)
 
@@ -207,8 +219,8 @@ module _ {b : ℕ} where
   under t m = either t m refuses
 
   -- a choice by the next word, which there is where it isn't the end
-  pub known : {A : Type 0} {d : ℕ} {R : A → A → Type 0} (F G : Kind → Reader A) → Twins b d R (F k.End) (G k.End)
-      → ((k : Kind) (s s' : List Token) → 1 ≤ length s → 1 ≤ length s' → Near b d R s s' (F k s) (G k s'))
+  pub known : {A : Type 0} {d : ℕ} {R : A → A → Type 0} (F G : TokenKind → Reader A) → Twins b d R (F k.End) (G k.End)
+      → ((k : TokenKind) (s s' : List Token) → 1 ≤ length s → 1 ≤ length s' → Near b d R s s' (F k s) (G k s'))
       → Twins b d R (λ s. F (kind_at s) s) (λ s. G (kind_at s) s)
   known {A} {d} {R} F G n h s s' = record {
     agrees = known-agrees s s';
@@ -229,24 +241,43 @@ module _ {b : ℕ} where
       (λ k u. if is_mark m k then Ok (here u, drop 1 u) else Err (refusal u))
       (λ _ _. refuses) (λ k u u' l l'. under (is_mark m k) (taken l l' tt)) s s'
 
-  identifier_by-near : (k : Kind) (s s' : List Token) → 1 ≤ length s → 1 ≤ length s' → Near b 1 Any s s' (identifier_by k s) (identifier_by k s')
-  identifier_by-near k.Name s s' l l' = taken l l' tt
-  identifier_by-near _ s s' l l' = refuses
+  -- a choice by the next word itself, whose place may differ
+  worded : {A : Type 0} {d : ℕ} {R : A → A → Type 0} (F : Place → Word → Reader A)
+      → ((x : Word) (p p' : Place) (s s' : List Token) → 1 ≤ length s → 1 ≤ length s' → Near b d R s s' (F p x s) (F p' x s'))
+      → Twins b d R (by_word F) (by_word F)
+  worded {A} {d} {R} F h s s' = record {
+    agrees = worded-agrees s s';
+    within = worded-within d F (λ p x u l. (h x p p u u l l).within) s;
+    within' = worded-within d F (λ p x u l. (h x p p u u l l).within') s';
+  } where
+    worded-agrees : (s s' : List Token) → Same b s s' → Agree b R (by_word F s) (by_word F s')
+    worded-agrees _ _ (step t t' ts ts' q r) =
+        subst (λ z. Agree b R (F t.place t.word (t ∷ ts)) (F t'.place z (t' ∷ ts'))) q
+        ((h t.word t.place t'.place (t ∷ ts) (t' ∷ ts') (omega arith) (omega arith)).agrees (step t t' ts ts' q r))
+    worded-agrees _ _ end = at_fault [] [] end
+    worded-agrees _ _ (cut u u' c) = past (by_word F u) (by_word F u')
+        (omega (arith, c, left-within d (length u) (by_word F u) (worded-within d F (λ p x v l. (h x p p v v l l).within) u)))
+
+  identifier_by-near : (x : Word) (p p' : Place) (s s' : List Token) → 1 ≤ length s → 1 ≤ length s'
+      → Near b 1 Any s s' (identifier_by p x s) (identifier_by p' x s')
+  identifier_by-near (w.Name n) p p' s s' l l' = taken l l' tt
+  identifier_by-near _ p p' s s' l l' = refuses
 
   pub identifier-near : Twins b 1 Any identifier identifier
   unfolding identifier
-  identifier-near s s' = known identifier_by identifier_by (λ _ _. refuses) identifier_by-near s s'
+  identifier-near s s' = worded identifier_by identifier_by-near s s'
 
-  library_by-near : (k : Kind) (s s' : List Token) → 1 ≤ length s → 1 ≤ length s' → Near b 1 Any s s' (library_by k s) (library_by k s')
-  library_by-near k.Library s s' l l' = taken l l' tt
-  library_by-near _ s s' l l' = refuses
+  library_by-near : (x : Word) (p p' : Place) (s s' : List Token) → 1 ≤ length s → 1 ≤ length s'
+      → Near b 1 Any s s' (library_by p x s) (library_by p' x s')
+  library_by-near (w.Lib n) p p' s s' l l' = taken l l' tt
+  library_by-near _ p p' s s' l l' = refuses
 
   pub library-near : Twins b 1 Any library library
   unfolding library
-  library-near s s' = known library_by library_by (λ _ _. refuses) library_by-near s s'
+  library-near s s' = worded library_by library_by-near s s'
 
   -- items that take a token each
-  module _ {A : Type 0} (goes : Kind → Bool) (item : Reader (Tall A)) (h : Twins b 1 Level item item) where
+  module _ {A : Type 0} (goes : TokenKind → Bool) (item : Reader (Tall A)) (h : Twins b 1 Level item item) where
     repeat-within : (n : ℕ) (done : Tall (List A)) (s : List Token) → Within 0 (length s) (repeat goes item n done s)
     unfolding repeat
     repeat-within zero done s = elim (goes (kind_at s)) as (λ t. Within 0 (length s)

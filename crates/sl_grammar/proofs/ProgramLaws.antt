@@ -1,5 +1,6 @@
 -- The laws of the reader of programs, put together: what it reads and where it stops, against the definitions of the grammar.
-use Rattle.std.proofs.Common.{◌≡◌, ℕ, zero, suc, ◌+◌, ◌-◌, ◌<◌, ◌≤◌, List, [], ◌∷◌, ◌++◌, length, take, map, Ok, Err, refl, sym, ap, ◌∙◌, subst, arith, length-append}
+use Rattle.std.proofs.Common.{◌≡◌, ℕ, zero, suc, ◌+◌, ◌-◌, ◌<◌, ◌≤◌, List, [], ◌∷◌, ◌++◌, length, take, map, Ok, Err, refl, sym, ap, ◌∙◌, subst}
+use Rattle.std.proofs.Common.{arith, length-append}
 use Rattle.std.proofs.lemmas.List.{length-map, map-append}
 use Rattle.std.proofs.Math.Seq.{take-append_seam}
 use Rattle.sl_base.specs.declared.token.Token.{Token}
@@ -14,8 +15,8 @@ use Rattle.sl_syntax.specs.Written.{words, program_written}
 use Rattle.sl_syntax.proofs.BlankLaws.{blank-placed_alone, placed-words}
 use Rattle.sl_syntax.proofs.BlankShape.{blank-shaped}
 use Rattle.sl_grammar.specs.declared.fault.Fault.TheVariants.{Grammar}
-use Rattle.sl_grammar.specs.Statements.{program}
-use Rattle.sl_grammar.specs.Steps.{Outcome, Tall}
+use Rattle.sl_grammar.specs.Means.Statements.{program}
+use Rattle.sl_grammar.specs.Means.Steps.{Outcome, Tall}
 use Rattle.sl_grammar.proofs.CompletePrograms.{reads_program}
 use Rattle.sl_grammar.proofs.NearStatements.{near_program, program-shrinks}
 use Rattle.sl_grammar.proofs.NearSteps.{Same, step, end, cut, Agree, in_step, at_fault, past, left_over, Level}
@@ -83,7 +84,8 @@ same_read a b h k e = ap (λ (y : Tall Program × List Token). y.0.0) (ok_one e)
 -- the words before the last of two lists, where the first has all the others
 words_before : (ts front rest : List Token) → ts ≡ front ++ rest → take (length ts - length rest) (words_in ts) ≡ words_in front
 words_before ts front rest e =
-    let n : length ts - length rest ≡ length (words_in front) = omega (arith, ap length e, length-append front rest, length-map front (λ (t : Token). t.word)) in
+    let n : length ts - length rest ≡ length (words_in front) =
+    omega (arith, ap length e, length-append front rest, length-map front (λ (t : Token). t.word)) in
     let ws : words_in ts ≡ words_in front ++ words_in rest = ap words_in e ∙ map-append (λ (t : Token). t.word) front rest in
     rw (n, ws) (take-append_seam (words_in front) (words_in rest))
 

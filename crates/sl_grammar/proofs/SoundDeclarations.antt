@@ -9,8 +9,8 @@ use Rattle.sl_base.specs.declared.scalar.Scalar.{Scalar}
 use Rattle.sl_base.specs.declared.scalar.Scalar.TheVariants as c
 use Rattle.sl_base.specs.declared.token.Token.{Token}
 use Rattle.sl_base.specs.declared.word.Word.TheVariants as w
-use Rattle.sl_syntax.specs.declared.kind.Kind.{Kind}
-use Rattle.sl_syntax.specs.declared.kind.Kind.TheVariants as k
+use Rattle.sl_syntax.specs.declared.token_kind.TokenKind.{TokenKind}
+use Rattle.sl_syntax.specs.declared.token_kind.TokenKind.TheVariants as k
 use Rattle.sl_syntax.specs.declared.tree.declaration.ContainerType.{ContainerType}
 use Rattle.sl_syntax.specs.declared.tree.function.Param.{Param}
 use Rattle.sl_syntax.specs.declared.tree.identifier.Identifier.{Identifier}
@@ -19,27 +19,31 @@ use Rattle.sl_syntax.specs.Shaped.{IsExpr, IfThere, IsInitializer, IsDeclaration
 use Rattle.sl_syntax.specs.Tree as t
 use Rattle.sl_syntax.specs.Tree.{Expr, Exprs, Initializer, Declaration}
 use Rattle.sl_syntax.specs.Written as s
-use Rattle.sl_syntax.specs.Written.{Written, at, plain, is_map, scalar_word, form_word, elements_written, container_written, written, list_written, initializer_written, value_written, declaration_written, option_written, param_written, params_written}
-use Rattle.sl_grammar.specs.Declarations.{int_by, int, elements_by, container_type, optional_value, scalar_declaration, auto_declaration, braces, behind_equal_by, constructed, initializer_by, initializer, container_declaration, scalar_param, container_param, container_by, const_param, param_by, param, comma_param, params}
-use Rattle.sl_grammar.specs.Expressions.{expr, list, list_before}
-use Rattle.sl_grammar.specs.Steps.{kind_at, here, is_mark, mark, identifier}
+use Rattle.sl_syntax.specs.Written.{Written, at, plain, is_map, scalar_word, form_word, elements_written, container_written, written, list_written}
+use Rattle.sl_syntax.specs.Written.{initializer_written, value_written, declaration_written, option_written, param_written, params_written}
+use Rattle.sl_grammar.specs.Means.Declarations.{int_by, int, elements_by, container_type, optional_value, scalar_declaration, auto_declaration}
+use Rattle.sl_grammar.specs.Means.Declarations.{braces, behind_equal_by, constructed, initializer_by, initializer, container_declaration}
+use Rattle.sl_grammar.specs.Means.Declarations.{scalar_param, container_param, container_by, const_param, param_by, param, comma_param, params}
+use Rattle.sl_grammar.specs.Means.Expressions.{expr, list, list_before}
+use Rattle.sl_grammar.specs.Means.Steps.{kind_at, here, is_mark, mark, identifier}
 use Rattle.sl_grammar.proofs.Rows.{Anything, comma_param_written}
 use Rattle.sl_grammar.proofs.SoundExpressions.{sound, whole-part}
 use Rattle.sl_grammar.proofs.SoundLists.{list-part, list-before-part}
-use Rattle.sl_grammar.proofs.SoundSteps.{Took, bound, chosen, guarded, answered, one_word, one_plain, seen, mark_plain, identifier_took, Part, Parts, behind}
+use Rattle.sl_grammar.proofs.SoundSteps.{Took, bound, chosen, guarded, answered, one_word, one_plain, seen, mark_plain, identifier_took, Part, Parts}
+use Rattle.sl_grammar.proofs.SoundSteps.{behind}
 use Rattle.sl_grammar.proofs.Spelling.{Spelled, ◌⨾◌, no_words, respelled}
 
 -- what is read from these tokens
 abbrev pub DeclarationAt : ℕ → List Token → Took Declaration → Type 0
-DeclarationAt room ts y = Part declaration_written IsDeclaration declaration_height room ts y.0 y.1
+DeclarationAt depth_left ts y = Part declaration_written IsDeclaration declaration_height depth_left ts y.0 y.1
 
 abbrev pub InitializerAt : ℕ → List Token → Took Initializer → Type 0
-InitializerAt room ts y = Part initializer_written IsInitializer initializer_height room ts y.0 y.1
+InitializerAt depth_left ts y = Part initializer_written IsInitializer initializer_height depth_left ts y.0 y.1
 
 abbrev pub ParamAt : ℕ → List Token → Took Param → Type 0
-ParamAt room ts y = Part param_written Anything param_height room ts y.0 y.1
+ParamAt depth_left ts y = Part param_written Anything param_height depth_left ts y.0 y.1
 
-int-by : (kind : Kind) (ts : List Token) (y : Unit {0} × List Token) → kind_at ts ≡ kind → int_by kind ts ≡ Ok y
+int-by : (kind : TokenKind) (ts : List Token) (y : Unit {0} × List Token) → kind_at ts ≡ kind → int_by kind ts ≡ Ok y
     → Spelled (plain (scalar_word c.Int) ∷ []) ts y.1
 int-by (k.Scalar c.Int) ts y e h = answered _ y (λ z. Spelled (plain (scalar_word c.Int) ∷ []) ts z.1) h
     (one_plain ts (k.Scalar c.Int) (scalar_word c.Int) e refl)
@@ -90,26 +94,26 @@ pub braces-written : (equal : Bool) (xs : Exprs)
 braces-written true xs = refl
 braces-written false xs = refl
 
-module _ (room : ℕ) where
-  value-part : Parts (option_written value_written) (IfThere IsExpr) (option_height height) room (optional_value room)
+module _ (depth_left : ℕ) where
+  value-part : Parts (option_written value_written) (IfThere IsExpr) (option_height height) depth_left (optional_value depth_left)
   unfolding optional_value
   value-part ts y h =
-      let P : Took (Option Expr) → Type 0 = λ z. Part (option_written value_written) (IfThere IsExpr) (option_height height) room ts z.0 z.1 in
+      let P : Took (Option Expr) → Type 0 = λ z. Part (option_written value_written) (IfThere IsExpr) (option_height height) depth_left ts z.0 z.1 in
       chosen (is_mark m.Equal (kind_at ts)) _ _ _ (P y) h
       (λ equal h1.
-      bound (expr (room + 1) 1 (drop 1 ts)) _ y P h1 (λ x read h2.
-      let found = whole-part room (drop 1 ts) x read in
+      bound (expr (depth_left + 1) 1 (drop 1 ts)) _ y P h1 (λ x read h2.
+      let found = whole-part depth_left (drop 1 ts) x read in
       answered _ y P h2 (record { spelled = seen m.Equal ts equal ⨾ found.spelled; fits = found.fits; size = found.size; low = found.low })))
       (λ bare h1. answered _ y P h1 (record { spelled = no_words ts; fits = tt; size = refl; low = omega arith }))
 
   pub scalar-part : (scalar : Scalar) (ts : List Token) (y : Took Declaration) → kind_at ts ≡ k.Scalar scalar
-      → scalar_declaration room scalar ts ≡ Ok y
-      → DeclarationAt (room + 1) ts y
+      → scalar_declaration depth_left scalar ts ≡ Ok y
+      → DeclarationAt (depth_left + 1) ts y
   unfolding scalar_declaration
   scalar-part scalar ts y e h =
-      let P : Took Declaration → Type 0 = DeclarationAt (room + 1) ts in
+      let P : Took Declaration → Type 0 = DeclarationAt (depth_left + 1) ts in
       bound (identifier (drop 1 ts)) _ y P h (λ x name h1.
-      bound (optional_value room x.1) _ y P h1 (λ v read h2.
+      bound (optional_value depth_left x.1) _ y P h1 (λ v read h2.
       let found = value-part x.1 v read in
       answered _ y P h2 (record {
         spelled = respelled (scalar-written (here ts) scalar x.0 v.0.0)
@@ -119,15 +123,15 @@ module _ (room : ℕ) where
         low = omega (arith, found.low);
       })))
 
-  pub auto-part : (ts : List Token) (y : Took Declaration) → kind_at ts ≡ k.Auto → auto_declaration room ts ≡ Ok y
-      → DeclarationAt (room + 1) ts y
+  pub auto-part : (ts : List Token) (y : Took Declaration) → kind_at ts ≡ k.Auto → auto_declaration depth_left ts ≡ Ok y
+      → DeclarationAt (depth_left + 1) ts y
   unfolding auto_declaration
   auto-part ts y e h =
-      let P : Took Declaration → Type 0 = DeclarationAt (room + 1) ts in
+      let P : Took Declaration → Type 0 = DeclarationAt (depth_left + 1) ts in
       bound (identifier (drop 1 ts)) _ y P h (λ x name h1.
       bound (mark m.Equal x.1) _ y P h1 (λ u equal h2.
-      bound (expr (room + 1) 1 u.1) _ y P h2 (λ v read h3.
-      let found = whole-part room u.1 v read in
+      bound (expr (depth_left + 1) 1 u.1) _ y P h2 (λ v read h3.
+      let found = whole-part depth_left u.1 v read in
       answered _ y P h3 (record {
         spelled = one_word ts k.Auto (w.Key (codes "auto")) e refl
             ⨾ (identifier_took (drop 1 ts) x name ⨾ (mark_plain m.Equal x.1 u equal ⨾ found.spelled));
@@ -136,20 +140,21 @@ module _ (room : ℕ) where
         low = omega (arith, found.low);
       }))))
 
-  pub inner-part : (ts : List Token) (y : Took Expr) → expr room 1 ts ≡ Ok y → (0 < room) × Part written IsExpr height (room - 1) ts y.0 y.1
+  pub inner-part : (ts : List Token) (y : Took Expr) → expr depth_left 1 ts ≡ Ok y
+      → (0 < depth_left) × Part written IsExpr height (depth_left - 1) ts y.0 y.1
   inner-part ts y h =
-      let found = sound room 1 ts y (omega arith) (omega arith) h in
+      let found = sound depth_left 1 ts y (omega arith) (omega arith) h in
       (found.0, found.1.part)
 
-  braces-part : (equal : Bool) (ts us : List Token) (y : Took Initializer) → Spelled (opening equal) ts us → braces room equal us ≡ Ok y
-      → InitializerAt room ts y
+  braces-part : (equal : Bool) (ts us : List Token) (y : Took Initializer) → Spelled (opening equal) ts us → braces depth_left equal us ≡ Ok y
+      → InitializerAt depth_left ts y
   unfolding braces
   braces-part equal ts us y opened h =
-      let P : Took Initializer → Type 0 = InitializerAt room ts in
-      bound (list_before (expr (room + 1) 1) (expr room 1) room m.RightBrace us) _ y P h (λ xs read h1.
+      let P : Took Initializer → Type 0 = InitializerAt depth_left ts in
+      bound (list_before (expr (depth_left + 1) 1) (expr depth_left 1) depth_left m.RightBrace us) _ y P h (λ xs read h1.
       bound (mark m.RightBrace xs.1) _ y P h1 (λ v closed h2.
-      let found = list-before-part (expr (room + 1) 1) (expr room 1) room
-      (whole-part room) inner-part m.RightBrace us xs read in
+      let found = list-before-part (expr (depth_left + 1) 1) (expr depth_left 1) depth_left
+      (whole-part depth_left) inner-part m.RightBrace us xs read in
       answered _ y P h2 (record {
         spelled = respelled (braces-written equal xs.0.0) (opened ⨾ (found.spelled ⨾ mark_plain m.RightBrace xs.1 v closed));
         fits = found.fits;
@@ -157,25 +162,25 @@ module _ (room : ℕ) where
         low = found.low;
       })))
 
-  behind-equal : (kind : Kind) (ts us : List Token) (y : Took Initializer) → Spelled (s.mark m.Equal ∷ []) ts us → kind_at us ≡ kind
-      → behind_equal_by room kind us ≡ Ok y
-      → InitializerAt room ts y
+  behind-equal : (kind : TokenKind) (ts us : List Token) (y : Took Initializer) → Spelled (s.mark m.Equal ∷ []) ts us → kind_at us ≡ kind
+      → behind_equal_by depth_left kind us ≡ Ok y
+      → InitializerAt depth_left ts y
   behind-equal k.Name ts us y equal e h =
-      let P : Took Initializer → Type 0 = InitializerAt room ts in
+      let P : Took Initializer → Type 0 = InitializerAt depth_left ts in
       bound (identifier us) _ y P h (λ x name h1.
       answered _ y P h1 (record { spelled = equal ⨾ identifier_took us x name; fits = tt; size = refl; low = omega arith }))
   behind-equal (k.Mark m.LeftBrace) ts us y equal e h =
       braces-part true ts (drop 1 us) y (equal ⨾ one_plain us (k.Mark m.LeftBrace) (w.Mark m.LeftBrace) e refl) h
   behind-equal _ ts us y equal e h = absurd cc
 
-  constructed-part : (ts : List Token) (y : Took Initializer) → kind_at ts ≡ k.Mark m.LeftParenthesis → constructed room ts ≡ Ok y
-      → InitializerAt room ts y
+  constructed-part : (ts : List Token) (y : Took Initializer) → kind_at ts ≡ k.Mark m.LeftParenthesis → constructed depth_left ts ≡ Ok y
+      → InitializerAt depth_left ts y
   unfolding constructed
   constructed-part ts y e h =
-      let P : Took Initializer → Type 0 = InitializerAt room ts in
-      bound (list (expr (room + 1) 1) (expr room 1) room (drop 1 ts)) _ y P h (λ xs read h1.
+      let P : Took Initializer → Type 0 = InitializerAt depth_left ts in
+      bound (list (expr (depth_left + 1) 1) (expr depth_left 1) depth_left (drop 1 ts)) _ y P h (λ xs read h1.
       bound (mark m.RightParenthesis xs.1) _ y P h1 (λ v closed h2.
-      let found = list-part (expr (room + 1) 1) (expr room 1) room (whole-part room) inner-part (drop 1 ts) xs read in
+      let found = list-part (expr (depth_left + 1) 1) (expr depth_left 1) depth_left (whole-part depth_left) inner-part (drop 1 ts) xs read in
       answered _ y P h2 (record {
         spelled = one_plain ts (k.Mark m.LeftParenthesis) (w.Mark m.LeftParenthesis) e refl
             ⨾ (found.spelled ⨾ mark_plain m.RightParenthesis xs.1 v closed);
@@ -184,33 +189,33 @@ module _ (room : ℕ) where
         low = found.low;
       })))
 
-  absent-part : (ts : List Token) (y : Took Initializer) → initializer_by room k.End ts ≡ Ok y → InitializerAt room ts y
-  absent-part ts y h = answered _ y (InitializerAt room ts) h
+  absent-part : (ts : List Token) (y : Took Initializer) → initializer_by depth_left k.End ts ≡ Ok y → InitializerAt depth_left ts y
+  absent-part ts y h = answered _ y (InitializerAt depth_left ts) h
       (record { spelled = no_words ts; fits = tt; size = refl; low = omega arith })
 
-  initializer-by : (kind : Kind) (ts : List Token) (y : Took Initializer) → kind_at ts ≡ kind → initializer_by room kind ts ≡ Ok y
-      → InitializerAt room ts y
+  initializer-by : (kind : TokenKind) (ts : List Token) (y : Took Initializer) → kind_at ts ≡ kind → initializer_by depth_left kind ts ≡ Ok y
+      → InitializerAt depth_left ts y
   initializer-by (k.Mark m.Equal) ts y e h = behind-equal (kind_at (drop 1 ts)) ts (drop 1 ts) y
       (one_plain ts (k.Mark m.Equal) (w.Mark m.Equal) e refl) refl h
   initializer-by (k.Mark m.LeftBrace) ts y e h = braces-part false ts (drop 1 ts) y (one_plain ts (k.Mark m.LeftBrace) (w.Mark m.LeftBrace) e refl) h
   initializer-by (k.Mark m.LeftParenthesis) ts y e h = constructed-part ts y e h
   initializer-by _ ts y e h = absent-part ts y h
 
-  initializer-part : Parts initializer_written IsInitializer initializer_height room (initializer room)
+  initializer-part : Parts initializer_written IsInitializer initializer_height depth_left (initializer depth_left)
   unfolding initializer
   initializer-part ts y h = initializer-by (kind_at ts) ts y refl h
 
   pub container-part : (form : Form) (ts : List Token) (y : Took Declaration) → kind_at ts ≡ k.Container form
-      → container_declaration room form ts ≡ Ok y
-      → DeclarationAt (room + 1) ts y
+      → container_declaration depth_left form ts ≡ Ok y
+      → DeclarationAt (depth_left + 1) ts y
   unfolding container_declaration
   container-part form ts y e h =
-      let P : Took Declaration → Type 0 = DeclarationAt (room + 1) ts in
-      guarded (nat_lt 0 room) _ _ y P h (λ high h1.
+      let P : Took Declaration → Type 0 = DeclarationAt (depth_left + 1) ts in
+      guarded (nat_lt 0 depth_left) _ _ y P h (λ high h1.
       bound (container_type form ts) _ y P h1 (λ type typed h2.
       bound (identifier type.1) _ y P h2 (λ x name h3.
-      bound (initializer room x.1) _ y P h3 (λ i read h4.
-      let above : 0 < room = ltb-true 0 room high in
+      bound (initializer depth_left x.1) _ y P h3 (λ i read h4.
+      let above : 0 < depth_left = ltb-true 0 depth_left high in
       let found = initializer-part x.1 i read in
       answered _ y P h4 (record {
         spelled = type-took form ts type e typed ⨾ (identifier_took type.1 x name ⨾ found.spelled);
@@ -254,7 +259,7 @@ container_param-part form ts y e h =
       low = omega arith;
     }))))
 
-pub by-took : (kind : Kind) (ts : List Token) (y : ContainerType × List Token) → kind_at ts ≡ kind → container_by kind ts ≡ Ok y
+pub by-took : (kind : TokenKind) (ts : List Token) (y : ContainerType × List Token) → kind_at ts ≡ kind → container_by kind ts ≡ Ok y
     → Spelled (container_written y.0) ts y.1
 by-took (k.Container form) ts y e h = type-took form ts y e h
 by-took _ ts y e h = absurd cc
@@ -274,7 +279,7 @@ const_param-part ts y e h =
       low = omega arith;
     }))))
 
-param-by : (kind : Kind) (ts : List Token) (y : Took Param) → kind_at ts ≡ kind → param_by kind ts ≡ Ok y → ParamAt 2 ts y
+param-by : (kind : TokenKind) (ts : List Token) (y : Took Param) → kind_at ts ≡ kind → param_by kind ts ≡ Ok y → ParamAt 2 ts y
 param-by (k.Scalar scalar) ts y e h = scalar_param-part scalar ts y e h
 param-by (k.Container form) ts y e h = container_param-part form ts y e h
 param-by k.Const ts y e h = const_param-part ts y e h

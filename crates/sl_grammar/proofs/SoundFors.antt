@@ -9,20 +9,22 @@ use Rattle.sl_base.specs.declared.scalar.Scalar.TheVariants as c
 use Rattle.sl_base.specs.declared.token.Token.{Token}
 use Rattle.sl_base.specs.declared.word.Word.{Word}
 use Rattle.sl_base.specs.declared.word.Word.TheVariants as w
-use Rattle.sl_syntax.specs.declared.kind.Kind.{Kind}
-use Rattle.sl_syntax.specs.declared.kind.Kind.TheVariants as k
+use Rattle.sl_syntax.specs.declared.token_kind.TokenKind.{TokenKind}
+use Rattle.sl_syntax.specs.declared.token_kind.TokenKind.TheVariants as k
 use Rattle.sl_syntax.specs.declared.tree.identifier.Identifier.{Identifier}
 use Rattle.sl_syntax.specs.Depth.{height, option_height, effect_height, cond_height, first_height}
 use Rattle.sl_syntax.specs.Shaped.{IsExpr, IfThere, IsEffect, IsCond, IsFirst}
 use Rattle.sl_syntax.specs.Tree as t
 use Rattle.sl_syntax.specs.Tree.{Expr, Effect, Cond, First, Stmt}
 use Rattle.sl_syntax.specs.Written as s
-use Rattle.sl_syntax.specs.Written.{Written, at, scalar_word, element_word, value_written, option_written, effect_written, cond_written, first_written, tested}
-use Rattle.sl_grammar.specs.Effects.{effect}
-use Rattle.sl_grammar.specs.Effects as effects
-use Rattle.sl_grammar.specs.Expressions.{expr}
-use Rattle.sl_grammar.specs.Statements.{ranges, is_auto, first_of, optional_cond, optional_effect, for_behind, range_behind, valued_first, variable_behind, declared_first, for_by, for_loop}
-use Rattle.sl_grammar.specs.Steps.{Reader, Tall, kind_at, here, is_mark, mark, identifier}
+use Rattle.sl_syntax.specs.Written.{Written, at, scalar_word, element_word, value_written, option_written, effect_written, cond_written}
+use Rattle.sl_syntax.specs.Written.{first_written, tested}
+use Rattle.sl_grammar.specs.Means.Effects.{effect}
+use Rattle.sl_grammar.specs.Means.Effects as effects
+use Rattle.sl_grammar.specs.Means.Expressions.{expr}
+use Rattle.sl_grammar.specs.Means.Statements.{ranges, is_auto, first_of, optional_cond, optional_effect, for_behind, range_behind, valued_first}
+use Rattle.sl_grammar.specs.Means.Statements.{variable_behind, declared_first, for_by, for_loop}
+use Rattle.sl_grammar.specs.Means.Steps.{Reader, Tall, kind_at, here, is_mark, mark, identifier}
 use Rattle.sl_grammar.proofs.KindLaws.{fixed, both}
 use Rattle.sl_grammar.proofs.SoundBlocks.{FoundStmt, Finds}
 use Rattle.sl_grammar.proofs.SoundEffects.{effect-part, cond-part}
@@ -39,7 +41,7 @@ abbrev pub type_word : Option Scalar → Word
 type_word None = w.Key (codes "auto")
 type_word (Some scalar) = scalar_word scalar
 
-abbrev pub type_kind : Option Scalar → Kind
+abbrev pub type_kind : Option Scalar → TokenKind
 type_kind None = k.Auto
 type_kind (Some scalar) = k.Scalar scalar
 
@@ -71,40 +73,42 @@ first-height (Some scalar) place x v = refl
 abbrev pub opened_written : Place → List Written
 opened_written place = at place (w.Key (codes "for")) ∷ s.mark m.LeftParenthesis ∷ []
 
-module _ (inner : Reader (Tall Stmt)) (room : ℕ) (f : Finds inner room) where
-  pub cond-option : Parts (option_written cond_written) (IfThere IsCond) (option_height cond_height) room (optional_cond inner room)
+module _ (inner : Reader (Tall Stmt)) (depth_left : ℕ) (f : Finds inner depth_left) where
+  pub cond-option : Parts (option_written cond_written) (IfThere IsCond) (option_height cond_height) depth_left (optional_cond inner depth_left)
   unfolding optional_cond
   cond-option ts y h =
-      let P : Took (Option Cond) → Type 0 = λ z. Part (option_written cond_written) (IfThere IsCond) (option_height cond_height) room ts z.0 z.1 in
+      let P : Took (Option Cond) → Type 0 =
+      λ z. Part (option_written cond_written) (IfThere IsCond) (option_height cond_height) depth_left ts z.0 z.1 in
       chosen (is_mark m.Semicolon (kind_at ts)) _ _ _ (P y) h
       (λ left_out h1. answered _ y P h1 (record { spelled = no_words ts; fits = tt; size = refl; low = omega arith }))
       (λ there h1.
-      bound (effects.cond room ts) _ y P h1 (λ x read h2.
-      let found = cond-part room ts x read in
+      bound (effects.cond depth_left ts) _ y P h1 (λ x read h2.
+      let found = cond-part depth_left ts x read in
       answered _ y P h2 (record { spelled = found.spelled; fits = found.fits; size = found.size; low = found.low })))
 
-  pub effect-option : Parts (option_written effect_written) (IfThere IsEffect) (option_height effect_height) room (optional_effect inner room)
+  pub effect-option : Parts (option_written effect_written) (IfThere IsEffect) (option_height effect_height) depth_left
+      (optional_effect inner depth_left)
   unfolding optional_effect
   effect-option ts y h =
       let P : Took (Option Effect) → Type 0 =
-      λ z. Part (option_written effect_written) (IfThere IsEffect) (option_height effect_height) room ts z.0 z.1 in
+      λ z. Part (option_written effect_written) (IfThere IsEffect) (option_height effect_height) depth_left ts z.0 z.1 in
       chosen (is_mark m.RightParenthesis (kind_at ts)) _ _ _ (P y) h
       (λ left_out h1. answered _ y P h1 (record { spelled = no_words ts; fits = tt; size = refl; low = omega arith }))
       (λ there h1.
-      bound (effect room ts) _ y P h1 (λ x read h2.
-      let found = effect-part room ts x read in
+      bound (effect depth_left ts) _ y P h1 (λ x read h2.
+      let found = effect-part depth_left ts x read in
       answered _ y P h2 (record { spelled = found.spelled; fits = found.fits; size = found.size; low = found.low })))
 
   for_behind-found : (ts us : List Token) (first : Tall (Option First)) (y : Took Stmt)
-      → Part (head_written (here ts)) (IfThere IsFirst) (option_height first_height) room ts first us
-      → for_behind inner room (here ts) first us ≡ Ok y → FoundStmt (room + 1) ts y.0 y.1
+      → Part (head_written (here ts)) (IfThere IsFirst) (option_height first_height) depth_left ts first us
+      → for_behind inner depth_left (here ts) first us ≡ Ok y → FoundStmt (depth_left + 1) ts y.0 y.1
   unfolding for_behind
   for_behind-found ts us first y head h =
-      let P : Took Stmt → Type 0 = λ z. FoundStmt (room + 1) ts z.0 z.1 in
+      let P : Took Stmt → Type 0 = λ z. FoundStmt (depth_left + 1) ts z.0 z.1 in
       bound (mark m.Semicolon us) _ y P h (λ u one h1.
-      bound (optional_cond inner room u.1) _ y P h1 (λ a test h2.
+      bound (optional_cond inner depth_left u.1) _ y P h1 (λ a test h2.
       bound (mark m.Semicolon a.1) _ y P h2 (λ v two h3.
-      bound (optional_effect inner room v.1) _ y P h3 (λ b step h4.
+      bound (optional_effect inner depth_left v.1) _ y P h3 (λ b step h4.
       bound (mark m.RightParenthesis b.1) _ y P h4 (λ d close h5.
       bound (inner d.1) _ y P h5 (λ x read h6.
       let tested = cond-option u.1 a test in
@@ -123,10 +127,10 @@ module _ (inner : Reader (Tall Stmt)) (room : ℕ) (f : Finds inner room) where
 
   range-found : (type : Option Scalar) (ts us : List Token) (x : Identifier × List Token) (y : Took Stmt) → Spelled (opened_written (here ts)) ts us
       → kind_at us ≡ type_kind type → identifier (drop 1 us) ≡ Ok x → ranges type ≡ true
-      → range_behind inner room (here ts) (is_auto type) x.0 x.1 ≡ Ok y → FoundStmt (room + 1) ts y.0 y.1
+      → range_behind inner depth_left (here ts) (is_auto type) x.0 x.1 ≡ Ok y → FoundStmt (depth_left + 1) ts y.0 y.1
   unfolding range_behind
   range-found type ts us x y opened e name may h =
-      let P : Took Stmt → Type 0 = λ z. FoundStmt (room + 1) ts z.0 z.1 in
+      let P : Took Stmt → Type 0 = λ z. FoundStmt (depth_left + 1) ts z.0 z.1 in
       bound (mark m.Colon x.1) _ y P h (λ u colon h1.
       bound (identifier u.1) _ y P h1 (λ v container h2.
       bound (mark m.RightParenthesis v.1) _ y P h2 (λ d close h3.
@@ -147,10 +151,11 @@ module _ (inner : Reader (Tall Stmt)) (room : ℕ) (f : Finds inner room) where
   -- a first part that declares a variable, as it was read
   pub valued-head : (type : Option Scalar) (ts us : List Token) (x : Identifier × List Token) (u : Place × List Token) (v : Took Expr)
       → Spelled (opened_written (here ts)) ts us → kind_at us ≡ type_kind type → identifier (drop 1 us) ≡ Ok x → mark m.Equal x.1 ≡ Ok u
-      → expr room 1 u.1 ≡ Ok v
-      → Part (head_written (here ts)) (IfThere IsFirst) (option_height first_height) room ts (Some (first_of type (here us) x.0 v.0.0), v.0.1 + 1) v.1
+      → expr depth_left 1 u.1 ≡ Ok v
+      → Part (head_written (here ts)) (IfThere IsFirst) (option_height first_height) depth_left ts
+      (Some (first_of type (here us) x.0 v.0.0), v.0.1 + 1) v.1
   valued-head type ts us x u v opened e name equal read =
-      let found = sound room 1 u.1 v (omega arith) (omega arith) read in
+      let found = sound depth_left 1 u.1 v (omega arith) (omega arith) read in
       let declares : Spelled (first_written (first_of type (here us) x.0 v.0.0)) us v.1 = respelled (first-written type (here us) x.0 v.0.0)
       (one_word us (type_kind type) (type_word type) e (type-fixed type)
       ⨾ (identifier_took (drop 1 us) x name ⨾ (mark_plain m.Equal x.1 u equal ⨾ found.1.part.spelled))) in
@@ -162,46 +167,46 @@ module _ (inner : Reader (Tall Stmt)) (room : ℕ) (f : Finds inner room) where
       }
 
   valued-found : (type : Option Scalar) (ts us : List Token) (x : Identifier × List Token) (y : Took Stmt) → Spelled (opened_written (here ts)) ts us
-      → kind_at us ≡ type_kind type → identifier (drop 1 us) ≡ Ok x → valued_first inner room (here ts) (here us) type x.0 x.1 ≡ Ok y
-      → FoundStmt (room + 1) ts y.0 y.1
+      → kind_at us ≡ type_kind type → identifier (drop 1 us) ≡ Ok x → valued_first inner depth_left (here ts) (here us) type x.0 x.1 ≡ Ok y
+      → FoundStmt (depth_left + 1) ts y.0 y.1
   unfolding valued_first
   valued-found type ts us x y opened e name h =
-      let P : Took Stmt → Type 0 = λ z. FoundStmt (room + 1) ts z.0 z.1 in
+      let P : Took Stmt → Type 0 = λ z. FoundStmt (depth_left + 1) ts z.0 z.1 in
       bound (mark m.Equal x.1) _ y P h (λ u equal h1.
-      bound (expr room 1 u.1) _ y P h1 (λ v read h2.
+      bound (expr depth_left 1 u.1) _ y P h1 (λ v read h2.
       for_behind-found ts v.1 _ y (valued-head type ts us x u v opened e name equal read) h2))
 
   declared-found : (type : Option Scalar) (ts us : List Token) (y : Took Stmt) → Spelled (opened_written (here ts)) ts us
-      → kind_at us ≡ type_kind type → declared_first inner room (here ts) type us ≡ Ok y → FoundStmt (room + 1) ts y.0 y.1
+      → kind_at us ≡ type_kind type → declared_first inner depth_left (here ts) type us ≡ Ok y → FoundStmt (depth_left + 1) ts y.0 y.1
   unfolding declared_first variable_behind
   declared-found type ts us y opened e h =
-      let P : Took Stmt → Type 0 = λ z. FoundStmt (room + 1) ts z.0 z.1 in
+      let P : Took Stmt → Type 0 = λ z. FoundStmt (depth_left + 1) ts z.0 z.1 in
       bound (identifier (drop 1 us)) _ y P h (λ x name h1.
       chosen (ranges type && is_mark m.Colon (kind_at x.1)) _ _ _ (P y) h1
       (λ range h2. range-found type ts us x y opened e name (both (ranges type) (is_mark m.Colon (kind_at x.1)) range).0 h2)
       (λ other h2. valued-found type ts us x y opened e name h2))
 
-  effect-found : (ts us : List Token) (y : Took Stmt) → Spelled (opened_written (here ts)) ts us → for_by inner room (here ts) k.End us ≡ Ok y
-      → FoundStmt (room + 1) ts y.0 y.1
+  effect-found : (ts us : List Token) (y : Took Stmt) → Spelled (opened_written (here ts)) ts us → for_by inner depth_left (here ts) k.End us ≡ Ok y
+      → FoundStmt (depth_left + 1) ts y.0 y.1
   effect-found ts us y opened h =
-      let P : Took Stmt → Type 0 = λ z. FoundStmt (room + 1) ts z.0 z.1 in
-      bound (effect room us) _ y P h (λ x read h1.
-      let found = effect-part room us x read in
+      let P : Took Stmt → Type 0 = λ z. FoundStmt (depth_left + 1) ts z.0 z.1 in
+      bound (effect depth_left us) _ y P h (λ x read h1.
+      let found = effect-part depth_left us x read in
       for_behind-found ts x.1 (Some (t.first_effect x.0.0), x.0.1) y
       (record { spelled = opened ⨾ found.spelled; fits = found.fits; size = found.size; low = found.low }) h1)
 
-  for-by : (kind : Kind) (ts us : List Token) (y : Took Stmt) → Spelled (opened_written (here ts)) ts us → kind_at us ≡ kind
-      → for_by inner room (here ts) kind us ≡ Ok y → FoundStmt (room + 1) ts y.0 y.1
+  for-by : (kind : TokenKind) (ts us : List Token) (y : Took Stmt) → Spelled (opened_written (here ts)) ts us → kind_at us ≡ kind
+      → for_by inner depth_left (here ts) kind us ≡ Ok y → FoundStmt (depth_left + 1) ts y.0 y.1
   for-by (k.Scalar scalar) ts us y opened e h = declared-found (Some scalar) ts us y opened e h
   for-by k.Auto ts us y opened e h = declared-found None ts us y opened e h
   for-by (k.Mark m.Semicolon) ts us y opened e h =
       for_behind-found ts us (None, 0) y (record { spelled = opened; fits = tt; size = refl; low = omega arith }) h
   for-by _ ts us y opened e h = effect-found ts us y opened h
 
-  pub for-found : (ts : List Token) (y : Took Stmt) → kind_at ts ≡ k.For → for_loop inner room ts ≡ Ok y → FoundStmt (room + 1) ts y.0 y.1
+  pub for-found : (ts : List Token) (y : Took Stmt) → kind_at ts ≡ k.For → for_loop inner depth_left ts ≡ Ok y → FoundStmt (depth_left + 1) ts y.0 y.1
   unfolding for_loop
   for-found ts y e h =
-      let P : Took Stmt → Type 0 = λ z. FoundStmt (room + 1) ts z.0 z.1 in
-      guarded (nat_lt 0 room) _ _ y P h (λ _ h1.
+      let P : Took Stmt → Type 0 = λ z. FoundStmt (depth_left + 1) ts z.0 z.1 in
+      guarded (nat_lt 0 depth_left) _ _ y P h (λ _ h1.
       bound (mark m.LeftParenthesis (drop 1 ts)) _ y P h1 (λ u opened h2.
       for-by (kind_at u.1) ts u.1 y (one_word ts k.For (w.Key (codes "for")) e refl ⨾ mark_plain m.LeftParenthesis (drop 1 ts) u opened) refl h2))

@@ -10,8 +10,8 @@ use Rattle.sl_syntax.specs.Shaped.{IsExpr, AreExprs, IsSomeList, AreSome}
 use Rattle.sl_syntax.specs.Tree as t
 use Rattle.sl_syntax.specs.Tree.{Expr, Exprs, exprs_from}
 use Rattle.sl_syntax.specs.Written.{written, list_written}
-use Rattle.sl_grammar.specs.Expressions.{comma_expr, list_behind, list, list_before}
-use Rattle.sl_grammar.specs.Steps.{Reader, Tall, kind_at, is_mark, mark, all_behind}
+use Rattle.sl_grammar.specs.Means.Expressions.{comma_expr, list_behind, list, list_before}
+use Rattle.sl_grammar.specs.Means.Steps.{Reader, Tall, kind_at, is_mark, mark, all_behind}
 use Rattle.sl_grammar.proofs.Rows.{comma_expr_written, rest-written, rest-height, are_exprs}
 use Rattle.sl_grammar.proofs.SoundSteps.{Took, bound, chosen, guarded, answered, mark_plain, Part, Parts, behind, some_items}
 use Rattle.sl_grammar.proofs.Spelling.{◌⨾◌, no_words, respelled}
@@ -26,36 +26,37 @@ SomeExprs xs = IsSomeList xs × AreExprs xs
 
 -- what is read from these tokens
 abbrev pub SomeListAt : ℕ → List Token → Took Exprs → Type 0
-SomeListAt room ts y = Part list_written SomeExprs list_height room ts y.0 y.1
+SomeListAt depth_left ts y = Part list_written SomeExprs list_height depth_left ts y.0 y.1
 
 abbrev pub ListAt : ℕ → List Token → Took Exprs → Type 0
-ListAt room ts y = Part list_written AreExprs list_height room ts y.0 y.1
+ListAt depth_left ts y = Part list_written AreExprs list_height depth_left ts y.0 y.1
 
 -- expressions that are read by one, and by more behind a comma, one node deeper
-module _ (one more : Reader (Tall Expr)) (room : ℕ) (f : Parts written IsExpr height room one)
-    (g : (ts : List Token) (y : Took Expr) → more ts ≡ Ok y → (0 < room) × Part written IsExpr height (room - 1) ts y.0 y.1) where
-  pub comma-part : Parts comma_expr_written IsExpr height (room - 1) (comma_expr one more room)
+module _ (one more : Reader (Tall Expr)) (depth_left : ℕ) (f : Parts written IsExpr height depth_left one)
+    (g : (ts : List Token) (y : Took Expr) → more ts ≡ Ok y → (0 < depth_left) × Part written IsExpr height (depth_left - 1) ts y.0 y.1) where
+  pub comma-part : Parts comma_expr_written IsExpr height (depth_left - 1) (comma_expr one more depth_left)
   comma-part ts y h =
-      let P : Took Expr → Type 0 = λ z. Part comma_expr_written IsExpr height (room - 1) ts z.0 z.1 in
+      let P : Took Expr → Type 0 = λ z. Part comma_expr_written IsExpr height (depth_left - 1) ts z.0 z.1 in
       bound (mark m.Comma ts) _ y P h (λ u comma h1.
       let x = g u.1 y h1 in
       record { spelled = mark_plain m.Comma ts u comma ⨾ x.1.spelled; fits = x.1.fits; size = x.1.size; low = x.1.low })
 
-  behind-part : (ts us : List Token) (x : Tall Expr) (y : Took Exprs) → Part written IsExpr height room ts x us
-      → list_behind one more room x us ≡ Ok y
-      → SomeListAt room ts y
+  behind-part : (ts us : List Token) (x : Tall Expr) (y : Took Exprs) → Part written IsExpr height depth_left ts x us
+      → list_behind one more depth_left x us ≡ Ok y
+      → SomeListAt depth_left ts y
   unfolding list_behind
   behind-part ts us x y first h =
-      let P : Took Exprs → Type 0 = SomeListAt room ts in
+      let P : Took Exprs → Type 0 = SomeListAt depth_left ts in
       chosen (is_mark m.Comma (kind_at us)) _ _ _ (P y) h
       (λ comma h1.
-      guarded (nat_lt x.1 room) _ _ y P h1 (λ below h2.
-      bound (all_behind (is_mark m.Comma) (comma_expr one more room) ([], 0) us) _ y P h2 (λ xs read h3.
-      let others = behind comma_expr_written IsExpr height (room - 1) (is_mark m.Comma) (comma_expr one more room) comma-part ([], 0) us xs read in
+      guarded (nat_lt x.1 depth_left) _ _ y P h1 (λ below h2.
+      bound (all_behind (is_mark m.Comma) (comma_expr one more depth_left) ([], 0) us) _ y P h2 (λ xs read h3.
+      let others = behind comma_expr_written IsExpr height (depth_left - 1) (is_mark m.Comma) (comma_expr one more depth_left) comma-part
+      ([], 0) us xs read in
       let some : AreSome others.items = some_items comma_expr_written (is_mark m.Comma) others.items us xs.1 others.spelled comma others.stops in
       let tall : list_height (t.with x.0 (exprs_from others.items)) ≡ max (height x.0) (highest height others.items) + 1 =
       list-height x.0 others.items some in
-      let lower : x.1 < room = ltb-true x.1 room below in
+      let lower : x.1 < depth_left = ltb-true x.1 depth_left below in
       answered _ y P h3 (record {
         spelled = rw others.all (first.spelled ⨾ respelled (rest-written others.items) others.spelled);
         fits = rw others.all (tt, (first.fits, are_exprs others.items others.each));
@@ -65,16 +66,16 @@ module _ (one more : Reader (Tall Expr)) (room : ℕ) (f : Parts written IsExpr 
       (λ alone h1.
       answered _ y P h1 (record { spelled = first.spelled ⨾ no_words us; fits = (tt, (first.fits, tt)); size = first.size; low = first.low }))
 
-  pub list-part : Parts list_written SomeExprs list_height room (list one more room)
+  pub list-part : Parts list_written SomeExprs list_height depth_left (list one more depth_left)
   unfolding list
   list-part ts y h =
-      let P : Took Exprs → Type 0 = SomeListAt room ts in
+      let P : Took Exprs → Type 0 = SomeListAt depth_left ts in
       bound (one ts) _ y P h (λ x read h1. behind-part ts x.1 x.0 y (f ts x read) h1)
 
-  pub list-before-part : (close : Mark) → Parts list_written AreExprs list_height room (list_before one more room close)
+  pub list-before-part : (close : Mark) → Parts list_written AreExprs list_height depth_left (list_before one more depth_left close)
   unfolding list_before
   list-before-part close ts y h =
-      let P : Took Exprs → Type 0 = ListAt room ts in
+      let P : Took Exprs → Type 0 = ListAt depth_left ts in
       chosen (is_mark close (kind_at ts)) _ _ _ (P y) h
       (λ closes h1. answered _ y P h1 (record { spelled = no_words ts; fits = tt; size = refl; low = omega arith }))
       (λ opens h1.

@@ -4,19 +4,19 @@ use Rattle.std.proofs.lemmas.Bool.{false≢true}
 use Rattle.sl_base.specs.declared.limits.TheConstants.{TREE_DEPTH}
 use Rattle.sl_base.specs.declared.mark.Mark.TheVariants as m
 use Rattle.sl_base.specs.declared.token.Token.{Token}
-use Rattle.sl_syntax.specs.declared.kind.Kind.{Kind}
-use Rattle.sl_syntax.specs.declared.kind.Kind.TheVariants as k
+use Rattle.sl_syntax.specs.declared.token_kind.TokenKind.{TokenKind}
+use Rattle.sl_syntax.specs.declared.token_kind.TokenKind.TheVariants as k
 use Rattle.sl_syntax.specs.declared.tree.function.ResultType.{ResultType}
 use Rattle.sl_syntax.specs.declared.tree.function.ResultType.TheVariants as z
 use Rattle.sl_syntax.specs.Depth.{function_height}
-use Rattle.sl_syntax.specs.Kinds.{kind_of}
+use Rattle.sl_syntax.specs.TokenKinds.{kind_of}
 use Rattle.sl_syntax.specs.Placed.{Spells, Placed}
 use Rattle.sl_syntax.specs.Shaped.{IsFunction, Shaped}
 use Rattle.sl_syntax.specs.Tree.{Function, Program}
 use Rattle.sl_syntax.specs.Written.{result_word, function_written, program_written}
-use Rattle.sl_grammar.specs.Declarations.{params}
-use Rattle.sl_grammar.specs.Statements.{is_more, braced, stmt, function_behind, function_by, function, program}
-use Rattle.sl_grammar.specs.Steps.{kind_at, mark, identifier}
+use Rattle.sl_grammar.specs.Means.Declarations.{params}
+use Rattle.sl_grammar.specs.Means.Statements.{is_more, braced, stmt, function_behind, function_by, function, program}
+use Rattle.sl_grammar.specs.Means.Steps.{kind_at, mark, identifier}
 use Rattle.sl_grammar.proofs.KindLaws.{fixed, not_end}
 use Rattle.sl_grammar.proofs.SoundBlocks.{braced-part}
 use Rattle.sl_grammar.proofs.SoundDeclarations.{params-part}
@@ -26,9 +26,9 @@ use Rattle.sl_grammar.proofs.Spelling.{Spelled, ◌⨾◌}
 
 -- what is read from these tokens
 abbrev pub FunctionAt : ℕ → List Token → Took Function → Type 0
-FunctionAt room ts y = Part function_written IsFunction function_height room ts y.0 y.1
+FunctionAt depth_left ts y = Part function_written IsFunction function_height depth_left ts y.0 y.1
 
-abbrev pub result_kind : ResultType → Kind
+abbrev pub result_kind : ResultType → TokenKind
 result_kind z.Void = k.Void
 result_kind (z.Scalar scalar) = k.Scalar scalar
 
@@ -56,7 +56,7 @@ function-found result ts y e h =
       low = omega (arith, given.low, does.low);
     }))))))
 
-function-by : (kind : Kind) (ts : List Token) (y : Took Function) → kind_at ts ≡ kind → function_by kind ts ≡ Ok y
+function-by : (kind : TokenKind) (ts : List Token) (y : Took Function) → kind_at ts ≡ kind → function_by kind ts ≡ Ok y
     → FunctionAt TREE_DEPTH ts y
 function-by k.Void ts y e h = function-found z.Void ts y e h
 function-by (k.Scalar scalar) ts y e h = function-found (z.Scalar scalar) ts y e h
@@ -67,7 +67,7 @@ unfolding function
 function-part ts y h = function-by (kind_at ts) ts y refl h
 
 -- where no function follows, no token does
-is_end_kind : (kind : Kind) → is_more kind ≡ false → kind ≡ k.End
+is_end_kind : (kind : TokenKind) → is_more kind ≡ false → kind ≡ k.End
 is_end_kind k.End h = refl
 is_end_kind _ h = absurd (false≢true (sym h))
 

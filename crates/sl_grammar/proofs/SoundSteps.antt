@@ -1,5 +1,6 @@
 -- What follows from the answer of a step: which words it took.
-use Rattle.std.proofs.Common.{drop, length, ◌≡◌, ℕ, zero, suc, ◌≤◌, max, Bool, true, false, cond, List, [], ◌∷◌, ◌++◌, Some, Result, Ok, Err, refl, sym, ap, subst, ◌∙◌, arith, append_assoc}
+use Rattle.std.proofs.Common.{drop, length, ◌≡◌, ℕ, zero, suc, ◌≤◌, max, Bool, true, false, cond, List, [], ◌∷◌, ◌++◌, Some, Result, Ok, Err, refl}
+use Rattle.std.proofs.Common.{sym, ap, subst, ◌∙◌, arith, append_assoc}
 use Rattle.std.specs.Prelude.{flat_map}
 use Rattle.std.proofs.lemmas.Bool.{false≢true}
 use Rattle.std.proofs.lemmas.List.{append-nil}
@@ -8,18 +9,19 @@ use Rattle.sl_base.specs.declared.place.Place.{Place}
 use Rattle.sl_base.specs.declared.token.Token.{Token}
 use Rattle.sl_base.specs.declared.word.Word.{Word}
 use Rattle.sl_base.specs.declared.word.Word.TheVariants as w
-use Rattle.sl_syntax.specs.declared.kind.Kind.{Kind}
-use Rattle.sl_syntax.specs.declared.kind.Kind.TheVariants as k
+use Rattle.sl_syntax.specs.declared.token_kind.TokenKind.{TokenKind}
+use Rattle.sl_syntax.specs.declared.token_kind.TokenKind.TheVariants as k
 use Rattle.sl_syntax.specs.declared.tree.identifier.Identifier.{Identifier}
 use Rattle.sl_syntax.specs.Depth.{highest}
-use Rattle.sl_syntax.specs.Kinds.{kind_of}
+use Rattle.sl_syntax.specs.TokenKinds.{kind_of}
 use Rattle.sl_syntax.specs.Placed.{Spells}
 use Rattle.sl_syntax.specs.Shaped.{Each, AreSome}
 use Rattle.sl_syntax.specs.Written.{Written, at, plain, named}
 use Rattle.sl_syntax.specs.Written as s
 use Rattle.sl_grammar.specs.declared.fault.Fault.{Fault}
-use Rattle.sl_grammar.specs.Steps.{Outcome, Reader, Tall, and_then, kind_at, here, is_mark, mark, number_at, text_at, identifier_at, identifier_by, identifier, library_by, library, repeat, all_behind}
-use Rattle.sl_grammar.proofs.KindLaws.{fixed, word_of_kind, name_word, number_word, text_word, library_word, is_mark_kind}
+use Rattle.sl_grammar.specs.Means.Steps.{Outcome, Reader, Tall, and_then, kind_at, here, is_mark, mark, number_at, text_at, identifier_by, identifier}
+use Rattle.sl_grammar.specs.Means.Steps.{library_by, library, repeat, all_behind}
+use Rattle.sl_grammar.proofs.KindLaws.{fixed, word_of_kind, number_word, text_word, is_mark_kind}
 use Rattle.sl_grammar.proofs.Spelling.{Spelled, ◌⨾◌, no_words}
 
 -- what is read, with its height, and the tokens behind it
@@ -50,12 +52,13 @@ pub answered : {A : Type 0} (a y : A × List Token) (P : A × List Token → Typ
 answered a y P h p = subst P (ok_one h) p
 
 -- one word, at its place
-pub one_word : (ts : List Token) (kind : Kind) (x : Word) → kind_at ts ≡ kind → fixed kind ≡ Some x → Spelled (at (here ts) x ∷ []) ts (drop 1 ts)
+pub one_word : (ts : List Token) (kind : TokenKind) (x : Word) → kind_at ts ≡ kind → fixed kind ≡ Some x
+    → Spelled (at (here ts) x ∷ []) ts (drop 1 ts)
 one_word [] kind x h e = absurd cc
 one_word (t ∷ ts) kind x h e = record { spells = ((word_of_kind t.word kind x h e, (refl, tt)), refl) }
 
 -- one word whose place isn't told
-pub one_plain : (ts : List Token) (kind : Kind) (x : Word) → kind_at ts ≡ kind → fixed kind ≡ Some x → Spelled (plain x ∷ []) ts (drop 1 ts)
+pub one_plain : (ts : List Token) (kind : TokenKind) (x : Word) → kind_at ts ≡ kind → fixed kind ≡ Some x → Spelled (plain x ∷ []) ts (drop 1 ts)
 one_plain [] kind x h e = absurd cc
 one_plain (t ∷ ts) kind x h e = record { spells = ((word_of_kind t.word kind x h e, tt), refl) }
 
@@ -66,16 +69,6 @@ one_number (t ∷ ts) h = record { spells = ((number_word t.word h, (refl, tt)),
 pub one_text : (ts : List Token) → kind_at ts ≡ k.Text → Spelled (at (here ts) (w.Text (text_at ts)) ∷ []) ts (drop 1 ts)
 one_text [] h = absurd cc
 one_text (t ∷ ts) h = record { spells = ((text_word t.word h, (refl, tt)), refl) }
-
-one_name : (ts : List Token) → kind_at ts ≡ k.Name → Spelled (named (identifier_at ts) ∷ []) ts (drop 1 ts)
-one_name [] h = absurd cc
-one_name (t ∷ ts) h = record { spells = ((name_word t.word h, (refl, tt)), refl) }
-
-one_library : (ts : List Token) → kind_at ts ≡ k.Library
-    → Spelled (at (identifier_at ts).place (w.Lib (identifier_at ts).name) ∷ []) ts (drop 1 ts)
-    × (kind_of (w.Lib (identifier_at ts).name) ≡ k.Library)
-one_library [] h = absurd cc
-one_library (t ∷ ts) h = (record { spells = (((library_word t.word h).0, (refl, tt)), refl) }, (library_word t.word h).1)
 
 -- a mark that was seen is the first word
 pub seen : (x : Mark) (ts : List Token) → is_mark x (kind_at ts) ≡ true → Spelled (s.mark x ∷ []) ts (drop 1 ts)
@@ -110,53 +103,57 @@ mark_rest x ts y h =
     let P : Place × List Token → Type 0 = λ z. z.1 ≡ drop 1 ts in
     guarded (is_mark x (kind_at ts)) _ _ y P h (λ sees h1. answered _ y P h1 refl)
 
-name_took : (kind : Kind) (ts : List Token) (y : Identifier × List Token) → kind_at ts ≡ kind → identifier_by kind ts ≡ Ok y
-    → Spelled (named y.0 ∷ []) ts y.1
-name_took k.Name ts y e h = answered _ y (λ z. Spelled (named z.0 ∷ []) ts z.1) h (one_name ts e)
-name_took _ ts y e h = absurd cc
+name_took : (x : Word) (t : Token) (ts : List Token) (y : Identifier × List Token) → t.word ≡ x → identifier_by t.place x (t ∷ ts) ≡ Ok y
+    → Spelled (named y.0 ∷ []) (t ∷ ts) y.1
+name_took (w.Name n) t ts y e h = answered _ y (λ z. Spelled (named z.0 ∷ []) (t ∷ ts) z.1) h (record { spells = ((e, (refl, tt)), refl) })
+name_took _ t ts y e h = absurd cc
 
 pub identifier_took : (ts : List Token) (y : Identifier × List Token) → identifier ts ≡ Ok y → Spelled (named y.0 ∷ []) ts y.1
 unfolding identifier
-identifier_took ts y h = name_took (kind_at ts) ts y refl h
+identifier_took [] y h = absurd cc
+identifier_took (t ∷ ts) y h = name_took t.word t ts y refl h
 
 -- the name of a function of the library
 abbrev pub TookLibrary : List Token → Identifier × List Token → Type 0
 TookLibrary ts y = Spelled (at y.0.place (w.Lib y.0.name) ∷ []) ts y.1 × (kind_of (w.Lib y.0.name) ≡ k.Library)
 
-lib_took : (kind : Kind) (ts : List Token) (y : Identifier × List Token) → kind_at ts ≡ kind → library_by kind ts ≡ Ok y → TookLibrary ts y
-lib_took k.Library ts y e h = answered _ y (TookLibrary ts) h (one_library ts e)
-lib_took _ ts y e h = absurd cc
+lib_took : (x : Word) (t : Token) (ts : List Token) (y : Identifier × List Token) → t.word ≡ x → kind_of x ≡ k.Library
+    → library_by t.place x (t ∷ ts) ≡ Ok y → TookLibrary (t ∷ ts) y
+lib_took (w.Lib n) t ts y e is h = answered _ y (TookLibrary (t ∷ ts)) h (record { spells = ((e, (refl, tt)), refl) }, is)
+lib_took _ t ts y e is h = absurd cc
 
-pub library_took : (ts : List Token) (y : Identifier × List Token) → library ts ≡ Ok y → TookLibrary ts y
+pub library_took : (ts : List Token) (y : Identifier × List Token) → kind_at ts ≡ k.Library → library ts ≡ Ok y → TookLibrary ts y
 unfolding library
-library_took ts y h = lib_took (kind_at ts) ts y refl h
+library_took [] y is h = absurd cc
+library_took (t ∷ ts) y is h = lib_took t.word t ts y refl is h
 
--- What is read: its words, that it fits, and its height, which is at most the room.
-pub record Part {A : Type 0} (written : A → List Written) (Fits : A → Type 0) (height : A → ℕ) (room : ℕ) (ts : List Token) (p : Tall A)
+-- What is read: its words, that it fits, and its height, which is at most what is left of the depth.
+pub record Part {A : Type 0} (written : A → List Written) (Fits : A → Type 0) (height : A → ℕ) (depth_left : ℕ) (ts : List Token) (p : Tall A)
     (rest : List Token) : Type 0 where
   pub spelled : Spelled (written p.0) ts rest
   pub fits : Fits p.0
   pub size : p.1 ≡ height p.0
-  pub low : p.1 ≤ room
+  pub low : p.1 ≤ depth_left
 
 -- what a reader answers is such a part
 abbrev pub Parts : {A : Type 0} → (A → List Written) → (A → Type 0) → (A → ℕ) → ℕ → Reader (Tall A) → Type 0
-Parts {A} written Fits height room item = (ts : List Token) (y : Took A) → item ts ≡ Ok y → Part written Fits height room ts y.0 y.1
+Parts {A} written Fits height depth_left item = (ts : List Token) (y : Took A) → item ts ≡ Ok y → Part written Fits height depth_left ts y.0 y.1
 
 -- the items that were read behind those that are done
-pub record More {A : Type 0} (written : A → List Written) (Fits : A → Type 0) (height : A → ℕ) (room : ℕ) (goes : Kind → Bool)
+pub record More {A : Type 0} (written : A → List Written) (Fits : A → Type 0) (height : A → ℕ) (depth_left : ℕ) (goes : TokenKind → Bool)
     (done : Tall (List A)) (ts : List Token) (p : Tall (List A)) (rest : List Token) : Type 0 where
   pub items : List A
   pub all : p.0 ≡ done.0 ++ items
   pub spelled : Spelled (flat_map written items) ts rest
   pub each : Each Fits items
   pub size : p.1 ≡ max done.1 (highest height items)
-  pub low : highest height items ≤ room
+  pub low : highest height items ≤ depth_left
   pub stops : goes (kind_at rest) ≡ false
 
-module _ {A : Type 0} (written : A → List Written) (Fits : A → Type 0) (height : A → ℕ) (room : ℕ) (goes : Kind → Bool) (item : Reader (Tall A))
-    (f : Parts written Fits height room item) where
-  stopped : (done : Tall (List A)) (ts : List Token) → goes (kind_at ts) ≡ false → More written Fits height room goes done ts done ts
+module _ {A : Type 0} (written : A → List Written) (Fits : A → Type 0) (height : A → ℕ) (depth_left : ℕ) (goes : TokenKind → Bool)
+    (item : Reader (Tall A))
+    (f : Parts written Fits height depth_left item) where
+  stopped : (done : Tall (List A)) (ts : List Token) → goes (kind_at ts) ≡ false → More written Fits height depth_left goes done ts done ts
   stopped done ts stop = record {
     items = [];
     all = sym (append-nil done.0);
@@ -168,13 +165,13 @@ module _ {A : Type 0} (written : A → List Written) (Fits : A → Type 0) (heig
   }
 
   repeat-more : (turns : ℕ) (done : Tall (List A)) (ts : List Token) (y : Took (List A)) → repeat goes item turns done ts ≡ Ok y
-      → More written Fits height room goes done ts y.0 y.1
+      → More written Fits height depth_left goes done ts y.0 y.1
   unfolding repeat
   repeat-more zero done ts y h =
-      let P : Took (List A) → Type 0 = λ z. More written Fits height room goes done ts z.0 z.1 in
+      let P : Took (List A) → Type 0 = λ z. More written Fits height depth_left goes done ts z.0 z.1 in
       chosen (goes (kind_at ts)) _ _ _ (P y) h (λ on h1. absurd cc) (λ stop h1. answered _ y P h1 (stopped done ts stop))
   repeat-more (suc n) done ts y h =
-      let P : Took (List A) → Type 0 = λ z. More written Fits height room goes done ts z.0 z.1 in
+      let P : Took (List A) → Type 0 = λ z. More written Fits height depth_left goes done ts z.0 z.1 in
       chosen (goes (kind_at ts)) _ _ _ (P y) h
       (λ on h1.
       bound (item ts) _ y P h1 (λ x read h2.
@@ -193,11 +190,11 @@ module _ {A : Type 0} (written : A → List Written) (Fits : A → Type 0) (heig
 
   -- the items that follow
   pub behind : (done : Tall (List A)) (ts : List Token) (y : Took (List A)) → all_behind goes item done ts ≡ Ok y
-      → More written Fits height room goes done ts y.0 y.1
+      → More written Fits height depth_left goes done ts y.0 y.1
   behind done ts y h = repeat-more (length ts) done ts y h
 
 -- where the first word goes on and the last doesn't, there is an item
-pub some_items : {A : Type 0} (written : A → List Written) (goes : Kind → Bool) (items : List A) (ts rest : List Token)
+pub some_items : {A : Type 0} (written : A → List Written) (goes : TokenKind → Bool) (items : List A) (ts rest : List Token)
     → Spelled (flat_map written items) ts rest → goes (kind_at ts) ≡ true → goes (kind_at rest) ≡ false → AreSome items
 some_items written goes [] ts rest spelled on stop =
     absurd (false≢true (sym stop ∙ ap (λ (us : List Token). goes (kind_at us)) (sym spelled.spells) ∙ on))

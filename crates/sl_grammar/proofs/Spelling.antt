@@ -5,7 +5,7 @@ use Rattle.sl_base.specs.declared.token.Token.{Token}
 use Rattle.sl_base.specs.declared.word.Word.{Word}
 use Rattle.sl_syntax.specs.Placed.{Spells}
 use Rattle.sl_syntax.specs.Written.{Written, at, plain, from_place}
-use Rattle.sl_grammar.specs.Steps.{here}
+use Rattle.sl_grammar.specs.Means.Steps.{here}
 
 -- the tokens begin with these words
 pub record Spelled (xs : List Written) (ts rest : List Token) : Type 0 where

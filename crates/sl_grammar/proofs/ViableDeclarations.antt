@@ -8,19 +8,21 @@ use Rattle.sl_base.specs.declared.scalar.Scalar.{Scalar}
 use Rattle.sl_base.specs.declared.scalar.Scalar.TheVariants as c
 use Rattle.sl_base.specs.declared.token.Token.{Token}
 use Rattle.sl_base.specs.declared.word.Word.TheVariants as w
-use Rattle.sl_syntax.specs.declared.kind.Kind.{Kind}
-use Rattle.sl_syntax.specs.declared.kind.Kind.TheVariants as k
+use Rattle.sl_syntax.specs.declared.token_kind.TokenKind.{TokenKind}
+use Rattle.sl_syntax.specs.declared.token_kind.TokenKind.TheVariants as k
 use Rattle.sl_syntax.specs.declared.tree.declaration.ContainerType.{ContainerType}
 use Rattle.sl_syntax.specs.Depth.{declaration_height, height, initializer_height, option_height}
 use Rattle.sl_syntax.specs.Shaped.{IfThere, IsDeclaration, IsExpr, IsInitializer}
 use Rattle.sl_syntax.specs.Tree as t
 use Rattle.sl_syntax.specs.Tree.{Declaration, Expr, Initializer}
 use Rattle.sl_syntax.specs.Written as s
-use Rattle.sl_syntax.specs.Written.{container_written, declaration_written, elements_written, form_word, initializer_written, is_map, option_written, scalar_word, value_written, written}
+use Rattle.sl_syntax.specs.Written.{container_written, declaration_written, elements_written, form_word, initializer_written, is_map, option_written}
+use Rattle.sl_syntax.specs.Written.{scalar_word, value_written, written}
 use Rattle.sl_grammar.specs.declared.fault.Fault.TheVariants.{Grammar}
-use Rattle.sl_grammar.specs.Declarations.{auto_declaration, behind_equal_by, braces, constructed, container_declaration, container_type, elements_by, initializer, initializer_by, int, int_by, optional_value, scalar_declaration}
-use Rattle.sl_grammar.specs.Expressions.{expr, list, list_before}
-use Rattle.sl_grammar.specs.Steps.{here, identifier, is_mark, kind_at, mark}
+use Rattle.sl_grammar.specs.Means.Declarations.{auto_declaration, behind_equal_by, braces, constructed, container_declaration, container_type}
+use Rattle.sl_grammar.specs.Means.Declarations.{elements_by, initializer, initializer_by, int, int_by, optional_value, scalar_declaration}
+use Rattle.sl_grammar.specs.Means.Expressions.{expr, list, list_before}
+use Rattle.sl_grammar.specs.Means.Steps.{here, identifier, is_mark, kind_at, mark}
 use Rattle.sl_grammar.proofs.SoundDeclarations.{int-took, type-took, inner-part, scalar-written, opening, braces-written}
 use Rattle.sl_grammar.proofs.SoundExpressions.{whole-part}
 use Rattle.sl_grammar.proofs.SoundLists.{list-before-part, list-part}
@@ -28,16 +30,17 @@ use Rattle.sl_grammar.proofs.SoundSteps.{identifier_took, mark_plain, one_plain,
 use Rattle.sl_grammar.proofs.Spelling.{Spelled, ◌⨾◌}
 use Rattle.sl_grammar.proofs.ViableExpressions.{expr-viable, value-stops}
 use Rattle.sl_grammar.proofs.ViableLists.{list-before-viable, list-viable}
-use Rattle.sl_grammar.proofs.ViableSteps.{Begun, Stops, Viable, at_once, begun, faulted, identifier_fault, mark_fault, no_fault, one_fault, refitted, rewritten, some_expr, some_name, tested, unfinished, viable, ◌⨠◌}
+use Rattle.sl_grammar.proofs.ViableSteps.{Begun, Stops, Viable, at_once, begun, faulted, identifier_fault, mark_fault, no_fault, one_fault, refitted}
+use Rattle.sl_grammar.proofs.ViableSteps.{rewritten, some_expr, some_name, tested, unfinished, viable, ◌⨠◌}
 
 -- a declaration and an initializer that follow the grammar and are at most so high
 abbrev pub LowDeclaration : ℕ → Declaration → Type 0
-LowDeclaration room d = IsDeclaration d × (declaration_height d ≤ room)
+LowDeclaration depth_left d = IsDeclaration d × (declaration_height d ≤ depth_left)
 
 abbrev pub LowInitializer : ℕ → Initializer → Type 0
-LowInitializer room i = IsInitializer i × (initializer_height i ≤ room)
+LowInitializer depth_left i = IsInitializer i × (initializer_height i ≤ depth_left)
 
-int-by : (kind : Kind) (ts : List Token) (n : ℕ) → int_by kind ts ≡ Err (Grammar n) → length ts ≡ n
+int-by : (kind : TokenKind) (ts : List Token) (n : ℕ) → int_by kind ts ≡ Err (Grammar n) → length ts ≡ n
 int-by (k.Scalar c.Int) ts n h = absurd cc
 int-by (k.Scalar _) ts n h = cc
 int-by _ ts n h = cc
@@ -77,46 +80,46 @@ type-begun form ts n e h =
     (λ h1. one_word ts (k.Container form) (form_word form) e refl ⨠ elements-begun (is_map form) (drop 1 ts) n h1)
     (λ u elements h1. no_fault _ n P h1)
 
-inner-stops : (room : ℕ) → 0 < room → Stops written IsExpr height (room - 1) (expr room 1)
-inner-stops room high ts n h = refitted (λ x fits. (fits.0, omega (arith, fits.1)))
-    (expr-viable room 1 ts n high (omega arith) (omega arith) h)
+inner-stops : (depth_left : ℕ) → 0 < depth_left → Stops written IsExpr height (depth_left - 1) (expr depth_left 1)
+inner-stops depth_left high ts n h = refitted (λ x fits. (fits.0, omega (arith, fits.1)))
+    (expr-viable depth_left 1 ts n high (omega arith) (omega arith) h)
 
-module _ (room : ℕ) where
-  value-begun : Stops (option_written value_written) (IfThere IsExpr) (option_height height) room (optional_value room)
+module _ (depth_left : ℕ) where
+  value-begun : Stops (option_written value_written) (IfThere IsExpr) (option_height height) depth_left (optional_value depth_left)
   unfolding optional_value
   value-begun ts n h =
-      let P : Type 0 = Viable (λ (x : Option Expr). IfThere IsExpr x × (option_height height x ≤ room)) (option_written value_written) ts n in
+      let P : Type 0 = Viable (λ (x : Option Expr). IfThere IsExpr x × (option_height height x ≤ depth_left)) (option_written value_written) ts n in
       chosen (is_mark m.Equal (kind_at ts)) _ _ _ P h
       (λ equal h1.
-      faulted (expr (room + 1) 1 (drop 1 ts)) _ n P h1
+      faulted (expr (depth_left + 1) 1 (drop 1 ts)) _ n P h1
       (λ h2.
-      let v = value-stops room (drop 1 ts) n h2 in
+      let v = value-stops depth_left (drop 1 ts) n h2 in
       viable (Some v.tree) v.fits (seen m.Equal ts equal ⨠ begun v))
       (λ x read h2. no_fault _ n P h2))
       (λ bare h1. no_fault _ n P h1)
 
   pub scalar-begun : (scalar : Scalar) (ts : List Token) (n : ℕ) → kind_at ts ≡ k.Scalar scalar
-      → scalar_declaration room scalar ts ≡ Err (Grammar n) → Viable (LowDeclaration (room + 1)) declaration_written ts n
+      → scalar_declaration depth_left scalar ts ≡ Err (Grammar n) → Viable (LowDeclaration (depth_left + 1)) declaration_written ts n
   unfolding scalar_declaration
   scalar-begun scalar ts n e h =
-      let P : Type 0 = Viable (LowDeclaration (room + 1)) declaration_written ts n in
+      let P : Type 0 = Viable (LowDeclaration (depth_left + 1)) declaration_written ts n in
       let word = one_word ts (k.Scalar scalar) (scalar_word scalar) e refl in
       faulted (identifier (drop 1 ts)) _ n P h
       (λ h1. viable (t.declares_scalar (here ts) scalar some_name None) (tt, omega arith)
       (word ⨠ at_once _ (drop 1 ts) n (identifier_fault (drop 1 ts) n h1)))
       (λ x name h1.
-      faulted (optional_value room x.1) _ n P h1
+      faulted (optional_value depth_left x.1) _ n P h1
       (λ h2.
       let v = value-begun x.1 n h2 in
       viable (t.declares_scalar (here ts) scalar x.0 v.tree) (v.fits.0, omega (arith, v.fits.1))
       (rewritten (scalar-written (here ts) scalar x.0 v.tree) (word ⨠ (identifier_took (drop 1 ts) x name ⨠ begun v))))
       (λ v read h2. no_fault _ n P h2))
 
-  pub auto-begun : (ts : List Token) (n : ℕ) → kind_at ts ≡ k.Auto → auto_declaration room ts ≡ Err (Grammar n)
-      → Viable (LowDeclaration (room + 1)) declaration_written ts n
+  pub auto-begun : (ts : List Token) (n : ℕ) → kind_at ts ≡ k.Auto → auto_declaration depth_left ts ≡ Err (Grammar n)
+      → Viable (LowDeclaration (depth_left + 1)) declaration_written ts n
   unfolding auto_declaration
   auto-begun ts n e h =
-      let P : Type 0 = Viable (LowDeclaration (room + 1)) declaration_written ts n in
+      let P : Type 0 = Viable (LowDeclaration (depth_left + 1)) declaration_written ts n in
       let word = one_word ts k.Auto (w.Key (codes "auto")) e refl in
       faulted (identifier (drop 1 ts)) _ n P h
       (λ h1. viable (t.declares_auto (here ts) some_name some_expr) (tt, omega arith)
@@ -126,34 +129,35 @@ module _ (room : ℕ) where
       faulted (mark m.Equal x.1) _ n P h1
       (λ h2. viable (t.declares_auto (here ts) x.0 some_expr) (tt, omega arith) (named ⨠ at_once _ x.1 n (mark_fault m.Equal x.1 n h2)))
       (λ u equal h2.
-      faulted (expr (room + 1) 1 u.1) _ n P h2
+      faulted (expr (depth_left + 1) 1 u.1) _ n P h2
       (λ h3.
-      let v = value-stops room u.1 n h3 in
+      let v = value-stops depth_left u.1 n h3 in
       viable (t.declares_auto (here ts) x.0 v.tree) (v.fits.0, omega (arith, v.fits.1)) (named ⨠ (mark_plain m.Equal x.1 u equal ⨠ begun v)))
       (λ v read h3. no_fault _ n P h3)))
 
-  braces-begun : (equal : Bool) (ts us : List Token) (n : ℕ) → Spelled (opening equal) ts us → braces room equal us ≡ Err (Grammar n)
-      → Viable (LowInitializer room) initializer_written ts n
+  braces-begun : (equal : Bool) (ts us : List Token) (n : ℕ) → Spelled (opening equal) ts us → braces depth_left equal us ≡ Err (Grammar n)
+      → Viable (LowInitializer depth_left) initializer_written ts n
   unfolding braces
   braces-begun equal ts us n opened h =
-      let P : Type 0 = Viable (LowInitializer room) initializer_written ts n in
-      let one = expr (room + 1) 1 in
-      let more = expr room 1 in
-      faulted (list_before one more room m.RightBrace us) _ n P h
+      let P : Type 0 = Viable (LowInitializer depth_left) initializer_written ts n in
+      let one = expr (depth_left + 1) 1 in
+      let more = expr depth_left 1 in
+      faulted (list_before one more depth_left m.RightBrace us) _ n P h
       (λ h1.
-      let v = list-before-viable one more room (whole-part room) (inner-part room) (value-stops room) (inner-stops room) m.RightBrace us n h1 in
+      let v = list-before-viable one more depth_left (whole-part depth_left) (inner-part depth_left) (value-stops depth_left)
+      (inner-stops depth_left) m.RightBrace us n h1 in
       viable (t.braces equal v.tree) v.fits (rewritten (braces-written equal v.tree) (opened ⨠ unfinished (begun v) (s.mark m.RightBrace ∷ []))))
       (λ xs read h1.
-      let found = list-before-part one more room (whole-part room) (inner-part room) m.RightBrace us xs read in
+      let found = list-before-part one more depth_left (whole-part depth_left) (inner-part depth_left) m.RightBrace us xs read in
       faulted (mark m.RightBrace xs.1) _ n P h1
       (λ h2. viable (t.braces equal xs.0.0) (found.fits, omega (arith, found.size, found.low))
       (rewritten (braces-written equal xs.0.0) (opened ⨠ (found.spelled ⨠ at_once _ xs.1 n (mark_fault m.RightBrace xs.1 n h2)))))
       (λ v closed h2. no_fault _ n P h2))
 
-  behind-equal : (kind : Kind) (ts us : List Token) (n : ℕ) → Spelled (s.mark m.Equal ∷ []) ts us → kind_at us ≡ kind
-      → behind_equal_by room kind us ≡ Err (Grammar n) → Viable (LowInitializer room) initializer_written ts n
+  behind-equal : (kind : TokenKind) (ts us : List Token) (n : ℕ) → Spelled (s.mark m.Equal ∷ []) ts us → kind_at us ≡ kind
+      → behind_equal_by depth_left kind us ≡ Err (Grammar n) → Viable (LowInitializer depth_left) initializer_written ts n
   behind-equal k.Name ts us n equal e h =
-      let P : Type 0 = Viable (LowInitializer room) initializer_written ts n in
+      let P : Type 0 = Viable (LowInitializer depth_left) initializer_written ts n in
       faulted (identifier us) _ n P h
       (λ h1. viable (t.copies some_name) (tt, omega arith) (equal ⨠ at_once _ us n (identifier_fault us n h1)))
       (λ x name h1. no_fault _ n P h1)
@@ -161,27 +165,28 @@ module _ (room : ℕ) where
       braces-begun true ts (drop 1 us) n (equal ⨾ one_plain us (k.Mark m.LeftBrace) (w.Mark m.LeftBrace) e refl) h
   behind-equal _ ts us n equal e h = viable (t.copies some_name) (tt, omega arith) (equal ⨠ at_once _ us n (one_fault _ n h))
 
-  constructed-begun : (ts : List Token) (n : ℕ) → kind_at ts ≡ k.Mark m.LeftParenthesis → constructed room ts ≡ Err (Grammar n)
-      → Viable (LowInitializer room) initializer_written ts n
+  constructed-begun : (ts : List Token) (n : ℕ) → kind_at ts ≡ k.Mark m.LeftParenthesis → constructed depth_left ts ≡ Err (Grammar n)
+      → Viable (LowInitializer depth_left) initializer_written ts n
   unfolding constructed
   constructed-begun ts n e h =
-      let P : Type 0 = Viable (LowInitializer room) initializer_written ts n in
-      let one = expr (room + 1) 1 in
-      let more = expr room 1 in
+      let P : Type 0 = Viable (LowInitializer depth_left) initializer_written ts n in
+      let one = expr (depth_left + 1) 1 in
+      let more = expr depth_left 1 in
       let opened = one_plain ts (k.Mark m.LeftParenthesis) (w.Mark m.LeftParenthesis) e refl in
-      faulted (list one more room (drop 1 ts)) _ n P h
+      faulted (list one more depth_left (drop 1 ts)) _ n P h
       (λ h1.
-      let v = list-viable one more room (whole-part room) (inner-part room) (value-stops room) (inner-stops room) (drop 1 ts) n h1 in
+      let v = list-viable one more depth_left (whole-part depth_left) (inner-part depth_left) (value-stops depth_left) (inner-stops depth_left)
+      (drop 1 ts) n h1 in
       viable (t.arguments v.tree) ((v.fits.0, v.fits.1), v.fits.2) (opened ⨠ unfinished (begun v) (s.mark m.RightParenthesis ∷ [])))
       (λ xs read h1.
-      let found = list-part one more room (whole-part room) (inner-part room) (drop 1 ts) xs read in
+      let found = list-part one more depth_left (whole-part depth_left) (inner-part depth_left) (drop 1 ts) xs read in
       faulted (mark m.RightParenthesis xs.1) _ n P h1
       (λ h2. viable (t.arguments xs.0.0) (found.fits, omega (arith, found.size, found.low))
       (opened ⨠ (found.spelled ⨠ at_once _ xs.1 n (mark_fault m.RightParenthesis xs.1 n h2))))
       (λ v closed h2. no_fault _ n P h2))
 
-  initializer-by : (kind : Kind) (ts : List Token) (n : ℕ) → kind_at ts ≡ kind → initializer_by room kind ts ≡ Err (Grammar n)
-      → Viable (LowInitializer room) initializer_written ts n
+  initializer-by : (kind : TokenKind) (ts : List Token) (n : ℕ) → kind_at ts ≡ kind → initializer_by depth_left kind ts ≡ Err (Grammar n)
+      → Viable (LowInitializer depth_left) initializer_written ts n
   initializer-by (k.Mark m.Equal) ts n e h = behind-equal (kind_at (drop 1 ts)) ts (drop 1 ts) n
       (one_plain ts (k.Mark m.Equal) (w.Mark m.Equal) e refl) refl h
   initializer-by (k.Mark m.LeftBrace) ts n e h =
@@ -189,19 +194,19 @@ module _ (room : ℕ) where
   initializer-by (k.Mark m.LeftParenthesis) ts n e h = constructed-begun ts n e h
   initializer-by _ ts n e h = absurd cc
 
-  initializer-begun : Stops initializer_written IsInitializer initializer_height room (initializer room)
+  initializer-begun : Stops initializer_written IsInitializer initializer_height depth_left (initializer depth_left)
   unfolding initializer
   initializer-begun ts n h = initializer-by (kind_at ts) ts n refl h
 
-  -- where the room is too small, the fault is at the first word
+  -- where too little of the depth is left, the fault is at the first word
   pub container-begun : (form : Form) (ts : List Token) (n : ℕ) (P : Type 0) → kind_at ts ≡ k.Container form
-      → container_declaration room form ts ≡ Err (Grammar n) → (length ts ≡ n → P)
-      → (Viable (LowDeclaration (room + 1)) declaration_written ts n → P) → P
+      → container_declaration depth_left form ts ≡ Err (Grammar n) → (length ts ≡ n → P)
+      → (Viable (LowDeclaration (depth_left + 1)) declaration_written ts n → P) → P
   unfolding container_declaration
   container-begun form ts n P e h shut go =
-      tested (nat_lt 0 room) _ (length ts) n P h
+      tested (nat_lt 0 depth_left) _ (length ts) n P h
       (λ high h1.
-      let above : 0 < room = ltb-true 0 room high in
+      let above : 0 < depth_left = ltb-true 0 depth_left high in
       let type : ContainerType = record { place = here ts; form = form } in
       faulted (container_type form ts) _ n P h1
       (λ h2. go (viable (t.declares_container type some_name t.absent) (tt, omega (arith, above))
@@ -212,7 +217,7 @@ module _ (room : ℕ) where
       (λ h3. go (viable (t.declares_container c.0 some_name t.absent) (tt, omega (arith, above))
       (word ⨠ at_once (s.named some_name ∷ []) c.1 n (identifier_fault c.1 n h3))))
       (λ x name h3.
-      faulted (initializer room x.1) _ n P h3
+      faulted (initializer depth_left x.1) _ n P h3
       (λ h4.
       let v = initializer-begun x.1 n h4 in
       go (viable (t.declares_container c.0 x.0 v.tree) (v.fits.0, omega (arith, above, v.fits.1))

@@ -5,8 +5,8 @@ use Rattle.std.proofs.lemmas.Bool.{ltb-true}
 use Rattle.sl_base.specs.declared.mark.Mark.TheVariants as m
 use Rattle.sl_base.specs.declared.token.Token.{Token}
 use Rattle.sl_base.specs.declared.word.Word.TheVariants as w
-use Rattle.sl_syntax.specs.declared.kind.Kind.{Kind}
-use Rattle.sl_syntax.specs.declared.kind.Kind.TheVariants as k
+use Rattle.sl_syntax.specs.declared.token_kind.TokenKind.{TokenKind}
+use Rattle.sl_syntax.specs.declared.token_kind.TokenKind.TheVariants as k
 use Rattle.sl_syntax.specs.declared.operator.PrefixOperator.{PrefixOperator}
 use Rattle.sl_syntax.specs.declared.operator.PrefixOperator.TheVariants as prefix
 use Rattle.sl_syntax.specs.Depth.{height}
@@ -16,16 +16,17 @@ use Rattle.sl_syntax.specs.Tree.{Expr}
 use Rattle.sl_syntax.specs.Written as s
 use Rattle.sl_syntax.specs.Written.{prefix_mark, written, list_written}
 use Rattle.sl_grammar.specs.declared.fault.Fault.TheVariants.{Grammar}
-use Rattle.sl_grammar.specs.Expressions.{list_before, arguments, named, library_call, parentheses, prefixed, operand_by, operand}
-use Rattle.sl_grammar.specs.Steps.{Reader, Tall, kind_at, here, is_mark, mark, identifier, library}
+use Rattle.sl_grammar.specs.Means.Expressions.{list_before, arguments, named, library_call, parentheses, prefixed, operand_by, operand}
+use Rattle.sl_grammar.specs.Means.Steps.{Reader, Tall, kind_at, here, is_mark, mark, identifier, library}
 use Rattle.sl_grammar.proofs.SoundOperands.{Finds, arguments_written, list-parts}
 use Rattle.sl_grammar.proofs.SoundSteps.{one_word, mark_plain, identifier_took, library_took, chosen}
 use Rattle.sl_grammar.proofs.ViableLists.{ListLow, list-before-viable}
-use Rattle.sl_grammar.proofs.ViableSteps.{Viable, viable, begun, refitted, at_once, ◌⨠◌, unfinished, ended, some_expr, faulted, tested, one_fault, no_fault, mark_fault, identifier_fault, library_fault, Stops}
+use Rattle.sl_grammar.proofs.ViableSteps.{Viable, viable, begun, refitted, at_once, ◌⨠◌, unfinished, ended, some_expr, faulted, tested, one_fault}
+use Rattle.sl_grammar.proofs.ViableSteps.{no_fault, mark_fault, identifier_fault, library_fault, Stops}
 
--- an expression that is no higher than the room, and binds at least so tightly
+-- an expression that is no higher than what is left of the depth, and binds at least so tightly
 abbrev pub Tight : ℕ → ℕ → Expr → Type 0
-Tight room least x = IsExpr x × (height x ≤ room) × (least ≤ level x)
+Tight depth_left least x = IsExpr x × (height x ≤ depth_left) × (least ≤ level x)
 
 -- an expression that is less high than the depth, and binds at least so tightly
 abbrev pub Lower : ℕ → ℕ → Expr → Type 0
@@ -41,29 +42,30 @@ pub whole-stops : (inner : ℕ → Reader (Tall Expr)) (depth : ℕ) → StopsIn
 whole-stops inner depth stops high ts n h =
     refitted (λ (x : Expr) fits. (fits.0, omega (arith, fits.1))) (stops 1 ts n high (omega arith) (omega arith) h)
 
-module _ (inner smaller : ℕ → Reader (Tall Expr)) (room : ℕ) (f : Finds inner room) (g : Finds smaller (room - 1)) (inner-stops : StopsIn inner room)
-    (smaller-stops : StopsIn smaller (room - 1)) where
-  list-stops : 0 < room → (ts : List Token) (n : ℕ) → list_before (inner 1) (smaller 1) (room - 1) m.RightParenthesis ts ≡ Err (Grammar n)
-      → Viable (ListLow (room - 1)) list_written ts n
+module _ (inner smaller : ℕ → Reader (Tall Expr)) (depth_left : ℕ) (f : Finds inner depth_left) (g : Finds smaller (depth_left - 1))
+    (inner-stops : StopsIn inner depth_left)
+    (smaller-stops : StopsIn smaller (depth_left - 1)) where
+  list-stops : 0 < depth_left → (ts : List Token) (n : ℕ) → list_before (inner 1) (smaller 1) (depth_left - 1) m.RightParenthesis ts ≡ Err (Grammar n)
+      → Viable (ListLow (depth_left - 1)) list_written ts n
   list-stops high =
-      list-before-viable (inner 1) (smaller 1) (room - 1) (λ us z e. (f 1 us z (omega arith) (omega arith) e).1.part)
+      list-before-viable (inner 1) (smaller 1) (depth_left - 1) (λ us z e. (f 1 us z (omega arith) (omega arith) e).1.part)
       (λ us z e. ((g 1 us z (omega arith) (omega arith) e).0, (g 1 us z (omega arith) (omega arith) e).1.part))
-      (whole-stops inner room inner-stops high) (whole-stops smaller (room - 1) smaller-stops) m.RightParenthesis
+      (whole-stops inner depth_left inner-stops high) (whole-stops smaller (depth_left - 1) smaller-stops) m.RightParenthesis
 
-  pub arguments-viable : 0 < room → (ts : List Token) (n : ℕ) → arguments inner smaller room ts ≡ Err (Grammar n)
-      → Viable (ListLow (room - 1)) arguments_written ts n
+  pub arguments-viable : 0 < depth_left → (ts : List Token) (n : ℕ) → arguments inner smaller depth_left ts ≡ Err (Grammar n)
+      → Viable (ListLow (depth_left - 1)) arguments_written ts n
   unfolding arguments
   arguments-viable high ts n h =
-      let P : Type 0 = Viable (ListLow (room - 1)) arguments_written ts n in
+      let P : Type 0 = Viable (ListLow (depth_left - 1)) arguments_written ts n in
       faulted (mark m.LeftParenthesis ts) _ n P h
       (λ h1. viable t.none (tt, omega arith) (at_once (arguments_written t.none) ts n (mark_fault m.LeftParenthesis ts n h1)))
       (λ u opened h1.
-      faulted (list_before (inner 1) (smaller 1) (room - 1) m.RightParenthesis u.1) _ n P h1
+      faulted (list_before (inner 1) (smaller 1) (depth_left - 1) m.RightParenthesis u.1) _ n P h1
       (λ h2.
       let v = list-stops high u.1 n h2 in
       viable v.tree v.fits (mark_plain m.LeftParenthesis ts u opened ⨠ unfinished (begun v) (s.mark m.RightParenthesis ∷ [])))
       (λ xs read h2.
-      let found = list-parts inner smaller room f g u.1 xs read in
+      let found = list-parts inner smaller depth_left f g u.1 xs read in
       faulted (mark m.RightParenthesis xs.1) _ n P h2
       (λ h3.
       viable xs.0.0 (found.fits, omega (arith, found.size, found.low))
@@ -71,20 +73,20 @@ module _ (inner smaller : ℕ → Reader (Tall Expr)) (room : ℕ) (f : Finds in
       ⨠ found.spelled ⨠ at_once (s.mark m.RightParenthesis ∷ []) xs.1 n (mark_fault m.RightParenthesis xs.1 n h3)))
       (λ v closed h3. no_fault _ n P h3)))
 
-  named-viable : (ts : List Token) (n : ℕ) → named inner smaller room ts ≡ Err (Grammar n) → Viable (Tight room 7) written ts n
+  named-viable : (ts : List Token) (n : ℕ) → named inner smaller depth_left ts ≡ Err (Grammar n) → Viable (Tight depth_left 7) written ts n
   unfolding named
   named-viable ts n h =
-      let P : Type 0 = Viable (Tight room 7) written ts n in
+      let P : Type 0 = Viable (Tight depth_left 7) written ts n in
       faulted (identifier ts) _ n P h
       (λ h1. viable some_expr (tt, omega arith, omega arith) (at_once (written some_expr) ts n (identifier_fault ts n h1)))
       (λ x name h1.
       let first = identifier_took ts x name in
       chosen (is_mark m.LeftParenthesis (kind_at x.1)) _ _ _ P h1
       (λ calls h2.
-      tested (nat_lt 0 room) _ (length x.1) n P h2
+      tested (nat_lt 0 depth_left) _ (length x.1) n P h2
       (λ high h3.
-      let above : 0 < room = ltb-true 0 room high in
-      faulted (arguments inner smaller room x.1) _ n P h3
+      let above : 0 < depth_left = ltb-true 0 depth_left high in
+      faulted (arguments inner smaller depth_left x.1) _ n P h3
       (λ h4.
       let v = arguments-viable above x.1 n h4 in
       viable (t.call x.0 v.tree) (v.fits.0, omega (arith, v.fits.1), omega arith) (first ⨠ begun v))
@@ -92,33 +94,34 @@ module _ (inner smaller : ℕ → Reader (Tall Expr)) (room : ℕ) (f : Finds in
       (λ _ e. viable (t.name x.0) (tt, omega arith, omega arith) (ended first e)))
       (λ alone h2. no_fault _ n P h2))
 
-  library-viable : (ts : List Token) (n : ℕ) → library_call inner smaller room ts ≡ Err (Grammar n) → Viable (Tight room 7) written ts n
+  library-viable : (ts : List Token) (n : ℕ) → kind_at ts ≡ k.Library → library_call inner smaller depth_left ts ≡ Err (Grammar n)
+      → Viable (Tight depth_left 7) written ts n
   unfolding library_call
-  library-viable ts n h =
-      let P : Type 0 = Viable (Tight room 7) written ts n in
-      tested (nat_lt 0 room) _ (length ts) n P h
+  library-viable ts n is h =
+      let P : Type 0 = Viable (Tight depth_left 7) written ts n in
+      tested (nat_lt 0 depth_left) _ (length ts) n P h
       (λ high h1.
-      let above : 0 < room = ltb-true 0 room high in
+      let above : 0 < depth_left = ltb-true 0 depth_left high in
       faulted (library ts) _ n P h1
       (λ h2. viable some_expr (tt, omega arith, omega arith) (at_once (written some_expr) ts n (library_fault ts n h2)))
       (λ x name h2.
-      let first = library_took ts x name in
-      faulted (arguments inner smaller room x.1) _ n P h2
+      let first = library_took ts x is name in
+      faulted (arguments inner smaller depth_left x.1) _ n P h2
       (λ h3.
       let v = arguments-viable above x.1 n h3 in
       viable (t.library_call x.0 v.tree) ((first.1, v.fits.0), omega (arith, v.fits.1), omega arith) (first.0 ⨠ begun v))
       (λ xs read h3. no_fault _ n P h3)))
       (λ _ e. viable some_expr (tt, omega arith, omega arith) (at_once (written some_expr) ts n e))
 
-  parentheses-viable : (ts : List Token) (n : ℕ) → kind_at ts ≡ k.Mark m.LeftParenthesis → parentheses inner smaller room ts ≡ Err (Grammar n)
-      → Viable (Tight room 7) written ts n
+  parentheses-viable : (ts : List Token) (n : ℕ) → kind_at ts ≡ k.Mark m.LeftParenthesis → parentheses inner smaller depth_left ts ≡ Err (Grammar n)
+      → Viable (Tight depth_left 7) written ts n
   unfolding parentheses
   parentheses-viable ts n e h =
-      let P : Type 0 = Viable (Tight room 7) written ts n in
+      let P : Type 0 = Viable (Tight depth_left 7) written ts n in
       let opened = one_word ts (k.Mark m.LeftParenthesis) (w.Mark m.LeftParenthesis) e refl in
-      tested (nat_lt 0 room) _ (length ts) n P h
+      tested (nat_lt 0 depth_left) _ (length ts) n P h
       (λ high h1.
-      let above : 0 < room = ltb-true 0 room high in
+      let above : 0 < depth_left = ltb-true 0 depth_left high in
       faulted (inner 1 (drop 1 ts)) _ n P h1
       (λ h2.
       let v = inner-stops 1 (drop 1 ts) n above (omega arith) (omega arith) h2 in
@@ -134,13 +137,13 @@ module _ (inner smaller : ℕ → Reader (Tall Expr)) (room : ℕ) (f : Finds in
       (λ _ e1. viable some_expr (tt, omega arith, omega arith) (at_once (written some_expr) ts n e1))
 
   prefixed-viable : (op : PrefixOperator) (ts : List Token) (n : ℕ) → kind_at ts ≡ k.Mark (prefix_mark op)
-      → prefixed inner smaller room op ts ≡ Err (Grammar n) → Viable (Tight room 7) written ts n
+      → prefixed inner smaller depth_left op ts ≡ Err (Grammar n) → Viable (Tight depth_left 7) written ts n
   unfolding prefixed
   prefixed-viable op ts n e h =
-      let P : Type 0 = Viable (Tight room 7) written ts n in
-      tested (nat_lt 0 room) _ (length ts) n P h
+      let P : Type 0 = Viable (Tight depth_left 7) written ts n in
+      tested (nat_lt 0 depth_left) _ (length ts) n P h
       (λ high h1.
-      let above : 0 < room = ltb-true 0 room high in
+      let above : 0 < depth_left = ltb-true 0 depth_left high in
       faulted (inner 7 (drop 1 ts)) _ n P h1
       (λ h2.
       let v = inner-stops 7 (drop 1 ts) n above (omega arith) (omega arith) h2 in
@@ -149,12 +152,12 @@ module _ (inner smaller : ℕ → Reader (Tall Expr)) (room : ℕ) (f : Finds in
       (λ x read h2. no_fault _ n P h2))
       (λ _ e1. viable some_expr (tt, omega arith, omega arith) (at_once (written some_expr) ts n e1))
 
-  operand-by : (kind : Kind) (ts : List Token) (n : ℕ) → kind_at ts ≡ kind → operand_by inner smaller room kind ts ≡ Err (Grammar n)
-      → Viable (Tight room 7) written ts n
-  operand-by k.Number ts n e h = no_fault _ n (Viable (Tight room 7) written ts n) h
-  operand-by (k.Truth v) ts n e h = no_fault _ n (Viable (Tight room 7) written ts n) h
+  operand-by : (kind : TokenKind) (ts : List Token) (n : ℕ) → kind_at ts ≡ kind → operand_by inner smaller depth_left kind ts ≡ Err (Grammar n)
+      → Viable (Tight depth_left 7) written ts n
+  operand-by k.Number ts n e h = no_fault _ n (Viable (Tight depth_left 7) written ts n) h
+  operand-by (k.Truth v) ts n e h = no_fault _ n (Viable (Tight depth_left 7) written ts n) h
   operand-by k.Name ts n e h = named-viable ts n h
-  operand-by k.Library ts n e h = library-viable ts n h
+  operand-by k.Library ts n e h = library-viable ts n e h
   operand-by (k.Mark m.LeftParenthesis) ts n e h = parentheses-viable ts n e h
   operand-by (k.Mark m.Not) ts n e h = prefixed-viable prefix.Not ts n e h
   operand-by (k.Mark m.Minus) ts n e h = prefixed-viable prefix.Negate ts n e h
@@ -163,6 +166,6 @@ module _ (inner smaller : ℕ → Reader (Tall Expr)) (room : ℕ) (f : Finds in
   operand-by (k.Mark m.MinusMinus) ts n e h = prefixed-viable prefix.Decrement ts n e h
   operand-by _ ts n e h = viable some_expr (tt, omega arith, omega arith) (at_once (written some_expr) ts n (one_fault {A = Tall Expr} _ n h))
 
-  pub operand-viable : (ts : List Token) (n : ℕ) → operand inner smaller room ts ≡ Err (Grammar n) → Viable (Tight room 7) written ts n
+  pub operand-viable : (ts : List Token) (n : ℕ) → operand inner smaller depth_left ts ≡ Err (Grammar n) → Viable (Tight depth_left 7) written ts n
   unfolding operand
   operand-viable ts n h = operand-by (kind_at ts) ts n refl h

@@ -8,8 +8,8 @@ use Rattle.sl_base.specs.declared.scalar.Scalar.{Scalar}
 use Rattle.sl_base.specs.declared.scalar.Scalar.TheVariants as c
 use Rattle.sl_base.specs.declared.token.Token.{Token}
 use Rattle.sl_base.specs.declared.word.Word.TheVariants as w
-use Rattle.sl_syntax.specs.declared.kind.Kind.{Kind}
-use Rattle.sl_syntax.specs.declared.kind.Kind.TheVariants as k
+use Rattle.sl_syntax.specs.declared.token_kind.TokenKind.{TokenKind}
+use Rattle.sl_syntax.specs.declared.token_kind.TokenKind.TheVariants as k
 use Rattle.sl_syntax.specs.declared.tree.declaration.ContainerType.{ContainerType}
 use Rattle.sl_syntax.specs.declared.tree.function.Param.{Param}
 use Rattle.sl_syntax.specs.declared.tree.function.Param.TheVariants as r
@@ -18,14 +18,16 @@ use Rattle.sl_syntax.specs.Depth.{highest, param_height}
 use Rattle.sl_syntax.specs.Written as s
 use Rattle.sl_syntax.specs.Written.{Written, container_written, param_written, params_written, scalar_word}
 use Rattle.sl_grammar.specs.declared.fault.Fault.TheVariants.{Grammar}
-use Rattle.sl_grammar.specs.Declarations.{comma_param, const_param, container_by, container_param, container_type, param, param_by, params, scalar_param}
-use Rattle.sl_grammar.specs.Steps.{here, identifier, is_mark, kind_at, mark}
+use Rattle.sl_grammar.specs.Means.Declarations.{comma_param, const_param, container_by, container_param, container_type, param, param_by, params}
+use Rattle.sl_grammar.specs.Means.Declarations.{scalar_param}
+use Rattle.sl_grammar.specs.Means.Steps.{here, identifier, is_mark, kind_at, mark}
 use Rattle.sl_grammar.proofs.Rows.{Anything, comma_param_written}
 use Rattle.sl_grammar.proofs.SoundDeclarations.{by-took, comma-part, param-part, type-took}
 use Rattle.sl_grammar.proofs.SoundSteps.{mark_plain, one_word, seen, chosen}
 use Rattle.sl_grammar.proofs.Spelling.{◌⨾◌}
 use Rattle.sl_grammar.proofs.ViableDeclarations.{type-begun}
-use Rattle.sl_grammar.proofs.ViableSteps.{Stops, Viable, at_once, begun, behind-viable, faulted, identifier_fault, mark_fault, no_fault, one_fault, some_name, unfinished, viable, ◌⨠◌}
+use Rattle.sl_grammar.proofs.ViableSteps.{Stops, Viable, at_once, begun, behind-viable, faulted, identifier_fault, mark_fault, no_fault, one_fault}
+use Rattle.sl_grammar.proofs.ViableSteps.{some_name, unfinished, viable, ◌⨠◌}
 
 -- a parameter that is no higher than any
 abbrev LowParam : Param → Type 0
@@ -71,7 +73,7 @@ container_param-begun form ts n e h =
     (λ x name h3. no_fault _ n P h3)))
 
 -- a type of a container, as far as it is there
-by-begun : (kind : Kind) (ts : List Token) (n : ℕ) → kind_at ts ≡ kind → container_by kind ts ≡ Err (Grammar n)
+by-begun : (kind : TokenKind) (ts : List Token) (n : ℕ) → kind_at ts ≡ kind → container_by kind ts ≡ Err (Grammar n)
     → Viable (λ _. ⊤) container_written ts n
 by-begun (k.Container form) ts n e h = viable (record { place = here ts; form = form }) tt (type-begun form ts n e h)
 by-begun _ ts n e h = viable (record { place = here ts; form = f.Vector }) tt (at_once _ ts n (one_fault _ n h))
@@ -99,7 +101,7 @@ const_param-begun ts n e h =
 some_param : Param
 some_param = r.Value nowhere c.Int some_name
 
-param-by : (kind : Kind) (ts : List Token) (n : ℕ) → kind_at ts ≡ kind → param_by kind ts ≡ Err (Grammar n) → Viable LowParam param_written ts n
+param-by : (kind : TokenKind) (ts : List Token) (n : ℕ) → kind_at ts ≡ kind → param_by kind ts ≡ Err (Grammar n) → Viable LowParam param_written ts n
 unfolding some_param
 param-by (k.Scalar scalar) ts n e h = scalar_param-begun scalar ts n e h
 param-by (k.Container form) ts n e h = container_param-begun form ts n e h
@@ -133,5 +135,6 @@ params-begun ts n h =
     viable (v.tree ∷ []) (tt, omega (arith, v.fits.1)) (unfinished (begun v) []))
     (λ x one h2.
     let first = param-part ts x one in
-    let v = behind-viable comma_param_written Anything param_height 2 (is_mark m.Comma) comma_param comma-part comma-begun (x.0.0 ∷ [], x.0.1) x.1 n h2 in
+    let v = behind-viable comma_param_written Anything param_height 2 (is_mark m.Comma) comma_param comma-part comma-begun
+    (x.0.0 ∷ [], x.0.1) x.1 n h2 in
     viable (x.0.0 ∷ v.tree) (tt, omega (arith, first.size, first.low, v.fits.1)) (first.spelled ⨠ begun v)))

@@ -4,8 +4,8 @@ use Rattle.sl_base.specs.declared.limits.TheConstants.{TREE_DEPTH}
 use Rattle.sl_base.specs.declared.mark.Mark.TheVariants as m
 use Rattle.sl_base.specs.declared.place.Place.{Place}
 use Rattle.sl_base.specs.declared.token.Token.{Token}
-use Rattle.sl_syntax.specs.declared.kind.Kind.{Kind}
-use Rattle.sl_syntax.specs.declared.kind.Kind.TheVariants as k
+use Rattle.sl_syntax.specs.declared.token_kind.TokenKind.{TokenKind}
+use Rattle.sl_syntax.specs.declared.token_kind.TokenKind.TheVariants as k
 use Rattle.sl_syntax.specs.declared.tree.function.Param.{Param}
 use Rattle.sl_syntax.specs.declared.tree.function.ResultType.{ResultType}
 use Rattle.sl_syntax.specs.declared.tree.function.ResultType.TheVariants as z
@@ -18,9 +18,9 @@ use Rattle.sl_syntax.specs.Tree.{Function, Items, Program}
 use Rattle.sl_syntax.specs.Written as s
 use Rattle.sl_syntax.specs.Written.{Written, function_written, program_written, result_word}
 use Rattle.sl_grammar.specs.declared.fault.Fault.TheVariants.{Grammar}
-use Rattle.sl_grammar.specs.Declarations.{params}
-use Rattle.sl_grammar.specs.Statements.{braced, function, function_behind, function_by, is_more, program, stmt}
-use Rattle.sl_grammar.specs.Steps.{here, identifier, kind_at, mark}
+use Rattle.sl_grammar.specs.Means.Declarations.{params}
+use Rattle.sl_grammar.specs.Means.Statements.{braced, function, function_behind, function_by, is_more, program, stmt}
+use Rattle.sl_grammar.specs.Means.Steps.{here, identifier, kind_at, mark}
 use Rattle.sl_grammar.proofs.SoundBlocks.{block_written}
 use Rattle.sl_grammar.proofs.SoundDeclarations.{params-part}
 use Rattle.sl_grammar.proofs.SoundPrograms.{function-part, result-fixed, result_kind}
@@ -30,7 +30,8 @@ use Rattle.sl_grammar.proofs.Spelling.{◌⨾◌}
 use Rattle.sl_grammar.proofs.ViableBlocks.{braced-begun}
 use Rattle.sl_grammar.proofs.ViableParams.{params-begun}
 use Rattle.sl_grammar.proofs.ViableStatements.{stmt-faults}
-use Rattle.sl_grammar.proofs.ViableSteps.{Viable, at_once, begun, behind-viable, faulted, identifier_fault, mark_fault, no_fault, one_fault, some_name, unfinished, viable, ◌⨠◌}
+use Rattle.sl_grammar.proofs.ViableSteps.{Viable, at_once, begun, behind-viable, faulted, identifier_fault, mark_fault, no_fault, one_fault}
+use Rattle.sl_grammar.proofs.ViableSteps.{some_name, unfinished, viable, ◌⨠◌}
 
 -- a block, for one that is missing
 abbrev some_block : Place × Items × Place
@@ -78,7 +79,7 @@ function-begun result ts n e h =
     (head ⨠ (given.spelled ⨠ (mark_plain m.RightParenthesis ps.1 v closed ⨠ begun b))))
     (λ b body h5. no_fault _ n P h5)))))
 
-function-by : (kind : Kind) (ts : List Token) (n : ℕ) → kind_at ts ≡ kind → function_by kind ts ≡ Err (Grammar n)
+function-by : (kind : TokenKind) (ts : List Token) (n : ℕ) → kind_at ts ≡ kind → function_by kind ts ≡ Err (Grammar n)
     → Viable LowFunction function_written ts n
 function-by k.Void ts n e h = function-begun z.Void ts n e h
 function-by (k.Scalar scalar) ts n e h = function-begun (z.Scalar scalar) ts n e h

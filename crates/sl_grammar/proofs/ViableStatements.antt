@@ -7,8 +7,8 @@ use Rattle.sl_base.specs.declared.place.Place.{Place}
 use Rattle.sl_base.specs.declared.token.Token.{Token}
 use Rattle.sl_base.specs.declared.word.Word.{Word}
 use Rattle.sl_base.specs.declared.word.Word.TheVariants as w
-use Rattle.sl_syntax.specs.declared.kind.Kind.{Kind}
-use Rattle.sl_syntax.specs.declared.kind.Kind.TheVariants as k
+use Rattle.sl_syntax.specs.declared.token_kind.TokenKind.{TokenKind}
+use Rattle.sl_syntax.specs.declared.token_kind.TokenKind.TheVariants as k
 use Rattle.sl_syntax.specs.Depth.{stmt_height}
 use Rattle.sl_syntax.specs.Shaped.{IsStmt, ends_open}
 use Rattle.sl_syntax.specs.Tree as t
@@ -17,10 +17,11 @@ use Rattle.sl_syntax.specs.Written as s
 use Rattle.sl_syntax.specs.Written.{Written, at, from_place, plain, stmt_written, tested}
 use Rattle.sl_syntax.proofs.WrittenLaws.{words_of-from_place}
 use Rattle.sl_grammar.specs.declared.fault.Fault.TheVariants.{Grammar}
-use Rattle.sl_grammar.specs.Effects.{effect}
-use Rattle.sl_grammar.specs.Expressions.{expr}
-use Rattle.sl_grammar.specs.Statements.{block, braced, choice, condition, effect_stmt, is_else, loop, otherwise, return_stmt, stmt, stmt_by, word_stmt}
-use Rattle.sl_grammar.specs.Steps.{Reader, Tall, here, is_mark, kind_at, mark}
+use Rattle.sl_grammar.specs.Means.Effects.{effect}
+use Rattle.sl_grammar.specs.Means.Expressions.{expr}
+use Rattle.sl_grammar.specs.Means.Statements.{block, braced, choice, condition, effect_stmt, is_else, loop, otherwise, return_stmt, stmt, stmt_by}
+use Rattle.sl_grammar.specs.Means.Statements.{word_stmt}
+use Rattle.sl_grammar.specs.Means.Steps.{Reader, Tall, here, is_mark, kind_at, mark}
 use Rattle.sl_grammar.proofs.SoundBlocks.{Finds, condition-part, condition_written, tested-written}
 use Rattle.sl_grammar.proofs.SoundEffects.{effect-part}
 use Rattle.sl_grammar.proofs.SoundExpressions.{whole-part}
@@ -45,13 +46,13 @@ placed-begun {xs = xs} place b = record {
   words = words_of-from_place place xs ∙ b.words;
 }
 
-module _ (inner : Reader (Tall Stmt)) (room : ℕ) (f : Finds inner room) (g : Faults inner room) where
-  block-begun : (ts : List Token) (n : ℕ) → block inner room ts ≡ Err (Grammar n) → Viable (LowStmt (room + 1)) stmt_written ts n
+module _ (inner : Reader (Tall Stmt)) (depth_left : ℕ) (f : Finds inner depth_left) (g : Faults inner depth_left) where
+  block-begun : (ts : List Token) (n : ℕ) → block inner depth_left ts ≡ Err (Grammar n) → Viable (LowStmt (depth_left + 1)) stmt_written ts n
   block-begun ts n h =
-      let P : Type 0 = Viable (LowStmt (room + 1)) stmt_written ts n in
-      faulted (braced inner room ts) _ n P h
+      let P : Type 0 = Viable (LowStmt (depth_left + 1)) stmt_written ts n in
+      faulted (braced inner depth_left ts) _ n P h
       (λ h1.
-      let v = braced-begun inner room f g ts n h1 in
+      let v = braced-begun inner depth_left f g ts n h1 in
       viable (t.block v.tree.0 v.tree.1 v.tree.2) v.fits (begun v))
       (λ b read h1. no_fault _ n P h1)
 
@@ -59,23 +60,23 @@ module _ (inner : Reader (Tall Stmt)) (room : ℕ) (f : Finds inner room) (g : F
   tested-begun : (ts : List Token) (n : ℕ) (c : Cond) → Begun (condition_written c) ts n → Begun (tested c (stmt_written some_stmt)) ts n
   tested-begun ts n c b = rewritten (tested-written c (stmt_written some_stmt)) (unfinished b (stmt_written some_stmt))
 
-  choice-begun : (ts : List Token) (n : ℕ) → kind_at ts ≡ k.If → choice inner room ts ≡ Err (Grammar n)
-      → Viable (LowStmt (room + 1)) stmt_written ts n
+  choice-begun : (ts : List Token) (n : ℕ) → kind_at ts ≡ k.If → choice inner depth_left ts ≡ Err (Grammar n)
+      → Viable (LowStmt (depth_left + 1)) stmt_written ts n
   unfolding choice otherwise
   choice-begun ts n e h =
-      let P : Type 0 = Viable (LowStmt (room + 1)) stmt_written ts n in
+      let P : Type 0 = Viable (LowStmt (depth_left + 1)) stmt_written ts n in
       let word = one_word ts k.If (w.Key (codes "if")) e refl in
-      steps.tested (nat_lt 0 room) _ (length ts) n P h
+      steps.tested (nat_lt 0 depth_left) _ (length ts) n P h
       (λ test h1.
-      let high : 0 < room = ltb-true 0 room test in
-      let stops = inner-stops inner room g high in
-      faulted (condition inner room (drop 1 ts)) _ n P h1
+      let high : 0 < depth_left = ltb-true 0 depth_left test in
+      let stops = inner-stops inner depth_left g high in
+      faulted (condition inner depth_left (drop 1 ts)) _ n P h1
       (λ h2.
-      let v = condition-begun inner room f g (drop 1 ts) n h2 in
+      let v = condition-begun inner depth_left f g (drop 1 ts) n h2 in
       viable (t.choice (here ts) v.tree some_stmt) ((v.fits.0, tt), omega (arith, v.fits.1, high))
       (word ⨠ tested-begun (drop 1 ts) n v.tree (begun v)))
       (λ c asks h2.
-      let asked = condition-part inner room f (drop 1 ts) c asks in
+      let asked = condition-part inner depth_left f (drop 1 ts) c asks in
       faulted (inner c.1) _ n P h2
       (λ h3.
       let v = stops c.1 n h3 in
@@ -99,100 +100,101 @@ module _ (inner : Reader (Tall Stmt)) (room : ℕ) (f : Finds inner room) (g : F
       (λ none h4. no_fault _ n P h4))))
       (λ _ same. viable some_stmt (tt, omega arith) (at_once _ ts n same))
 
-  loop-begun : (ts : List Token) (n : ℕ) → kind_at ts ≡ k.While → loop inner room ts ≡ Err (Grammar n)
-      → Viable (LowStmt (room + 1)) stmt_written ts n
+  loop-begun : (ts : List Token) (n : ℕ) → kind_at ts ≡ k.While → loop inner depth_left ts ≡ Err (Grammar n)
+      → Viable (LowStmt (depth_left + 1)) stmt_written ts n
   unfolding loop
   loop-begun ts n e h =
-      let P : Type 0 = Viable (LowStmt (room + 1)) stmt_written ts n in
+      let P : Type 0 = Viable (LowStmt (depth_left + 1)) stmt_written ts n in
       let word = one_word ts k.While (w.Key (codes "while")) e refl in
-      steps.tested (nat_lt 0 room) _ (length ts) n P h
+      steps.tested (nat_lt 0 depth_left) _ (length ts) n P h
       (λ test h1.
-      let high : 0 < room = ltb-true 0 room test in
-      faulted (condition inner room (drop 1 ts)) _ n P h1
+      let high : 0 < depth_left = ltb-true 0 depth_left test in
+      faulted (condition inner depth_left (drop 1 ts)) _ n P h1
       (λ h2.
-      let v = condition-begun inner room f g (drop 1 ts) n h2 in
+      let v = condition-begun inner depth_left f g (drop 1 ts) n h2 in
       viable (t.while (here ts) v.tree some_stmt) ((v.fits.0, tt), omega (arith, v.fits.1, high))
       (word ⨠ tested-begun (drop 1 ts) n v.tree (begun v)))
       (λ c asks h2.
-      let asked = condition-part inner room f (drop 1 ts) c asks in
+      let asked = condition-part inner depth_left f (drop 1 ts) c asks in
       faulted (inner c.1) _ n P h2
       (λ h3.
-      let v = inner-stops inner room g high c.1 n h3 in
+      let v = inner-stops inner depth_left g high c.1 n h3 in
       viable (t.while (here ts) c.0.0 v.tree) ((asked.fits, v.fits.0), omega (arith, asked.size, asked.low, v.fits.1))
       (word ⨠ rewritten (tested-written c.0.0 (stmt_written v.tree)) (asked.spelled ⨠ begun v)))
       (λ a read h3. no_fault _ n P h3)))
       (λ _ same. viable some_stmt (tt, omega arith) (at_once _ ts n same))
 
-  return-begun : (ts : List Token) (n : ℕ) → kind_at ts ≡ k.Return → return_stmt inner room ts ≡ Err (Grammar n)
-      → Viable (LowStmt (room + 1)) stmt_written ts n
+  return-begun : (ts : List Token) (n : ℕ) → kind_at ts ≡ k.Return → return_stmt inner depth_left ts ≡ Err (Grammar n)
+      → Viable (LowStmt (depth_left + 1)) stmt_written ts n
   unfolding return_stmt
   return-begun ts n e h =
-      let P : Type 0 = Viable (LowStmt (room + 1)) stmt_written ts n in
+      let P : Type 0 = Viable (LowStmt (depth_left + 1)) stmt_written ts n in
       let word = one_word ts k.Return (w.Key (codes "return")) e refl in
       let close : List Written = s.mark m.Semicolon ∷ [] in
       chosen (is_mark m.Semicolon (kind_at (drop 1 ts))) _ _ _ P h
       (λ ends h1. no_fault _ n P h1)
       (λ goes h1.
-      faulted (expr (room + 1) 1 (drop 1 ts)) _ n P h1
+      faulted (expr (depth_left + 1) 1 (drop 1 ts)) _ n P h1
       (λ h2.
-      let v = value-stops room (drop 1 ts) n h2 in
+      let v = value-stops depth_left (drop 1 ts) n h2 in
       viable (t.gives_back (here ts) (Some v.tree)) (v.fits.0, omega (arith, v.fits.1)) (word ⨠ unfinished (begun v) close))
       (λ v read h2.
-      let found = whole-part room (drop 1 ts) v read in
+      let found = whole-part depth_left (drop 1 ts) v read in
       faulted (mark m.Semicolon v.1) _ n P h2
       (λ h3. viable (t.gives_back (here ts) (Some v.0.0)) (found.fits, omega (arith, found.size, found.low))
       (word ⨠ (found.spelled ⨠ at_once close v.1 n (mark_fault m.Semicolon v.1 n h3))))
       (λ u read h3. no_fault _ n P h3)))
 
-  effect-begun : (ts : List Token) (n : ℕ) → effect_stmt inner room ts ≡ Err (Grammar n) → Viable (LowStmt (room + 1)) stmt_written ts n
+  effect-begun : (ts : List Token) (n : ℕ) → effect_stmt inner depth_left ts ≡ Err (Grammar n) → Viable (LowStmt (depth_left + 1)) stmt_written ts n
   unfolding effect_stmt
   effect-begun ts n h =
-      let P : Type 0 = Viable (LowStmt (room + 1)) stmt_written ts n in
+      let P : Type 0 = Viable (LowStmt (depth_left + 1)) stmt_written ts n in
       let close : List Written = s.mark m.Semicolon ∷ [] in
-      faulted (effect room ts) _ n P h
+      faulted (effect depth_left ts) _ n P h
       (λ h1.
-      let v = effect-viable room ts n h1 in
+      let v = effect-viable depth_left ts n h1 in
       viable (t.does (here ts) v.tree) (v.fits.0, omega (arith, v.fits.1)) (placed-begun (here ts) (unfinished (begun v) close)))
       (λ x read h1.
-      let found = effect-part room ts x read in
+      let found = effect-part depth_left ts x read in
       faulted (mark m.Semicolon x.1) _ n P h1
       (λ h2. viable (t.does (here ts) x.0.0) (found.fits, omega (arith, found.size, found.low))
       (placed-begun (here ts) (found.spelled ⨠ at_once close x.1 n (mark_fault m.Semicolon x.1 n h2))))
       (λ u read h2. no_fault _ n P h2))
 
   -- a statement that is a word alone
-  word-begun : (word : Word) (make : Place → Stmt) (ts : List Token) (n : ℕ) (P : Type 0) → word_stmt inner room make ts ≡ Err (Grammar n)
+  word-begun : (word : Word) (make : Place → Stmt) (ts : List Token) (n : ℕ) (P : Type 0) → word_stmt inner depth_left make ts ≡ Err (Grammar n)
       → Spelled (at (here ts) word ∷ []) ts (drop 1 ts) → (Begun (at (here ts) word ∷ s.mark m.Semicolon ∷ []) ts n → P) → P
   unfolding word_stmt
   word-begun word make ts n P h first go =
       faulted (mark m.Semicolon (drop 1 ts)) _ n P h (λ h1. go (first ⨠ at_once _ (drop 1 ts) n (mark_fault m.Semicolon (drop 1 ts) n h1)))
       (λ u close h1. no_fault _ n P h1)
 
-  stmt-by : (kind : Kind) (ts : List Token) (n : ℕ) → kind_at ts ≡ kind → stmt_by inner room kind ts ≡ Err (Grammar n)
-      → Viable (LowStmt (room + 1)) stmt_written ts n
+  stmt-by : (kind : TokenKind) (ts : List Token) (n : ℕ) → kind_at ts ≡ kind → stmt_by inner depth_left kind ts ≡ Err (Grammar n)
+      → Viable (LowStmt (depth_left + 1)) stmt_written ts n
   stmt-by (k.Mark m.LeftBrace) ts n e h = block-begun ts n h
   stmt-by k.If ts n e h = choice-begun ts n e h
   stmt-by k.While ts n e h = loop-begun ts n e h
-  stmt-by k.For ts n e h = for-begun inner room f g ts n e h
+  stmt-by k.For ts n e h = for-begun inner depth_left f g ts n e h
   stmt-by k.Break ts n e h =
-      word-begun (w.Key (codes "break")) t.break ts n (Viable (LowStmt (room + 1)) stmt_written ts n) h
+      word-begun (w.Key (codes "break")) t.break ts n (Viable (LowStmt (depth_left + 1)) stmt_written ts n) h
       (one_word ts k.Break (w.Key (codes "break")) e refl) (λ b. viable (t.break (here ts)) (tt, omega arith) b)
   stmt-by k.Continue ts n e h =
-      word-begun (w.Key (codes "continue")) t.continue ts n (Viable (LowStmt (room + 1)) stmt_written ts n) h
+      word-begun (w.Key (codes "continue")) t.continue ts n (Viable (LowStmt (depth_left + 1)) stmt_written ts n) h
       (one_word ts k.Continue (w.Key (codes "continue")) e refl) (λ b. viable (t.continue (here ts)) (tt, omega arith) b)
   stmt-by k.Return ts n e h = return-begun ts n e h
   stmt-by _ ts n e h = effect-begun ts n h
 
--- What a statement stops in; without room it stops at its first word.
-pub stmt-faults : (room : ℕ) → Faults (stmt room) room
+-- What a statement stops in; where no depth is left it stops at its first word.
+pub stmt-faults : (depth_left : ℕ) → Faults (stmt depth_left) depth_left
 unfolding stmt
 stmt-faults zero ts n P h shut go = shut (one_fault {A = Tall Stmt} _ n h)
-stmt-faults (suc room) ts n P h shut go = go (rw suc-is (stmt-by (stmt room) room (stmt-sound room) (stmt-faults room) (kind_at ts) ts n refl h))
+stmt-faults (suc depth_left) ts n P h shut go =
+    go (rw suc-is (stmt-by (stmt depth_left) depth_left (stmt-sound depth_left) (stmt-faults depth_left) (kind_at ts) ts n refl h))
   where
-    suc-is : suc room ≡ room + 1
+    suc-is : suc depth_left ≡ depth_left + 1
     suc-is = omega arith
 
 -- The words before a fault in a statement begin one that is at most so high.
-pub stmt-viable : (room : ℕ) (ts : List Token) (n : ℕ) → 0 < room → stmt room ts ≡ Err (Grammar n)
-    → Viable (λ (x : Stmt). IsStmt x × (stmt_height x ≤ room)) stmt_written ts n
-stmt-viable room ts n high h = inner-stops (stmt room) room (stmt-faults room) high ts n h
+pub stmt-viable : (depth_left : ℕ) (ts : List Token) (n : ℕ) → 0 < depth_left → stmt depth_left ts ≡ Err (Grammar n)
+    → Viable (λ (x : Stmt). IsStmt x × (stmt_height x ≤ depth_left)) stmt_written ts n
+stmt-viable depth_left ts n high h = inner-stops (stmt depth_left) depth_left (stmt-faults depth_left) high ts n h

@@ -1,12 +1,14 @@
 -- What a fault tells: the tokens before it begin the words of something that the reader reads.
-use Rattle.std.proofs.Common.{length, map, ◌≡◌, ℕ, zero, suc, ◌≤◌, max, Bool, true, false, cond, List, [], ◌∷◌, ◌++◌, Ok, Err, refl, sym, ap, subst, ◌∙◌, arith, append_assoc}
+use Rattle.std.proofs.Common.{length, map, ◌≡◌, ℕ, zero, suc, ◌≤◌, max, Bool, true, false, cond, List, [], ◌∷◌, ◌++◌, Ok, Err, refl, sym, ap, subst}
+use Rattle.std.proofs.Common.{◌∙◌, arith, append_assoc}
 use Rattle.std.specs.Prelude.{flat_map, codes}
 use Rattle.std.proofs.lemmas.List.{append-nil, map-append}
 use Rattle.sl_base.specs.declared.mark.Mark.{Mark}
+use Rattle.sl_base.specs.declared.place.Place.{Place}
 use Rattle.sl_base.specs.declared.token.Token.{Token}
 use Rattle.sl_base.specs.declared.word.Word.{Word}
-use Rattle.sl_syntax.specs.declared.kind.Kind.{Kind}
-use Rattle.sl_syntax.specs.declared.kind.Kind.TheVariants as k
+use Rattle.sl_base.specs.declared.word.Word.TheVariants as w
+use Rattle.sl_syntax.specs.declared.token_kind.TokenKind.{TokenKind}
 use Rattle.sl_syntax.specs.declared.tree.identifier.Identifier.{Identifier}
 use Rattle.sl_syntax.specs.Begins.{words_in}
 use Rattle.sl_syntax.specs.Blank.{nowhere}
@@ -18,7 +20,8 @@ use Rattle.sl_syntax.specs.Tree.{Expr}
 use Rattle.sl_syntax.specs.Written.{Written, words_of}
 use Rattle.sl_syntax.proofs.WrittenLaws.{words_of-append}
 use Rattle.sl_grammar.specs.declared.fault.Fault.TheVariants.{Grammar}
-use Rattle.sl_grammar.specs.Steps.{Outcome, Reader, Tall, and_then, kind_at, is_mark, mark, identifier_by, identifier, library_by, library, repeat, all_behind}
+use Rattle.sl_grammar.specs.Means.Steps.{Outcome, Reader, Tall, and_then, kind_at, is_mark, mark, identifier_by, identifier, library_by, library}
+use Rattle.sl_grammar.specs.Means.Steps.{repeat, all_behind}
 use Rattle.sl_grammar.proofs.SoundSteps.{Parts, chosen}
 use Rattle.sl_grammar.proofs.Spelling.{Spelled}
 
@@ -152,45 +155,48 @@ pub mark_fault : (x : Mark) (ts : List Token) (n : ℕ) → mark x ts ≡ Err (G
 unfolding mark
 mark_fault x ts n h = tested (is_mark x (kind_at ts)) _ (length ts) n (length ts ≡ n) h (λ _ h1. no_fault _ n (length ts ≡ n) h1) (λ _ e. e)
 
-name_fault : (kind : Kind) (ts : List Token) (n : ℕ) → identifier_by kind ts ≡ Err (Grammar n) → length ts ≡ n
-name_fault k.Name ts n h = absurd cc
-name_fault _ ts n h = cc
+name_fault : (x : Word) (place : Place) (ts : List Token) (n : ℕ) → identifier_by place x ts ≡ Err (Grammar n) → length ts ≡ n
+name_fault (w.Name m) place ts n h = absurd cc
+name_fault _ place ts n h = cc
 
 pub identifier_fault : (ts : List Token) (n : ℕ) → identifier ts ≡ Err (Grammar n) → length ts ≡ n
 unfolding identifier
-identifier_fault ts n h = name_fault (kind_at ts) ts n h
+identifier_fault [] n h = cc
+identifier_fault (t ∷ ts) n h = name_fault t.word t.place (t ∷ ts) n h
 
-lib_fault : (kind : Kind) (ts : List Token) (n : ℕ) → library_by kind ts ≡ Err (Grammar n) → length ts ≡ n
-lib_fault k.Library ts n h = absurd cc
-lib_fault _ ts n h = cc
+lib_fault : (x : Word) (place : Place) (ts : List Token) (n : ℕ) → library_by place x ts ≡ Err (Grammar n) → length ts ≡ n
+lib_fault (w.Lib m) place ts n h = absurd cc
+lib_fault _ place ts n h = cc
 
 pub library_fault : (ts : List Token) (n : ℕ) → library ts ≡ Err (Grammar n) → length ts ≡ n
 unfolding library
-library_fault ts n h = lib_fault (kind_at ts) ts n h
+library_fault [] n h = cc
+library_fault (t ∷ ts) n h = lib_fault t.word t.place (t ∷ ts) n h
 
 -- what a reader stops in, where it stops at a fault: it fits and is low enough
 abbrev pub Stops : {A : Type 0} → (A → List Written) → (A → Type 0) → (A → ℕ) → ℕ → Reader (Tall A) → Type 0
-Stops {A} written Fits height room item =
-    (ts : List Token) (n : ℕ) → item ts ≡ Err (Grammar n) → Viable (λ (x : A). Fits x × (height x ≤ room)) written ts n
+Stops {A} written Fits height depth_left item =
+    (ts : List Token) (n : ℕ) → item ts ≡ Err (Grammar n) → Viable (λ (x : A). Fits x × (height x ≤ depth_left)) written ts n
 
 -- items that fit and are low enough
 abbrev pub Low : {A : Type 0} → (A → Type 0) → (A → ℕ) → ℕ → List A → Type 0
-Low Fits height room items = Each Fits items × (highest height items ≤ room)
+Low Fits height depth_left items = Each Fits items × (highest height items ≤ depth_left)
 
 -- where one item stops at a fault, items begin
-module _ {A : Type 0} (written : A → List Written) (Fits : A → Type 0) (height : A → ℕ) (room : ℕ) (goes : Kind → Bool) (item : Reader (Tall A))
-    (f : Parts written Fits height room item)
-    (stops : (ts : List Token) (n : ℕ) → item ts ≡ Err (Grammar n) → Viable (Low Fits height room) (flat_map written) ts n) where
+module _ {A : Type 0} (written : A → List Written) (Fits : A → Type 0) (height : A → ℕ) (depth_left : ℕ) (goes : TokenKind → Bool)
+    (item : Reader (Tall A))
+    (f : Parts written Fits height depth_left item)
+    (stops : (ts : List Token) (n : ℕ) → item ts ≡ Err (Grammar n) → Viable (Low Fits height depth_left) (flat_map written) ts n) where
   repeat-viable : (turns : ℕ) (done : Tall (List A)) (ts : List Token) (n : ℕ) → repeat goes item turns done ts ≡ Err (Grammar n)
-      → Viable (Low Fits height room) (flat_map written) ts n
+      → Viable (Low Fits height depth_left) (flat_map written) ts n
   unfolding repeat
   repeat-viable zero done ts n h =
-      let P : Type 0 = Viable (Low Fits height room) (flat_map written) ts n in
+      let P : Type 0 = Viable (Low Fits height depth_left) (flat_map written) ts n in
       chosen (goes (kind_at ts)) _ _ _ P h
       (λ on h1. viable [] (tt, omega arith) (at_once [] ts n (one_fault {A = Tall (List A)} _ n h1)))
       (λ stop h1. no_fault _ n P h1)
   repeat-viable (suc m) done ts n h =
-      let P : Type 0 = Viable (Low Fits height room) (flat_map written) ts n in
+      let P : Type 0 = Viable (Low Fits height depth_left) (flat_map written) ts n in
       chosen (goes (kind_at ts)) _ _ _ P h
       (λ on h1.
       faulted (item ts) _ n P h1 (λ h2. stops ts n h2) (λ x read h2.
@@ -201,17 +207,18 @@ module _ {A : Type 0} (written : A → List Written) (Fits : A → Type 0) (heig
       (λ stop h1. no_fault _ n P h1)
 
   pub row-viable : (done : Tall (List A)) (ts : List Token) (n : ℕ) → all_behind goes item done ts ≡ Err (Grammar n)
-      → Viable (Low Fits height room) (flat_map written) ts n
+      → Viable (Low Fits height depth_left) (flat_map written) ts n
   row-viable done ts n h = repeat-viable (length ts) done ts n h
 
-module _ {A : Type 0} (written : A → List Written) (Fits : A → Type 0) (height : A → ℕ) (room : ℕ) (goes : Kind → Bool) (item : Reader (Tall A))
-    (f : Parts written Fits height room item) (stops : Stops written Fits height room item) where
-  alone-viable : (ts : List Token) (n : ℕ) → item ts ≡ Err (Grammar n) → Viable (Low Fits height room) (flat_map written) ts n
+module _ {A : Type 0} (written : A → List Written) (Fits : A → Type 0) (height : A → ℕ) (depth_left : ℕ) (goes : TokenKind → Bool)
+    (item : Reader (Tall A))
+    (f : Parts written Fits height depth_left item) (stops : Stops written Fits height depth_left item) where
+  alone-viable : (ts : List Token) (n : ℕ) → item ts ≡ Err (Grammar n) → Viable (Low Fits height depth_left) (flat_map written) ts n
   alone-viable ts n h =
       let v = stops ts n h in
       viable (v.tree ∷ []) ((v.fits.0, tt), omega (arith, v.fits.1)) (unfinished (begun v) [])
 
   -- the fault is in the items that follow
   pub behind-viable : (done : Tall (List A)) (ts : List Token) (n : ℕ) → all_behind goes item done ts ≡ Err (Grammar n)
-      → Viable (Low Fits height room) (flat_map written) ts n
-  behind-viable done ts n h = row-viable written Fits height room goes item f alone-viable done ts n h
+      → Viable (Low Fits height depth_left) (flat_map written) ts n
+  behind-viable done ts n h = row-viable written Fits height depth_left goes item f alone-viable done ts n h

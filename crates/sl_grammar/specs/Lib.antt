@@ -1,5 +1,2 @@
-pub mod Steps
-pub mod Expressions
-pub mod Effects
-pub mod Declarations
-pub mod Statements
+-- How the reader reads, step by step. What the grammar is, sl_syntax says; nobody has to believe what stands here.
+pub mod Means

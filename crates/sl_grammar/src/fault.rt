@@ -4,7 +4,7 @@ ghost use Rattle.sl_grammar.specs.declared.fault.Fault.TheVariants.{Memory};
 use std::alloc::{AllocError, AllocFailed};
 
 /// Why tokens are not read.
-#[derive(Clone, Copy)]
+#[derive(Drop)]
 pub enum Fault {
     Memory,
     /// The number of tokens that are left, from the one on that can't stand there.

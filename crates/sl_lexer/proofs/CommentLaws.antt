@@ -1,5 +1,6 @@
 -- Comments at the front of a rest: the length that is counted is that of the longest, and none is longer.
-use Rattle.std.proofs.Common.{◌≡◌, ℕ, zero, suc, ◌+◌, ◌-◌, ◌<◌, ◌≤◌, ◌==◌, ◌&&◌, ◌||◌, inl, inr, true, false, not, cond, List, [], ◌∷◌, length, take, drop, Option, Some, None, is_some, option_map, codes, refl, sym, ap, ◌∙◌, subst, arith, add-one, add_comm}
+use Rattle.std.proofs.Common.{◌≡◌, ℕ, zero, suc, ◌+◌, ◌-◌, ◌<◌, ◌≤◌, ◌==◌, ◌&&◌, ◌||◌, inl, inr, true, false, not, cond, List, [], ◌∷◌, length, take}
+use Rattle.std.proofs.Common.{drop, Option, Some, None, is_some, option_map, codes, refl, sym, ap, ◌∙◌, subst, arith, add-one, add_comm}
 use Rattle.std.specs.List.{prefix_len, list_all}
 use Rattle.std.specs.Str.{bytes_eq}
 use Rattle.std.proofs.lemmas.Bool.{and_parts, and_from, or_cases, or_left, or_right, eqb-true, eq-eqb}
@@ -41,7 +42,8 @@ end-least (b ∷ bs) n e =
 end-within : (xs : List ℕ) (n : ℕ) → comment_end xs ≡ Some n → n ≤ length xs
 end-within [] n e = absurd cc
 end-within (b ∷ []) n e =
-    elim (b == 42) as (λ t. cond (t && false) (Some 2) (option_map (λ k. k + 1) None) ≡ Some n → n ≤ 1) [ true ↦ λ is. absurd cc | false ↦ λ is. absurd cc ] e
+    elim (b == 42) as (λ t. cond (t && false) (Some 2) (option_map (λ k. k + 1) None) ≡ Some n → n ≤ 1)
+    [ true ↦ λ is. absurd cc | false ↦ λ is. absurd cc ] e
 end-within (b ∷ c ∷ cs) n e =
     elim ((b == 42) && (c == 47)) as (λ t. cond t (Some 2) (option_map (λ k. k + 1) (comment_end (c ∷ cs))) ≡ Some n → n ≤ suc (suc (length cs))) [
       | true ↦ λ is. let two : 2 ≡ n = cc in omega arith
@@ -49,8 +51,10 @@ end-within (b ∷ c ∷ cs) n e =
     ] e
 
 -- the end is found in what it counts, and what counts all of a front counts the same in the whole
-end-step : (b : ℕ) (bs : List ℕ) (k : ℕ) → 0 < k → comment_end (b ∷ take k bs) ≡ cond ((b == 42) && begins (λ c. c == 47) bs) (Some 2) (option_map (λ n. n + 1) (comment_end (take k bs)))
-end-step b bs k some = ap (λ t. cond ((b == 42) && t) (Some 2) (option_map (λ n. n + 1) (comment_end (take k bs)))) (begins-take (λ c. c == 47) bs k some)
+end-step : (b : ℕ) (bs : List ℕ) (k : ℕ) → 0 < k → comment_end (b ∷ take k bs) ≡ cond ((b == 42) && begins (λ c. c == 47) bs) (Some 2)
+    (option_map (λ n. n + 1) (comment_end (take k bs)))
+end-step b bs k some = ap (λ t. cond ((b == 42) && t) (Some 2) (option_map (λ n. n + 1) (comment_end (take k bs))))
+    (begins-take (λ c. c == 47) bs k some)
 
 end-take : (xs : List ℕ) (n : ℕ) → comment_end xs ≡ Some n → comment_end (take n xs) ≡ Some n
 end-take [] n e = absurd cc
@@ -73,7 +77,8 @@ take-end xs zero h e = absurd cc
 take-end [] (suc k) h e = absurd cc
 take-end (b ∷ bs) (suc zero) h e = absurd (omega (arith, end-least (take 1 (b ∷ bs)) 1 e))
 take-end (b ∷ bs) (suc (suc k)) h e =
-    elim ((b == 42) && begins (λ c. c == 47) bs) as (λ t. cond t (Some 2) (option_map (λ n. n + 1) (comment_end (take (suc k) bs))) ≡ Some (suc (suc k))
+    elim ((b == 42) && begins (λ c. c == 47) bs) as (λ t. cond t (Some 2)
+    (option_map (λ n. n + 1) (comment_end (take (suc k) bs))) ≡ Some (suc (suc k))
     → cond t (Some 2) (option_map (λ n. n + 1) (comment_end bs)) ≡ Some (suc (suc k))) [
       | true ↦ λ is. is
       | false ↦ λ is.
@@ -117,11 +122,13 @@ line-form rest e =
     (begins-take_two (codes "//") rest (prefix_len (λ b. not (is_line_feed b)) rest) refl e (line-least rest e))
     (run-all (λ b. not (is_line_feed b)) rest)
 
-block-form : (rest : List ℕ) (n : ℕ) → begins_with (codes "/*") rest ≡ true → comment_end (drop 2 rest) ≡ Some n → is_block_comment (take (n + 2) rest) ≡ true
+block-form : (rest : List ℕ) (n : ℕ) → begins_with (codes "/*") rest ≡ true → comment_end (drop 2 rest) ≡ Some n
+    → is_block_comment (take (n + 2) rest) ≡ true
 block-form rest n e is =
     let inside : drop 2 (take (n + 2) rest) ≡ take n (drop 2 rest) = ap (λ k. drop 2 (take k rest)) (add_comm n 2) ∙ drop-take 2 n rest in
     let size : length (take n (drop 2 rest)) ≡ n = length-take-le n (drop 2 rest) (end-within (drop 2 rest) n is) in
-    let all : counts_all (comment_end (take n (drop 2 rest))) (take n (drop 2 rest)) ≡ true = rw (end-take (drop 2 rest) n is) (eq-eqb n _ (sym size)) in
+    let all : counts_all (comment_end (take n (drop 2 rest))) (take n (drop 2 rest)) ≡ true = rw (end-take (drop 2 rest) n is)
+    (eq-eqb n _ (sym size)) in
     and_from _ _
     (begins-take_two (codes "/*") rest (n + 2) refl e (omega arith))
     (subst (λ bs. counts_all (comment_end bs) bs ≡ true) (sym inside) all)
@@ -146,7 +153,8 @@ line-shape rest m within e =
 
 block-shape_at : (rest : List ℕ) (k : ℕ) → 2 + k ≤ length rest → is_block_comment (take (2 + k) rest) ≡ true → comment_len rest ≡ Some (k + 2)
 block-shape_at rest k within e =
-    let parts = and_parts (begins_with (codes "/*") (take (2 + k) rest)) (counts_all (comment_end (drop 2 (take (2 + k) rest))) (drop 2 (take (2 + k) rest))) e in
+    let parts = and_parts (begins_with (codes "/*") (take (2 + k) rest))
+    (counts_all (comment_end (drop 2 (take (2 + k) rest))) (drop 2 (take (2 + k) rest))) e in
     let opens = begins-more (codes "/*") rest (2 + k) parts.0 in
     let size : length (take k (drop 2 rest)) ≡ k = length-take-le k (drop 2 rest) (omega (arith, length-drop 2 rest)) in
     let inside : comment_end (take k (drop 2 rest)) ≡ Some k =
@@ -156,7 +164,8 @@ block-shape_at rest k within e =
 
 block-shape : (rest : List ℕ) (m : ℕ) → m ≤ length rest → is_block_comment (take m rest) ≡ true → IsCommentAt rest m
 block-shape rest m within e =
-    let opens_front = (and_parts (begins_with (codes "/*") (take m rest)) (counts_all (comment_end (drop 2 (take m rest))) (drop 2 (take m rest))) e).0 in
+    let opens_front = (and_parts (begins_with (codes "/*") (take m rest))
+    (counts_all (comment_end (drop 2 (take m rest))) (drop 2 (take m rest))) e).0 in
     let size : 2 ≤ m = omega (arith, ap length (block-open (take m rest) opens_front), length-take-le m rest within) in
     let same : 2 + (m - 2) ≡ m = omega arith in
     record {
@@ -166,7 +175,8 @@ block-shape rest m within e =
       most = omega arith;
     }
 
-pub comment-shape : (rest : List ℕ) (m : ℕ) → m ≤ length rest → (is_line_comment (take m rest) || is_block_comment (take m rest)) ≡ true → IsCommentAt rest m
+pub comment-shape : (rest : List ℕ) (m : ℕ) → m ≤ length rest → (is_line_comment (take m rest) || is_block_comment (take m rest)) ≡ true
+    → IsCommentAt rest m
 comment-shape rest m within e =
     elim (or_cases _ _ e) [ inl line ↦ line-shape rest m within line | inr block ↦ block-shape rest m within block ]
 
@@ -180,11 +190,13 @@ pub record IsCommentOf (rest : List ℕ) (n : ℕ) : Type 0 where
 pub comment-form : (rest : List ℕ) (n : ℕ) → comment_len rest ≡ Some n → IsCommentOf rest n
 comment-form rest n e =
     elim (begins_with (codes "//") rest) as (λ t. begins_with (codes "//") rest ≡ t
-    → cond t (Some (prefix_len (λ b. not (is_line_feed b)) rest)) (cond (begins_with (codes "/*") rest) (option_map (λ k. k + 2) (comment_end (drop 2 rest))) None) ≡ Some n
+    → cond t (Some (prefix_len (λ b. not (is_line_feed b)) rest))
+    (cond (begins_with (codes "/*") rest) (option_map (λ k. k + 2) (comment_end (drop 2 rest))) None) ≡ Some n
     → IsCommentOf rest n) [
       | true ↦ λ opens is. let size : prefix_len (λ b. not (is_line_feed b)) rest ≡ n = cc in subst (IsCommentOf rest) size (line opens)
       | false ↦ λ _.
-          elim (begins_with (codes "/*") rest) as (λ t. begins_with (codes "/*") rest ≡ t → cond t (option_map (λ k. k + 2) (comment_end (drop 2 rest))) None ≡ Some n → IsCommentOf rest n) [
+          elim (begins_with (codes "/*") rest) as (λ t. begins_with (codes "/*") rest ≡ t
+          → cond t (option_map (λ k. k + 2) (comment_end (drop 2 rest))) None ≡ Some n → IsCommentOf rest n) [
             | true ↦ λ opens is. let m = more-by 2 (comment_end (drop 2 rest)) n is in subst (IsCommentOf rest) (sym m.2) (block m.0 opens m.1)
             | false ↦ λ _ nothing. absurd cc
           ] refl

@@ -1,9 +1,12 @@
 -- Cuts of a text: one piece at an offset, one cut, one list of tokens, one fault, and never both.
-use Rattle.std.proofs.Common.{◌≡◌, ℕ, zero, suc, ◌+◌, ◌<◌, ◌≤◌, ◌⊎◌, inl, inr, Bool, false, ◌||◌, cond, ◌==◌, List, [], ◌∷◌, ◌++◌, length, drop, codes, Option, Some, None, is_some, Err, refl, sym, ap, ◌∙◌, subst, arith}
+use Rattle.std.proofs.Common.{◌≡◌, ℕ, zero, suc, ◌+◌, ◌<◌, ◌≤◌, ◌⊎◌, inl, inr, Bool, false, ◌||◌, cond, ◌==◌, List, [], ◌∷◌, ◌++◌, length, drop}
+use Rattle.std.proofs.Common.{codes, Option, Some, None, is_some, Err, refl, sym, ap, ◌∙◌, subst, arith}
 use Rattle.std.specs.List.{filter_map, cons_option}
 use Rattle.std.proofs.lemmas.List.{length-drop}
 use Rattle.sl_base.specs.declared.token.Token.{Token}
-use Rattle.sl_base.specs.Pieces.{PieceKind, blank_piece, comment_piece, directive_piece, name_piece, lib_piece, number_piece, text_piece, mark_piece, HasForm, IsPiece, IsLongest, TokenRule, bad_byte, bad_number, open_comment, open_text, bad_directive, rule_number, Breaks, begins_nothing, long_name, long_lib, wrong_escape, joint, no_number, no_comment}
+use Rattle.sl_base.specs.Pieces.{PieceKind, blank_piece, comment_piece, directive_piece, name_piece, lib_piece, number_piece, text_piece, mark_piece}
+use Rattle.sl_base.specs.Pieces.{HasForm, IsPiece, IsLongest, TokenRule, bad_byte, bad_number, open_comment, open_text, bad_directive, rule_number}
+use Rattle.sl_base.specs.Pieces.{Breaks, begins_nothing, long_name, long_lib, wrong_escape, joint, no_number, no_comment}
 use Rattle.sl_base.specs.Tokens.{Piece, Stands, Follow, Cut, token_of, seen_after, Tokens, BreaksBehind, TokenFault}
 use Rattle.sl_lexer.proofs.FirstLaws.{begins-is}
 use Rattle.sl_lexer.proofs.PieceLaws.{one_longest}
@@ -46,12 +49,14 @@ abbrev pub seen_by : List ℕ → Bool → Piece → Bool
 seen_by text seen p = seen || is_some (token_of text p)
 
 -- a piece that stands at the end of a cut makes it longer
-pub follow-push : (text : List ℕ) (seen : Bool) (from : ℕ) (ps : List Piece) (to : ℕ) (p : Piece) → Follow text seen from ps to → p.from ≡ to → Stands text (seen_after text seen ps) p
+pub follow-push : (text : List ℕ) (seen : Bool) (from : ℕ) (ps : List Piece) (to : ℕ) (p : Piece) → Follow text seen from ps to → p.from ≡ to
+    → Stands text (seen_after text seen ps) p
     → Follow text seen from (ps ++ p ∷ []) (to + p.len)
 follow-push text seen from [] to p h at s = (at ∙ sym h, s, ap (λ n. n + p.len) h)
 follow-push text seen from (q ∷ ps) to p h at s = (h.0, h.1, follow-push text (seen_by text seen q) (from + q.len) ps to p h.2 at s)
 
-pub seen-push : (text : List ℕ) (seen : Bool) (ps : List Piece) (p : Piece) → seen_after text seen (ps ++ p ∷ []) ≡ seen_by text (seen_after text seen ps) p
+pub seen-push : (text : List ℕ) (seen : Bool) (ps : List Piece) (p : Piece) → seen_after text seen (ps ++ p ∷ []) ≡ seen_by text
+    (seen_after text seen ps) p
 seen-push text seen [] p = refl
 seen-push text seen (q ∷ ps) p = seen-push text (seen_by text seen q) ps p
 
@@ -64,13 +69,15 @@ follow-lt text seen from p ps to h =
     omega (arith, follow-le text (seen_by text seen p) (from + p.len) ps to h.2, piece-some text seen p.from p.kind p.len h.1.longest.piece)
 
 -- one cut leads from an offset to another
-one_follow : (text : List ℕ) (seen : Bool) (from : ℕ) (ps qs : List Piece) (to : ℕ) → Follow text seen from ps to → Follow text seen from qs to → ps ≡ qs
+one_follow : (text : List ℕ) (seen : Bool) (from : ℕ) (ps qs : List Piece) (to : ℕ) → Follow text seen from ps to
+    → Follow text seen from qs to → ps ≡ qs
 one_follow text seen from [] [] to h k = refl
 one_follow text seen from [] (q ∷ qs) to h k = absurd (omega (arith, h, follow-lt text seen from q qs to k))
 one_follow text seen from (p ∷ ps) [] to h k = absurd (omega (arith, k, follow-lt text seen from p ps to h))
 one_follow text seen from (p ∷ ps) (q ∷ qs) to h k =
     let same = one_piece text seen p q h.1 k.1 (h.0 ∙ sym k.0) in
-    let rest = one_follow text (seen_by text seen p) (from + p.len) ps qs to h.2 (subst (λ (r : Piece). Follow text (seen_by text seen r) (from + r.len) qs to) (sym same) k.2) in
+    let rest = one_follow text (seen_by text seen p) (from + p.len) ps qs to h.2
+    (subst (λ (r : Piece). Follow text (seen_by text seen r) (from + r.len) qs to) (sym same) k.2) in
     ap (λ r. r ∷ ps) same ∙ ap (λ rs. q ∷ rs) rest
 
 -- one goes on where the other ends
@@ -84,8 +91,10 @@ along text seen from [] qs to end h k = inl (qs, subst (λ n. Follow text seen n
 along text seen from (p ∷ ps) [] to end h k = inr (p ∷ ps, subst (λ n. Follow text seen n (p ∷ ps) to) k h)
 along text seen from (p ∷ ps) (q ∷ qs) to end h k =
     let same = one_piece text seen p q h.1 k.1 (h.0 ∙ sym k.0) in
-    let on = along text (seen_by text seen p) (from + p.len) ps qs to end h.2 (subst (λ (r : Piece). Follow text (seen_by text seen r) (from + r.len) qs end) (sym same) k.2) in
-    subst (λ (r : Piece). GoesOn text (seen_after text (seen_by text seen p) ps) to end ⊎ GoesOn text (seen_after text (seen_by text seen r) qs) end to) same on
+    let on = along text (seen_by text seen p) (from + p.len) ps qs to end h.2
+    (subst (λ (r : Piece). Follow text (seen_by text seen r) (from + r.len) qs end) (sym same) k.2) in
+    subst (λ (r : Piece). GoesOn text (seen_after text (seen_by text seen p) ps) to end
+    ⊎ GoesOn text (seen_after text (seen_by text seen r) qs) end to) same on
 
 -- ## Tokens and faults
 
@@ -106,10 +115,12 @@ breaks-within text seen from _ _ (long_lib n l past) = longest-within text seen 
 breaks-within text seen from _ _ (wrong_escape n k l wrong) = longest-within text seen from text_piece n l
 breaks-within text seen from _ _ (joint n k l below here) = longest-within text seen from comment_piece n l
 breaks-within text seen from _ _ (no_number n l bad) = longest-within text seen from number_piece n l
-breaks-within text seen from _ _ (no_comment opens none) = omega (arith, ap length (begins-is (codes "/*") (drop from text) opens), length-drop from text)
+breaks-within text seen from _ _ (no_comment opens none) =
+    omega (arith, ap length (begins-is (codes "/*") (drop from text) opens), length-drop from text)
 
 pub not_both : (text : List ℕ) (ts : List Token) (rule : TokenRule) (at : ℕ) → Tokens text ts → TokenFault text rule at → ⊥
-not_both text ts rule at t f = omega (arith, f.longest t.0 (length text) t.1, breaks-within text (seen_after text false f.pieces) f.upto rule at f.broken)
+not_both text ts rule at t f =
+    omega (arith, f.longest t.0 (length text) t.1, breaks-within text (seen_after text false f.pieces) f.upto rule at f.broken)
 
 rule_of_number : ℕ → TokenRule
 rule_of_number n = cond (n == 2) bad_byte (cond (n == 3) bad_number (cond (n == 4) open_comment (cond (n == 5) open_text bad_directive)))
@@ -125,7 +136,8 @@ rule-number bad_directive = refl
 one_rule : (rule other : TokenRule) → rule_number rule ≡ rule_number other → rule ≡ other
 one_rule rule other e = sym (rule-number rule) ∙ ap rule_of_number e ∙ rule-number other
 
-pub one_fault : (text : List ℕ) (rule other : TokenRule) (at there : ℕ) → TokenFault text rule at → TokenFault text other there → (rule ≡ other) × (at ≡ there)
+pub one_fault : (text : List ℕ) (rule other : TokenRule) (at there : ℕ) → TokenFault text rule at → TokenFault text other there
+    → (rule ≡ other) × (at ≡ there)
 one_fault text rule other at there f g =
     let upto : f.upto ≡ g.upto = omega (arith, f.longest g.pieces g.upto g.cut, g.longest f.pieces f.upto f.cut) in
     let pieces : f.pieces ≡ g.pieces = one_cut text f.pieces g.pieces g.upto (subst (Cut text f.pieces) upto f.cut) g.cut in
@@ -139,12 +151,14 @@ one_fault text rule other at there f g =
     (one_rule rule other (omega arith), same)
 
 -- no piece follows where a rule is broken
-stuck : (text : List ℕ) (seen : Bool) (to : ℕ) (rest : List Piece) (end : ℕ) (rule : TokenRule) (at : ℕ) → Breaks text seen to rule at → Follow text seen to rest end → end ≤ to
+stuck : (text : List ℕ) (seen : Bool) (to : ℕ) (rest : List Piece) (end : ℕ) (rule : TokenRule) (at : ℕ) → Breaks text seen to rule at
+    → Follow text seen to rest end → end ≤ to
 stuck text seen to [] end rule at b h = omega (arith, h)
 stuck text seen to (q ∷ qs) end rule at b h = absurd (h.1.unbroken rule at (subst (λ n. Breaks text seen n rule at) (sym h.0) b))
 
 -- where a cut ends before the text and what begins there breaks a rule, that is the fault
-pub fault_behind : (text : List ℕ) (ps : List Piece) (to : ℕ) (rule : TokenRule) (at : ℕ) → Cut text ps to → to < length text → front_at text (seen_after text false ps) to ≡ Err (rule, at)
+pub fault_behind : (text : List ℕ) (ps : List Piece) (to : ℕ) (rule : TokenRule) (at : ℕ) → Cut text ps to → to < length text
+    → front_at text (seen_after text false ps) to ≡ Err (rule, at)
     → TokenFault text rule (to + at)
 fault_behind text ps to rule at h within e =
     let seen = seen_after text false ps in

@@ -1,5 +1,6 @@
 -- Directives at the front of a rest: the length that is counted is that of the one that stands there.
-use Rattle.std.proofs.Common.{◌≡◌, ℕ, ◌+◌, ◌≤◌, ◌==◌, ◌&&◌, inl, inr, Bool, true, false, cond, List, [], ◌∷◌, ◌++◌, length, take, drop, Option, Some, None, option_map, codes, refl, sym, ap, ◌∙◌, subst, arith, append_assoc, length-append}
+use Rattle.std.proofs.Common.{◌≡◌, ℕ, ◌+◌, ◌≤◌, ◌==◌, ◌&&◌, inl, inr, Bool, true, false, cond, List, [], ◌∷◌, ◌++◌, length, take, drop, Option, Some}
+use Rattle.std.proofs.Common.{None, option_map, codes, refl, sym, ap, ◌∙◌, subst, arith, append_assoc, length-append}
 use Rattle.std.specs.List.{prefix_len, list_all, list_any}
 use Rattle.std.specs.Str.{bytes_eq}
 use Rattle.std.proofs.lemmas.Bool.{and_parts, or_cases, eqb-true}
@@ -44,7 +45,8 @@ header-counted name tail known =
     rw (take_at name (62 ∷ tail) (length name) refl, drop_at name (62 ∷ tail) (length name) refl, known) refl in
     ap (λ n. cond (has_header n (60 ∷ (name ++ 62 ∷ tail))) (Some (n + 2)) None) run ∙ rw here refl
 
-spaces-counted : (count : List ℕ → Option ℕ) (gap behind : List ℕ) (n : ℕ) → list_all is_space gap ≡ true → begins is_space behind ≡ false → count behind ≡ Some n
+spaces-counted : (count : List ℕ → Option ℕ) (gap behind : List ℕ) (n : ℕ) → list_all is_space gap ≡ true → begins is_space behind ≡ false
+    → count behind ≡ Some n
     → after_spaces count (gap ++ behind) ≡ Some (length gap + n)
 spaces-counted count gap behind n spaces ends is =
     ap (λ k. option_map (λ m. k + m) (count (drop k (gap ++ behind)))) (run-ends is_space gap behind spaces ends)
@@ -54,13 +56,16 @@ spaces-counted count gap behind n spaces ends is =
 include-counted : (more name tail : List ℕ) → list_all is_space more ≡ true → is_header name ≡ true
     → include_len (codes "include" ++ (more ++ (60 ∷ (name ++ 62 ∷ tail)))) ≡ Some (length more + (length name + 2) + 7)
 include-counted more name tail spaces known =
-    ap (option_map (λ n. n + 7)) (spaces-counted header_len more (60 ∷ (name ++ 62 ∷ tail)) (length name + 2) spaces refl (header-counted name tail known))
+    ap (option_map (λ n. n + 7))
+    (spaces-counted header_len more (60 ∷ (name ++ 62 ∷ tail)) (length name + 2) spaces refl (header-counted name tail known))
 
 hash-counted : (gap more name tail : List ℕ) → list_all is_space gap ≡ true → list_all is_space more ≡ true → is_header name ≡ true
-    → hash_len (35 ∷ (gap ++ (codes "include" ++ (more ++ (60 ∷ (name ++ 62 ∷ tail)))))) ≡ Some (length gap + (length more + (length name + 2) + 7) + 1)
+    → hash_len (35 ∷ (gap ++ (codes "include" ++ (more ++ (60 ∷ (name ++ 62 ∷ tail)))))) ≡ Some
+    (length gap + (length more + (length name + 2) + 7) + 1)
 hash-counted gap more name tail gaps spaces known =
     ap (option_map (λ n. n + 1))
-    (spaces-counted include_len gap (codes "include" ++ (more ++ (60 ∷ (name ++ 62 ∷ tail)))) (length more + (length name + 2) + 7) gaps refl (include-counted more name tail spaces known))
+    (spaces-counted include_len gap (codes "include" ++ (more ++ (60 ∷ (name ++ 62 ∷ tail)))) (length more + (length name + 2) + 7) gaps refl
+    (include-counted more name tail spaces known))
 
 -- a directive with these parts, and what stands behind it
 abbrev spelled : List ℕ → List ℕ → List ℕ → List ℕ → List ℕ
@@ -114,7 +119,8 @@ header-form rest n e =
             name = take k behind;
             tail = drop 1 (drop k behind);
             known = parts.1;
-            written = begins-byte 60 rest parts.0 ∙ ap (λ bs. 60 ∷ bs) (sym (take-append-drop k behind) ∙ ap (λ bs. take k behind ++ bs) (begins-byte 62 (drop k behind) last.1));
+            written = begins-byte 60 rest parts.0
+                ∙ ap (λ bs. 60 ∷ bs) (sym (take-append-drop k behind) ∙ ap (λ bs. take k behind ++ bs) (begins-byte 62 (drop k behind) last.1));
             size = omega (arith, length-prefix_len is_name_byte behind);
           }
       | false ↦ λ _ nothing. absurd cc

@@ -1,5 +1,6 @@
 -- The class of the first byte: which bytes have it, and which rule is broken where nothing begins.
-use Rattle.std.proofs.Common.{◌≡◌, ℕ, zero, suc, ◌<◌, ◌==◌, ◌||◌, inl, inr, Bool, true, false, List, [], ◌∷◌, ◌++◌, length, take, drop, get_or, refl, sym, ap, ◌∙◌, subst, arith, append_assoc}
+use Rattle.std.proofs.Common.{◌≡◌, ℕ, zero, suc, ◌<◌, ◌==◌, ◌||◌, inl, inr, Bool, true, false, List, [], ◌∷◌, ◌++◌, length, take, drop, get_or, refl}
+use Rattle.std.proofs.Common.{sym, ap, ◌∙◌, subst, arith, append_assoc}
 use Rattle.std.proofs.lemmas.Bool.{cond_both, eqb-true, or_cases, or_parts}
 use Rattle.std.proofs.lemmas.Bool.Decides.{nat_tests, Decides-eqb}
 use Rattle.std.proofs.lemmas.List.{take-append-drop}
@@ -86,7 +87,8 @@ rule-for b =
     ])
     (λ e.
     let parts = or_parts (b == 34) (b == 39) e in
-    cond_both (b == 35) _ _ (λ r. rule_for (first_of b) ≡ r) (λ hash. ap (λ n. rule_for (first_of n)) (eqb-true b 35 hash)) (λ no_hash. plain parts.0 parts.1 no_hash))
+    cond_both (b == 35) _ _ (λ r. rule_for (first_of b) ≡ r) (λ hash. ap (λ n. rule_for (first_of n)) (eqb-true b 35 hash))
+    (λ no_hash. plain parts.0 parts.1 no_hash))
   where
     plain : (b == 34) ≡ false → (b == 39) ≡ false → (b == 35) ≡ false → rule_for (first_of b) ≡ bad_byte
     plain no_quote no_apostrophe no_hash =
@@ -118,4 +120,5 @@ is-begins front bytes behind e = (starts_is Decides-eqb bytes front (begins_with
 pub begins-more : (front rest : List ℕ) (m : ℕ) → begins_with front (take m rest) ≡ true → begins_with front rest ≡ true
 begins-more front rest m e =
     is-begins front rest (drop (length front) (take m rest) ++ drop m rest)
-    (sym (take-append-drop m rest) ∙ ap (λ xs. xs ++ drop m rest) (begins-is front (take m rest) e) ∙ append_assoc front (drop (length front) (take m rest)) (drop m rest))
+    (sym (take-append-drop m rest) ∙ ap (λ xs. xs ++ drop m rest) (begins-is front (take m rest) e)
+    ∙ append_assoc front (drop (length front) (take m rest)) (drop m rest))

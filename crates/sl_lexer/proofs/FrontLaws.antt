@@ -1,15 +1,19 @@
 -- What begins a rest of the text: `front_of` gives the piece that stands there, or the first rule that is broken.
-use Rattle.std.proofs.Common.{◌≡◌, ℕ, zero, suc, ◌+◌, ◌<◌, ◌≤◌, ◌||◌, inl, inr, Bool, true, false, cond, ltb, List, [], ◌∷◌, length, take, drop, codes, Option, Some, None, option_map, Result, Ok, Err, refl, sym, ap, ◌∙◌, subst, arith, add-zero}
+use Rattle.std.proofs.Common.{◌≡◌, ℕ, zero, suc, ◌+◌, ◌<◌, ◌≤◌, ◌||◌, inl, inr, Bool, true, false, cond, ltb, List, [], ◌∷◌, length, take, drop}
+use Rattle.std.proofs.Common.{codes, Option, Some, None, option_map, Result, Ok, Err, refl, sym, ap, ◌∙◌, subst, arith, add-zero}
 use Rattle.std.proofs.lemmas.Bool.{cond_both, both_ways, ltb-true, ltb-false, or_cases, or_parts}
 use Rattle.std.proofs.lemmas.List.{drop-drop, length-drop}
 use Rattle.std.proofs.lemmas.Option.{some_pair_parts}
 use Rattle.sl_base.specs.Bytes.{spoils_number, begins, begins_with, begins_joint}
 use Rattle.sl_base.specs.Directives.{opens_directive}
 use Rattle.sl_base.specs.declared.limits.TheConstants.{NAME_BYTES, LARGEST_NUMBER}
-use Rattle.sl_base.specs.Pieces.{PieceKind, blank_piece, comment_piece, directive_piece, name_piece, lib_piece, number_piece, text_piece, mark_piece, decimal, IsPiece, IsLongest, TokenRule, bad_byte, bad_number, open_comment, rule_of, IsBadNumber, Breaks, begins_nothing, long_name, long_lib, wrong_escape, joint, no_number, no_comment}
+use Rattle.sl_base.specs.Pieces.{PieceKind, blank_piece, comment_piece, directive_piece, name_piece, lib_piece, number_piece, text_piece, mark_piece}
+use Rattle.sl_base.specs.Pieces.{decimal, IsPiece, IsLongest, TokenRule, bad_byte, bad_number, open_comment, rule_of, IsBadNumber, Breaks}
+use Rattle.sl_base.specs.Pieces.{begins_nothing, long_name, long_lib, wrong_escape, joint, no_number, no_comment}
 use Rattle.sl_base.specs.Quoted.{unescaped, between}
 use Rattle.sl_base.specs.Tokens.{Stands}
-use Rattle.sl_lexer.specs.Means.Front.{first_at, comment_len, mark_len, as_piece, comment_or_mark, piece_in, joint_in, judged_comment, judged_text, judged, rule_for, front_from, front_of}
+use Rattle.sl_lexer.specs.Means.Front.{first_at, comment_len, mark_len, as_piece, comment_or_mark, piece_in, joint_in, judged_comment, judged_text}
+use Rattle.sl_lexer.specs.Means.Front.{judged, rule_for, front_from, front_of}
 use Rattle.sl_lexer.specs.declared.byte.First.TheVariants.{Other}
 use Rattle.sl_lexer.proofs.CommentLaws.{block-first, comment-shape, comment-form}
 use Rattle.sl_lexer.proofs.FirstLaws.{begins-is, rule-for}
@@ -30,12 +34,14 @@ first-joint len [] = none len
     none len (suc m) h e = both_ways _ refl e
 first-joint zero (b ∷ bs) = λ m h e. absurd (omega arith)
 first-joint (suc len) (b ∷ bs) =
-    elim (begins_joint (b ∷ bs)) as (λ t. begins_joint (b ∷ bs) ≡ t → IsFirstJoint (suc len) (b ∷ bs) (cond t (Some 0) (option_map (λ k. k + 1) (joint_in len bs)))) [
+    elim (begins_joint (b ∷ bs)) as (λ t. begins_joint (b ∷ bs) ≡ t
+    → IsFirstJoint (suc len) (b ∷ bs) (cond t (Some 0) (option_map (λ k. k + 1) (joint_in len bs)))) [
       | true ↦ λ here. (omega arith, here, λ m h e. omega arith)
       | false ↦ λ not_here. behind len b bs (joint_in len bs) not_here (first-joint len bs)
     ] refl
   where
-    behind : (len b : ℕ) (bs : List ℕ) (o : Option ℕ) → begins_joint (b ∷ bs) ≡ false → IsFirstJoint len bs o → IsFirstJoint (suc len) (b ∷ bs) (option_map (λ k. k + 1) o)
+    behind : (len b : ℕ) (bs : List ℕ) (o : Option ℕ) → begins_joint (b ∷ bs) ≡ false → IsFirstJoint len bs o
+        → IsFirstJoint (suc len) (b ∷ bs) (option_map (λ k. k + 1) o)
     behind len b bs None not_here f = later
       where
         later : (m : ℕ) → m < suc len → begins_joint (drop m (b ∷ bs)) ≡ true → ⊥
@@ -59,12 +65,14 @@ first-joint (suc len) (b ∷ bs) =
 -- what a rule that is broken says of the longest piece
 abbrev Faulty : List ℕ → ℕ → PieceKind → ℕ → TokenRule → ℕ → Type 0
 Faulty text from blank_piece len rule at = ⊥
-Faulty text from comment_piece len rule at = (n : ℕ) × (n < len) × (begins_joint (drop n (drop from text)) ≡ true) × (rule ≡ bad_byte) × (at ≡ from + n)
+Faulty text from comment_piece len rule at = (n : ℕ) × (n < len) × (begins_joint (drop n (drop from text)) ≡ true) × (rule ≡ bad_byte)
+    × (at ≡ from + n)
 Faulty text from directive_piece len rule at = ⊥
 Faulty text from name_piece len rule at = (NAME_BYTES < len) × (rule ≡ bad_byte) × (at ≡ from + NAME_BYTES)
 Faulty text from lib_piece len rule at = (5 + NAME_BYTES < len) × (rule ≡ bad_byte) × (at ≡ from + (5 + NAME_BYTES))
 Faulty text from number_piece len rule at = IsBadNumber (take len (drop from text)) (drop (from + len) text) × (rule ≡ bad_number) × (at ≡ from)
-Faulty text from text_piece len rule at = (n : ℕ) × (unescaped false (between (take len (drop from text))) ≡ Err n) × (rule ≡ bad_byte) × (at ≡ from + n)
+Faulty text from text_piece len rule at = (n : ℕ) × (unescaped false (between (take len (drop from text))) ≡ Err n) × (rule ≡ bad_byte)
+    × (at ≡ from + n)
 Faulty text from mark_piece len rule at = (begins_with (codes "/*") (drop from text) ≡ true) × (rule ≡ open_comment) × (at ≡ from)
 
 as-kind : (given kind : PieceKind) (o : Option ℕ) (len : ℕ) → as_piece given o ≡ Some (kind, len) → given ≡ kind
@@ -86,7 +94,8 @@ module _ (text : List ℕ) (seen : Bool) (from : ℕ) where
             absurd (none n (record { within = c.within; form = c.form; fit = refl }))
       ] refl other
 
-  faulty : (kind : PieceKind) (len : ℕ) (rule : TokenRule) (at : ℕ) → IsLongest text seen from kind len → Breaks text seen from rule at → Faulty text from kind len rule at
+  faulty : (kind : PieceKind) (len : ℕ) (rule : TokenRule) (at : ℕ) → IsLongest text seen from kind len → Breaks text seen from rule at
+      → Faulty text from kind len rule at
   faulty kind len _ _ l (begins_nothing b bs is none) = absurd (none kind len l.piece)
   faulty kind len _ _ l (long_name n m past) =
       let same = one_longest text seen from name_piece kind n len m l in
@@ -104,37 +113,50 @@ module _ (text : List ℕ) (seen : Bool) (from : ℕ) where
       (k, subst (λ n. k < n) same.1 within, subst (λ r. begins_joint r ≡ true) (sym (drop-drop k from text)) here, refl, refl)
   faulty kind len _ _ l (no_number n m bad) =
       let same = one_longest text seen from number_piece kind n len m l in
-      subst (λ k. Faulty text from k len bad_number from) same.0 (subst (λ n. IsBadNumber (take n (drop from text)) (drop (from + n) text)) same.1 bad, refl, refl)
+      subst (λ k. Faulty text from k len bad_number from) same.0
+      (subst (λ n. IsBadNumber (take n (drop from text)) (drop (from + n) text)) same.1 bad, refl, refl)
   faulty kind len _ _ l (no_comment opens none) =
-      subst (λ k. Faulty text from k len open_comment from) (sym (mark-opens kind len (longest-found text seen from kind len l) opens none)) (opens, refl, refl)
+      subst (λ k. Faulty text from k len open_comment from) (sym (mark-opens kind len (longest-found text seen from kind len l) opens none))
+      (opens, refl, refl)
 
 -- ## What `front_of` gives
 
 abbrev Claim : List ℕ → Bool → ℕ → Result (PieceKind × ℕ) (TokenRule × ℕ) → Type 0
 Claim text seen from (Ok p) = Stands text seen (record { kind = p.0; from = from; len = p.1 })
-Claim text seen from (Err b) = Breaks text seen from b.0 (from + b.1) × ((other : TokenRule) (there : ℕ) → Breaks text seen from other there → (other ≡ b.0) × (from + b.1 ≤ there))
+Claim text seen from (Err b) = Breaks text seen from b.0 (from + b.1)
+    × ((other : TokenRule) (there : ℕ) → Breaks text seen from other there → (other ≡ b.0) × (from + b.1 ≤ there))
 
 module _ (text : List ℕ) (seen : Bool) (from : ℕ) where
-  claim_ok : (kind : PieceKind) (len : ℕ) → IsLongest text seen from kind len → ((rule : TokenRule) (at : ℕ) → Faulty text from kind len rule at → ⊥) → Claim text seen from (Ok (kind, len))
+  claim_ok : (kind : PieceKind) (len : ℕ) → IsLongest text seen from kind len → ((rule : TokenRule) (at : ℕ) → Faulty text from kind len rule at → ⊥)
+      → Claim text seen from (Ok (kind, len))
   claim_ok kind len l none = record { longest = l; unbroken = λ rule at b. none rule at (faulty text seen from kind len rule at l b) }
 
   claim_name : (len : ℕ) → IsLongest text seen from name_piece len → Claim text seen from (judged name_piece len (drop from text))
   claim_name n l =
       cond_both (ltb NAME_BYTES n) (Err (bad_byte, NAME_BYTES)) (Ok (name_piece, n)) (Claim text seen from)
-      (λ past. (long_name n l (ltb-true NAME_BYTES n past), λ other there b. let f = faulty text seen from name_piece n other there l b in (f.1, omega (arith, f.2))))
+      (λ past. (
+        long_name n l (ltb-true NAME_BYTES n past),
+        λ other there b. let f = faulty text seen from name_piece n other there l b in
+            (f.1, omega (arith, f.2)),
+      ))
       (λ short. claim_ok name_piece n l (λ rule at f. omega (arith, f.0, ltb-false NAME_BYTES n short)))
 
   claim_lib : (len : ℕ) → IsLongest text seen from lib_piece len → Claim text seen from (judged lib_piece len (drop from text))
   claim_lib n l =
       cond_both (ltb (5 + NAME_BYTES) n) (Err (bad_byte, 5 + NAME_BYTES)) (Ok (lib_piece, n)) (Claim text seen from)
-      (λ past. (long_lib n l (ltb-true (5 + NAME_BYTES) n past), λ other there b. let f = faulty text seen from lib_piece n other there l b in (f.1, omega (arith, f.2))))
+      (λ past. (
+        long_lib n l (ltb-true (5 + NAME_BYTES) n past),
+        λ other there b. let f = faulty text seen from lib_piece n other there l b in
+            (f.1, omega (arith, f.2)),
+      ))
       (λ short. claim_ok lib_piece n l (λ rule at f. omega (arith, f.0, ltb-false (5 + NAME_BYTES) n short)))
 
   claim_number : (len : ℕ) → IsLongest text seen from number_piece len → Claim text seen from (judged number_piece len (drop from text))
   claim_number n l =
       let rest = drop from text in
       let behind : drop n rest ≡ drop (from + n) text = drop-drop n from text in
-      cond_both (ltb LARGEST_NUMBER (decimal (take n rest)) || begins spoils_number (drop n rest)) (Err (bad_number, 0)) (Ok (number_piece, n)) (Claim text seen from)
+      cond_both (ltb LARGEST_NUMBER (decimal (take n rest)) || begins spoils_number (drop n rest)) (Err (bad_number, 0)) (Ok (number_piece, n))
+      (Claim text seen from)
       (λ e.
       let bad : IsBadNumber (take n rest) (drop (from + n) text) =
       elim (or_cases _ _ e) [
@@ -181,7 +203,8 @@ module _ (text : List ℕ) (seen : Bool) (from : ℕ) where
         )
       ] refl
 
-  claim_mark : (len : ℕ) → IsLongest text seen from mark_piece len → ((n : ℕ) → IsPiece text seen from comment_piece n → ⊥) → Claim text seen from (judged mark_piece len (drop from text))
+  claim_mark : (len : ℕ) → IsLongest text seen from mark_piece len → ((n : ℕ) → IsPiece text seen from comment_piece n → ⊥)
+      → Claim text seen from (judged mark_piece len (drop from text))
   claim_mark len l none =
       cond_both (begins_with (codes "/*") (drop from text)) (Err (open_comment, 0)) (Ok (mark_piece, len)) (Claim text seen from)
       (λ opens. (
@@ -215,7 +238,8 @@ module _ (text : List ℕ) (seen : Bool) (from : ℕ) where
   opens-something : begins_with (codes "/*") (drop from text) ≡ true → piece_at text seen from ≡ None → ⊥
   opens-something opens e =
       let rest = drop from text in
-      let other : comment_or_mark (comment_len rest) rest ≡ None = ap (λ f. piece_in f (opens_directive seen (take from text)) rest) (sym (block-first rest opens)) ∙ e in
+      let other : comment_or_mark (comment_len rest) rest ≡ None = ap (λ f. piece_in f (opens_directive seen (take from text)) rest)
+      (sym (block-first rest opens)) ∙ e in
       let mark : mark_len rest ≡ Some 1 = subst (λ r. mark_len r ≡ Some 1) (sym (begins-is (codes "/*") rest opens)) refl in
       elim (comment_len rest) as (λ o. comment_or_mark o rest ≡ None → ⊥) [
         | None ↦ λ nothing. let none : as_piece mark_piece (Some 1) ≡ None = ap (as_piece mark_piece) (sym mark) ∙ nothing in absurd cc
@@ -223,14 +247,17 @@ module _ (text : List ℕ) (seen : Bool) (from : ℕ) where
       ] other
 
   -- where nothing begins, the rule of the first byte is broken
-  claim_nothing : (b : ℕ) (bs : List ℕ) → drop from text ≡ b ∷ bs → piece_at text seen from ≡ None → Claim text seen from (Err (rule_for (first_at (b ∷ bs)), 0))
+  claim_nothing : (b : ℕ) (bs : List ℕ) → drop from text ≡ b ∷ bs → piece_at text seen from ≡ None
+      → Claim text seen from (Err (rule_for (first_at (b ∷ bs)), 0))
   claim_nothing b bs is e =
       let none = found-none text seen from e in (
-        subst (λ rule. Breaks text seen from rule (from + 0)) (sym (rule-for b)) (subst (Breaks text seen from (rule_of b)) (sym (add-zero from)) (begins_nothing b bs is none)),
+        subst (λ rule. Breaks text seen from rule (from + 0)) (sym (rule-for b))
+            (subst (Breaks text seen from (rule_of b)) (sym (add-zero from)) (begins_nothing b bs is none)),
         only none,
       )
     where
-      only : ((kind : PieceKind) (len : ℕ) → IsPiece text seen from kind len → ⊥) → (rule : TokenRule) (at : ℕ) → Breaks text seen from rule at → (rule ≡ rule_for (first_at (b ∷ bs))) × (from + 0 ≤ at)
+      only : ((kind : PieceKind) (len : ℕ) → IsPiece text seen from kind len → ⊥) → (rule : TokenRule) (at : ℕ) → Breaks text seen from rule at
+          → (rule ≡ rule_for (first_at (b ∷ bs))) × (from + 0 ≤ at)
       only none _ _ (begins_nothing c cs there _) = (ap rule_of (first-byte (sym there ∙ is)) ∙ sym (rule-for b), omega arith)
         where
           first-byte : c ∷ cs ≡ b ∷ bs → c ≡ b
@@ -242,11 +269,13 @@ module _ (text : List ℕ) (seen : Bool) (from : ℕ) where
       only none _ _ (no_number n m bad) = absurd (none number_piece n m.piece)
       only none _ _ (no_comment opens _) = absurd (opens-something opens e)
 
-  claim_found : (b : ℕ) (bs : List ℕ) → drop from text ≡ b ∷ bs → (found : Found) → piece_at text seen from ≡ found → Claim text seen from (front_from (rule_for (first_at (b ∷ bs))) (drop from text) found)
+  claim_found : (b : ℕ) (bs : List ℕ) → drop from text ≡ b ∷ bs → (found : Found) → piece_at text seen from ≡ found
+      → Claim text seen from (front_from (rule_for (first_at (b ∷ bs))) (drop from text) found)
   claim_found b bs is None e = claim_nothing b bs is e
   claim_found b bs is (Some p) e = claim_judged p.0 p.1 (found-longest text seen from p.0 p.1 e)
 
-  claim_at : (rest : List ℕ) → 0 < length rest → drop from text ≡ rest → Claim text seen from (front_from (rule_for (first_at rest)) (drop from text) (piece_at text seen from))
+  claim_at : (rest : List ℕ) → 0 < length rest → drop from text ≡ rest
+      → Claim text seen from (front_from (rule_for (first_at rest)) (drop from text) (piece_at text seen from))
   claim_at [] some is = absurd (omega arith)
   claim_at (b ∷ bs) some is = claim_found b bs is (piece_at text seen from) refl
 
@@ -258,7 +287,8 @@ abbrev pub front_at : List ℕ → Bool → ℕ → Result (PieceKind × ℕ) (T
 front_at text seen from = front_of (opens_directive seen (take from text)) (drop from text)
 
 module _ (text : List ℕ) (seen : Bool) (from : ℕ) where
-  pub front-ok : (kind : PieceKind) (len : ℕ) → from < length text → front_at text seen from ≡ Ok (kind, len) → Stands text seen (record { kind = kind; from = from; len = len })
+  pub front-ok : (kind : PieceKind) (len : ℕ) → from < length text → front_at text seen from ≡ Ok (kind, len)
+      → Stands text seen (record { kind = kind; from = from; len = len })
   front-ok kind len within e = subst (Claim text seen from) e (claim text seen from within)
 
   pub front-err : (rule : TokenRule) (at : ℕ) → from < length text → front_at text seen from ≡ Err (rule, at) → Breaks text seen from rule (from + at)

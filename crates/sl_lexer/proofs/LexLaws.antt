@@ -1,5 +1,6 @@
 -- The loop of the lexer: the cut so far, one piece more, and the fault where a rule is broken.
-use Rattle.std.proofs.Common.{◌≡◌, ℕ, ◌+◌, ◌-◌, ◌<◌, ◌≤◌, ◌==◌, ◌&&◌, ◌||◌, ◌⊎◌, inl, inr, Bool, true, false, not, List, [], ◌∷◌, ◌++◌, length, take, drop, Option, Some, None, is_some, Result, Ok, Err, refl, sym, ap, ◌∙◌, subst, arith, reverse}
+use Rattle.std.proofs.Common.{◌≡◌, ℕ, ◌+◌, ◌-◌, ◌<◌, ◌≤◌, ◌==◌, ◌&&◌, ◌||◌, ◌⊎◌, inl, inr, Bool, true, false, not, List, [], ◌∷◌, ◌++◌, length, take}
+use Rattle.std.proofs.Common.{drop, Option, Some, None, is_some, Result, Ok, Err, refl, sym, ap, ◌∙◌, subst, arith, reverse}
 use Rattle.std.specs.List.{filter_map, cons_option}
 use Rattle.std.proofs.lemmas.List.{take-take, drop-take, length-reverse, take_rest, take-append-drop, append-nil}
 use Rattle.std.proofs.lemmas.Bool.Decides.{nat_tests}
@@ -41,7 +42,8 @@ place-small front place a = (
 -- ## What stands before
 
 -- one token more
-count-one : (seen : Bool) (t : Option Token) (ts : List Token) → ((seen || is_some t) || not (length ts == 0)) ≡ (seen || not (length (cons_option t ts) == 0))
+count-one : (seen : Bool) (t : Option Token) (ts : List Token)
+    → ((seen || is_some t) || not (length ts == 0)) ≡ (seen || not (length (cons_option t ts) == 0))
 count-one true None ts = refl
 count-one true (Some t) ts = refl
 count-one false None ts = refl
@@ -51,7 +53,8 @@ count-one false (Some t) ts = let full : (length (t ∷ ts) == 0) ≡ false = gr
 seen-tokens : (text : List ℕ) (seen : Bool) (ps : List Piece) → seen_after text seen ps ≡ (seen || not (length (filter_map (token_of text) ps) == 0))
 seen-tokens text true [] = refl
 seen-tokens text false [] = refl
-seen-tokens text seen (p ∷ ps) = seen-tokens text (seen || is_some (token_of text p)) ps ∙ count-one seen (token_of text p) (filter_map (token_of text) ps)
+seen-tokens text seen (p ∷ ps) = seen-tokens text (seen || is_some (token_of text p)) ps ∙ count-one seen (token_of text p)
+    (filter_map (token_of text) ps)
 
 not-not : (b : Bool) → not (not b) ≡ b
 not-not true = refl
@@ -76,7 +79,8 @@ Answers text opens done answer = IsAnswer done (drop done text) (front_of opens 
 
 -- as a slice to the end of the text gives the rest
 pub answers_at : (text : List ℕ) (opens : Bool) (done : ℕ) (answer : Result Front LexErr)
-    → IsAnswer done (take (length text - done) (drop done text)) (front_of opens (take (length text - done) (drop done text))) answer → Answers text opens done answer
+    → IsAnswer done (take (length text - done) (drop done text)) (front_of opens (take (length text - done) (drop done text))) answer
+    → Answers text opens done answer
 answers_at text opens done answer e = subst (λ rest. IsAnswer done rest (front_of opens rest) answer) (take_rest text done) e
 
 -- the kind of the piece that was answered
@@ -109,12 +113,14 @@ record IsNext (text : List ℕ) (seen : Bool) (done : ℕ) (f : Front) : Type 0 
   stands : Stands text seen (record { kind = kind; from = done; len = f.len })
   says : f.word ≡ word_of kind (take f.len (drop done text))
 
-next_by : (text : List ℕ) (seen : Bool) (done : ℕ) (f : Front) → done < length text → Ok f ≡ answer_of done (drop done text) (front_at text seen done) → IsNext text seen done f
+next_by : (text : List ℕ) (seen : Bool) (done : ℕ) (f : Front) → done < length text → Ok f ≡ answer_of done (drop done text) (front_at text seen done)
+    → IsNext text seen done f
 next_by text seen done f within e =
     let a = answered done (drop done text) (front_at text seen done) f e in
     record { kind = a.kind; stands = front-ok text seen done a.kind f.len within a.front; says = a.says }
 
-next_at : (text : List ℕ) (seen : Bool) (done : ℕ) (f : Front) → done < length text → Answers text (opens_directive seen (take done text)) done (Ok f) → IsNext text seen done f
+next_at : (text : List ℕ) (seen : Bool) (done : ℕ) (f : Front) → done < length text → Answers text (opens_directive seen (take done text)) done (Ok f)
+    → IsNext text seen done f
 next_at text seen done f within a = elim a [ inl e ↦ next_by text seen done f within e | inr memory ↦ absurd cc ]
 
 -- the bytes of a piece behind those before it
@@ -130,7 +136,8 @@ take_more_bytes text done len =
     let same : done + len - done ≡ len = omega arith in
     ap (λ n. take done text ++ take n (drop done text)) same ∙ take-add text done len
 
-module _ (text : List ℕ) (tokens : List Token) (done : ℕ) (place : Place) (blank_line : Bool) (f : Front) (s : SoFar text tokens done place blank_line) (within : done < length text)
+module _ (text : List ℕ) (tokens : List Token) (done : ℕ) (place : Place) (blank_line : Bool) (f : Front)
+    (s : SoFar text tokens done place blank_line) (within : done < length text)
     (e : Answers text ((length tokens == 0) && blank_line) done (Ok f)) where
   next : IsNext text (seen_in text tokens done place blank_line s) done f
   next =
@@ -155,7 +162,8 @@ module _ (text : List ℕ) (tokens : List Token) (done : ℕ) (place : Place) (b
 
     -- the cut is longer by the piece, and the tokens by what it says
     one_more : (more : List Token) (n : IsNext text (seen_in text tokens done place blank_line s) done f)
-        → filter_map (token_of text) (record { kind = n.kind; from = done; len = f.len } ∷ []) ≡ more → SoFar text (tokens ++ more) (done + f.len) next_place next_blank
+        → filter_map (token_of text) (record { kind = n.kind; from = done; len = f.len } ∷ []) ≡ more → SoFar text (tokens ++ more) (done + f.len)
+        next_place next_blank
     one_more more n says =
         let p : Piece = record { kind = n.kind; from = done; len = f.len } in
         record {
@@ -177,7 +185,8 @@ module _ (text : List ℕ) (tokens : List Token) (done : ℕ) (place : Place) (b
         let no_word : word_of n.kind (take f.len (drop done text)) ≡ None = sym n.says ∙ none in
         rw append-nil at (one_more [] n (rw no_word refl))
 
-    pub next_token : (word : Word) → f.word ≡ Some word → SoFar text (tokens ++ record { word = word; offset = done; place = place } ∷ []) (done + f.len) next_place next_blank
+    pub next_token : (word : Word) → f.word ≡ Some word → SoFar text (tokens ++ record { word = word; offset = done; place = place } ∷ [])
+        (done + f.len) next_place next_blank
     next_token word some =
         let n = next in
         let a_word : word_of n.kind (take f.len (drop done text)) ≡ Some word = sym n.says ∙ some in
@@ -186,7 +195,8 @@ module _ (text : List ℕ) (tokens : List Token) (done : ℕ) (place : Place) (b
 
 -- ## The answers
 
-pub whole_text : (text : List ℕ) (tokens : List Token) (done : ℕ) (place : Place) (blank_line : Bool) → SoFar text tokens done place blank_line → length text ≤ done → Tokens text tokens
+pub whole_text : (text : List ℕ) (tokens : List Token) (done : ℕ) (place : Place) (blank_line : Bool) → SoFar text tokens done place blank_line
+    → length text ≤ done → Tokens text tokens
 whole_text text tokens done place blank_line s past =
     let all : done ≡ length text = omega (arith, s.within) in
     (s.cut.0, subst (Cut text s.cut.0) all s.cut.1, s.cut.2)
@@ -206,12 +216,14 @@ abbrev offset_in : Option (TokenRule × ℕ) → ℕ
 offset_in None = 0
 offset_in (Some p) = p.1
 
-pub told_only : (text : List ℕ) (e : LexErr) → IsToldFault text e → (rule : TokenRule) (at : ℕ) → fault_of e ≡ Some (rule, at) → TokenFault text rule at
+pub told_only : (text : List ℕ) (e : LexErr) → IsToldFault text e → (rule : TokenRule) (at : ℕ) → fault_of e ≡ Some (rule, at)
+    → TokenFault text rule at
 told_only text e t rule at told =
     let same = sym t.told ∙ told in
     subst (λ r. TokenFault text r at) (ap rule_in same) (subst (TokenFault text t.rule) (ap offset_in same) t.fault)
 
-pub only_told : (text : List ℕ) (e : LexErr) → IsToldFault text e → (rule : TokenRule) (at : ℕ) → TokenFault text rule at → fault_of e ≡ Some (rule, at)
+pub only_told : (text : List ℕ) (e : LexErr) → IsToldFault text e → (rule : TokenRule) (at : ℕ) → TokenFault text rule at
+    → fault_of e ≡ Some (rule, at)
 only_told text e t rule at f =
     let same = one_fault text t.rule rule t.at at t.fault f in
     t.told ∙ ap (λ (r : TokenRule). Some (r, t.at)) same.0 ∙ ap (λ (n : ℕ). Some (rule, n)) same.1
@@ -227,7 +239,8 @@ told-error bad_directive at = refl
 abbrev pub IsTold : List ℕ → LexErr → Type 0
 IsTold text e = (e ≡ Memory) ⊎ IsToldFault text e
 
-told_by : (text : List ℕ) (ps : List Piece) (done : ℕ) (e : LexErr) (r : Result (PieceKind × ℕ) (TokenRule × ℕ)) → Cut text ps done → done < length text
+told_by : (text : List ℕ) (ps : List Piece) (done : ℕ) (e : LexErr) (r : Result (PieceKind × ℕ) (TokenRule × ℕ)) → Cut text ps done
+    → done < length text
     → front_at text (seen_after text false ps) done ≡ r → Err e ≡ answer_of done (drop done text) r → IsToldFault text e
 told_by text ps done e (Ok p) h within f a = absurd cc
 told_by text ps done e (Err b) h within f a =
@@ -239,7 +252,8 @@ told_by text ps done e (Err b) h within f a =
       told = ap fault_of same ∙ told-error b.0 (done + b.1);
     }
 
-pub told_fault : (text : List ℕ) (tokens : List Token) (done : ℕ) (place : Place) (blank_line : Bool) (e : LexErr) → SoFar text tokens done place blank_line → done < length text
+pub told_fault : (text : List ℕ) (tokens : List Token) (done : ℕ) (place : Place) (blank_line : Bool) (e : LexErr)
+    → SoFar text tokens done place blank_line → done < length text
     → Answers text ((length tokens == 0) && blank_line) done (Err e) → IsTold text e
 told_fault text tokens done place blank_line e s within a =
     let seen = seen_in text tokens done place blank_line s in
@@ -267,7 +281,8 @@ err_tokens text e told tokens whole =
       | inr fault ↦ absurd (not_both text tokens fault.rule fault.at whole fault.fault)
     ]
 
-pub err_only_fault : (text : List ℕ) (e : LexErr) → IsTold text e → (rule : TokenRule) (at : ℕ) → TokenFault text rule at → (e ≡ Memory) ⊎ (fault_of e ≡ Some (rule, at))
+pub err_only_fault : (text : List ℕ) (e : LexErr) → IsTold text e → (rule : TokenRule) (at : ℕ) → TokenFault text rule at → (e ≡ Memory)
+    ⊎ (fault_of e ≡ Some (rule, at))
 err_only_fault text e told rule at f =
     elim told [
       | inl memory ↦ inl memory

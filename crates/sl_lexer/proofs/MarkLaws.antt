@@ -1,5 +1,6 @@
 -- Marks at the front of a rest. A test over the whole table tells what all of them have in common.
-use Rattle.std.proofs.Common.{◌≡◌, ℕ, ◌<◌, ◌≤◌, ◌&&◌, inl, inr, Bool, true, false, cond, ltb, List, [], ◌∷◌, length, take, Some, None, is_some, option_map, find, refl, sym, ap, ◌∙◌, subst, arith}
+use Rattle.std.proofs.Common.{◌≡◌, ℕ, ◌<◌, ◌≤◌, ◌&&◌, inl, inr, Bool, true, false, cond, ltb, List, [], ◌∷◌, length, take, Some, None, is_some}
+use Rattle.std.proofs.Common.{option_map, find, refl, sym, ap, ◌∙◌, subst, arith}
 use Rattle.std.specs.List.{list_all}
 use Rattle.std.specs.Str.{bytes_eq}
 use Rattle.std.proofs.lemmas.Bool.{and_parts, both_ways, ltb-true, cases_lt}
@@ -24,7 +25,8 @@ abbrev is_mark_text : List ℕ → Bool
 is_mark_text bytes = ltb 0 (length bytes) && ltb (length bytes) 3 && is_other (first_at bytes)
 
 -- what is found in a table passes a test that each entry passes
-found : {X Y : Type 0} (p q : X → Bool) (f : X → Y) (xs : List X) → list_all q xs ≡ true → is_some (option_map f (find p xs)) ≡ true → (x : X) × (p x ≡ true) × (q x ≡ true)
+found : {X Y : Type 0} (p q : X → Bool) (f : X → Y) (xs : List X) → list_all q xs ≡ true → is_some (option_map f (find p xs)) ≡ true → (x : X)
+    × (p x ≡ true) × (q x ≡ true)
 found p q f [] a e = absurd cc
 found p q f (x ∷ xs) a e =
     let parts = and_parts (q x) (list_all q xs) a in
@@ -47,7 +49,8 @@ pub record IsMarkAt (rest : List ℕ) (m : ℕ) : Type 0 where
 pub mark-shape : (rest : List ℕ) (m : ℕ) → m ≤ length rest → is_some (mark_of (take m rest)) ≡ true → IsMarkAt rest m
 mark-shape rest m within e =
     let size = length-take-le m rest within in
-    let last = and_parts (ltb 0 (length (take m rest)) && ltb (length (take m rest)) 3) (is_other (first_at (take m rest))) (mark-text (take m rest) e) in
+    let last = and_parts (ltb 0 (length (take m rest)) && ltb (length (take m rest)) 3) (is_other (first_at (take m rest)))
+    (mark-text (take m rest) e) in
     let sizes = and_parts (ltb 0 (length (take m rest))) (ltb (length (take m rest)) 3) last.0 in
     let some : 0 < m = omega (arith, size, ltb-true 0 (length (take m rest)) sizes.0) in
     record {

@@ -1,5 +1,6 @@
 -- The longest piece at an offset is the one that `piece_in` gives by the class of the first byte, and where that gives none there is none.
-use Rattle.std.proofs.Common.{◌≡◌, ℕ, ◌+◌, ◌≤◌, ◌==◌, ◌&&◌, ◌||◌, inl, inr, Bool, true, false, cond, List, [], ◌∷◌, length, take, drop, Option, Some, None, is_some, refl, sym, ap, ◌∙◌, subst, arith}
+use Rattle.std.proofs.Common.{◌≡◌, ℕ, ◌+◌, ◌≤◌, ◌==◌, ◌&&◌, ◌||◌, inl, inr, Bool, true, false, cond, List, [], ◌∷◌, length, take, drop, Option, Some}
+use Rattle.std.proofs.Common.{None, is_some, refl, sym, ap, ◌∙◌, subst, arith}
 use Rattle.std.specs.List.{prefix_len}
 use Rattle.std.proofs.lemmas.Bool.{and_parts, or_cases, or_left, or_right, cond_both, both_ways, eqb-true}
 use Rattle.std.proofs.lemmas.Option.{some_pair_parts}
@@ -8,13 +9,16 @@ use Rattle.std.proofs.lemmas.List.Sums.{prefix_len-le-length}
 use Rattle.sl_base.specs.Bytes.{is_blank, is_letter, is_digit, is_name_byte, begins}
 use Rattle.sl_base.specs.Directives.{IsDirective, opens_directive, closes_directive}
 use Rattle.sl_base.specs.Marks.{mark_of}
-use Rattle.sl_base.specs.Pieces.{PieceKind, blank_piece, comment_piece, directive_piece, name_piece, lib_piece, number_piece, text_piece, mark_piece, is_text, HasForm, IsPiece, IsLongest}
+use Rattle.sl_base.specs.Pieces.{PieceKind, blank_piece, comment_piece, directive_piece, name_piece, lib_piece, number_piece, text_piece, mark_piece}
+use Rattle.sl_base.specs.Pieces.{is_text, HasForm, IsPiece, IsLongest}
 use Rattle.sl_base.specs.Quoted.{is_character}
-use Rattle.sl_lexer.specs.Means.Front.{first_at, begins_lib, text_len, character_len, comment_len, mark_len, hash_len, closed_len, as_piece, comment_or_mark, piece_in}
+use Rattle.sl_lexer.specs.Means.Front.{first_at, begins_lib, text_len, character_len, comment_len, mark_len, hash_len, closed_len, as_piece}
+use Rattle.sl_lexer.specs.Means.Front.{comment_or_mark, piece_in}
 use Rattle.sl_lexer.specs.declared.byte.First.{First}
 use Rattle.sl_lexer.specs.declared.byte.First.TheVariants.{Blank, Letter, Digit, Quote, Apostrophe, Hash, Other}
 use Rattle.sl_lexer.proofs.FirstLaws.{front-begins, at-blank, at-letter, at-digit, TellsAt, tells_at}
-use Rattle.sl_lexer.proofs.WordLaws.{name-form, name-shape, lib-letter, lib-std, lib-long, lib-form, lib-shape, number-form, number-shape, number-within}
+use Rattle.sl_lexer.proofs.WordLaws.{name-form, name-shape, lib-letter, lib-std, lib-long, lib-form, lib-shape, number-form, number-shape}
+use Rattle.sl_lexer.proofs.WordLaws.{number-within}
 use Rattle.sl_lexer.proofs.CommentLaws.{comment-shape, comment-form}
 use Rattle.sl_lexer.proofs.TextLaws.{text-shape, text-form, character-shape, character-form}
 use Rattle.sl_lexer.proofs.DirectiveLaws.{directive-shape, directive-form}
@@ -32,20 +36,23 @@ abbrev Bounds : Found → PieceKind → ℕ → Type 0
 Bounds None kind m = ⊥
 Bounds (Some p) kind m = (m ≤ p.1) × (m ≡ p.1 → kind ≡ p.0)
 
-bounds-at : (rest : List ℕ) (opens : Bool) (first : First) (kind : PieceKind) (m : ℕ) → first_at rest ≡ first → Bounds (piece_in first opens rest) kind m
+bounds-at : (rest : List ℕ) (opens : Bool) (first : First) (kind : PieceKind) (m : ℕ) → first_at rest ≡ first
+    → Bounds (piece_in first opens rest) kind m
     → Bounds (piece_in (first_at rest) opens rest) kind m
 bounds-at rest opens first kind m is b = subst (λ f. Bounds (piece_in f opens rest) kind m) (sym is) b
 
 bounds-same : (found : Found) (kind : PieceKind) (m : ℕ) → found ≡ Some (kind, m) → Bounds found kind m
 bounds-same found kind m e = subst (λ f. Bounds f kind m) (sym e) (omega arith, λ _. refl)
 
-blank-bounds : (rest : List ℕ) (opens : Bool) (m : ℕ) → m ≤ length rest → HasForm blank_piece (take m rest) → Bounds (piece_in (first_at rest) opens rest) blank_piece m
+blank-bounds : (rest : List ℕ) (opens : Bool) (m : ℕ) → m ≤ length rest → HasForm blank_piece (take m rest)
+    → Bounds (piece_in (first_at rest) opens rest) blank_piece m
 blank-bounds rest opens m within e =
     let parts = and_parts (length (take m rest) == 1) (begins is_blank (take m rest)) e in
     let one : m ≡ 1 = omega (arith, eqb-true (length (take m rest)) 1 parts.0, length-take-le m rest within) in
     bounds-at rest opens Blank blank_piece m (at-blank rest (front-begins is_blank rest m parts.1)) (omega arith, λ _. refl)
 
-name-bounds : (rest : List ℕ) (opens : Bool) (m : ℕ) → m ≤ length rest → HasForm name_piece (take m rest) → Bounds (piece_in (first_at rest) opens rest) name_piece m
+name-bounds : (rest : List ℕ) (opens : Bool) (m : ℕ) → m ≤ length rest → HasForm name_piece (take m rest)
+    → Bounds (piece_in (first_at rest) opens rest) name_piece m
 name-bounds rest opens m within e =
     let s = name-shape rest m within e in
     let run = prefix_len is_name_byte rest in
@@ -55,17 +62,20 @@ name-bounds rest opens m within e =
     (λ l. (omega (arith, s.1, lib-std rest l), λ same. absurd (omega (arith, s.1, lib-std rest l))))
     (λ _. (s.1, λ _. refl)))
 
-lib-bounds : (rest : List ℕ) (opens : Bool) (m : ℕ) → m ≤ length rest → HasForm lib_piece (take m rest) → Bounds (piece_in (first_at rest) opens rest) lib_piece m
+lib-bounds : (rest : List ℕ) (opens : Bool) (m : ℕ) → m ≤ length rest → HasForm lib_piece (take m rest)
+    → Bounds (piece_in (first_at rest) opens rest) lib_piece m
 lib-bounds rest opens m within e =
     let s = lib-shape rest m within e in
     bounds-at rest opens Letter lib_piece m (at-letter rest (lib-letter rest s.0)) (rw s.0 (s.1, λ _. refl))
 
-number-bounds : (rest : List ℕ) (opens : Bool) (m : ℕ) → m ≤ length rest → HasForm number_piece (take m rest) → Bounds (piece_in (first_at rest) opens rest) number_piece m
+number-bounds : (rest : List ℕ) (opens : Bool) (m : ℕ) → m ≤ length rest → HasForm number_piece (take m rest)
+    → Bounds (piece_in (first_at rest) opens rest) number_piece m
 number-bounds rest opens m within e =
     let s = number-shape rest m within e in
     bounds-at rest opens Digit number_piece m (at-digit rest s.0) (s.1, λ _. refl)
 
-text-bounds : (rest : List ℕ) (opens : Bool) (m : ℕ) → m ≤ length rest → HasForm text_piece (take m rest) → Bounds (piece_in (first_at rest) opens rest) text_piece m
+text-bounds : (rest : List ℕ) (opens : Bool) (m : ℕ) → m ≤ length rest → HasForm text_piece (take m rest)
+    → Bounds (piece_in (first_at rest) opens rest) text_piece m
 text-bounds rest opens m within e =
     elim (or_cases _ _ e) [
       | inl text ↦
@@ -76,20 +86,23 @@ text-bounds rest opens m within e =
           bounds-at rest opens Apostrophe text_piece m s.0 (bounds-same _ text_piece m (ap (as_piece text_piece) s.1))
     ]
 
-directive-bounds : (rest : List ℕ) (opens : Bool) (m : ℕ) → m ≤ length rest → HasForm directive_piece (take m rest) → (opens && closes_directive (drop m rest)) ≡ true
+directive-bounds : (rest : List ℕ) (opens : Bool) (m : ℕ) → m ≤ length rest → HasForm directive_piece (take m rest)
+    → (opens && closes_directive (drop m rest)) ≡ true
     → Bounds (piece_in (first_at rest) opens rest) directive_piece m
 directive-bounds rest opens m within d fit =
     let s = directive-shape rest m within d in
     let closed : closed_len opens rest (hash_len rest) ≡ Some m = ap (closed_len opens rest) s.1 ∙ rw fit refl in
     bounds-at rest opens Hash directive_piece m s.0 (bounds-same _ directive_piece m (ap (as_piece directive_piece) closed))
 
-comment-bounds : (rest : List ℕ) (opens : Bool) (m : ℕ) → m ≤ length rest → HasForm comment_piece (take m rest) → Bounds (piece_in (first_at rest) opens rest) comment_piece m
+comment-bounds : (rest : List ℕ) (opens : Bool) (m : ℕ) → m ≤ length rest → HasForm comment_piece (take m rest)
+    → Bounds (piece_in (first_at rest) opens rest) comment_piece m
 comment-bounds rest opens m within e =
     let s = comment-shape rest m within e in
     bounds-at rest opens Other comment_piece m s.other
     (subst (λ o. Bounds (comment_or_mark o rest) comment_piece m) (sym s.counted) (s.most, λ _. refl))
 
-mark-bounds : (rest : List ℕ) (opens : Bool) (m : ℕ) → m ≤ length rest → HasForm mark_piece (take m rest) → Bounds (piece_in (first_at rest) opens rest) mark_piece m
+mark-bounds : (rest : List ℕ) (opens : Bool) (m : ℕ) → m ≤ length rest → HasForm mark_piece (take m rest)
+    → Bounds (piece_in (first_at rest) opens rest) mark_piece m
 mark-bounds rest opens m within e =
     let s = mark-shape rest m within e in
     let most = mark-most rest m within e in
@@ -149,15 +162,18 @@ digit-begins : (rest : List ℕ) → TellsAt Digit rest → begins is_digit rest
 digit-begins [] t = absurd cc
 digit-begins (b ∷ bs) t = t
 
-founds_text : (rest : List ℕ) (opens : Bool) (o : Option ℕ) → ((n : ℕ) → o ≡ Some n → (n ≤ length rest) × (is_text (take n rest) || is_character (take n rest)) ≡ true)
+founds_text : (rest : List ℕ) (opens : Bool) (o : Option ℕ)
+    → ((n : ℕ) → o ≡ Some n → (n ≤ length rest) × (is_text (take n rest) || is_character (take n rest)) ≡ true)
     → Founds rest opens (as_piece text_piece o)
 founds_text rest opens None f = tt
 founds_text rest opens (Some n) f = f n refl
 
-founds_directive : (rest : List ℕ) (opens : Bool) (o : Option ℕ) → ((n : ℕ) → o ≡ Some n → (n ≤ length rest) × IsDirective (take n rest)) → Founds rest opens (as_piece directive_piece (closed_len opens rest o))
+founds_directive : (rest : List ℕ) (opens : Bool) (o : Option ℕ) → ((n : ℕ) → o ≡ Some n → (n ≤ length rest) × IsDirective (take n rest))
+    → Founds rest opens (as_piece directive_piece (closed_len opens rest o))
 founds_directive rest opens None f = tt
 founds_directive rest opens (Some n) f =
-    elim (opens && closes_directive (drop n rest)) as (λ t. (opens && closes_directive (drop n rest)) ≡ t → Founds rest opens (as_piece directive_piece (cond t (Some n) None))) [
+    elim (opens && closes_directive (drop n rest)) as (λ t. (opens && closes_directive (drop n rest)) ≡ t
+    → Founds rest opens (as_piece directive_piece (cond t (Some n) None))) [
       | true ↦ λ fit. let d = f n refl in (d.0, d.1, fit)
       | false ↦ λ _. tt
     ] refl
@@ -174,7 +190,8 @@ founds : (rest : List ℕ) (opens : Bool) (first : First) → first_at rest ≡ 
 founds rest opens Blank is = let b = blank-begins rest (tells_at rest Blank is) in (some-begins is_blank rest b, blank-form rest b)
 founds rest opens Letter is =
     let l = letter-begins rest (tells_at rest Letter is) in
-    cond_both (begins_lib rest) (Some (lib_piece, 5 + prefix_len is_name_byte (drop 5 rest))) (Some (name_piece, prefix_len is_name_byte rest)) (Founds rest opens)
+    cond_both (begins_lib rest) (Some (lib_piece, 5 + prefix_len is_name_byte (drop 5 rest))) (Some (name_piece, prefix_len is_name_byte rest))
+    (Founds rest opens)
     (λ lib. (lib-long rest (prefix_len is_name_byte (drop 5 rest)) lib (prefix_len-le-length is_name_byte (drop 5 rest)), lib-form rest lib))
     (λ _. (prefix_len-le-length is_name_byte rest, name-form rest l))
 founds rest opens Digit is = let d = digit-begins rest (tells_at rest Digit is) in (number-within rest d, number-form rest d)
@@ -185,7 +202,8 @@ founds rest opens Apostrophe is =
 founds rest opens Hash is = founds_directive rest opens (hash_len rest) (λ n e. directive-form rest n is e)
 founds rest opens Other is = founds_other rest opens (comment_len rest) refl
 
-piece_found : (text : List ℕ) (seen : Bool) (from : ℕ) (kind : PieceKind) (len : ℕ) → IsFound (drop from text) (opens_directive seen (take from text)) kind len → IsPiece text seen from kind len
+piece_found : (text : List ℕ) (seen : Bool) (from : ℕ) (kind : PieceKind) (len : ℕ) → IsFound (drop from text) (opens_directive seen (take from text))
+    kind len → IsPiece text seen from kind len
 piece_found text seen from directive_piece len f = record {
   within = f.0;
   form = f.1;
@@ -230,5 +248,6 @@ module _ (text : List ℕ) (seen : Bool) (from : ℕ) where
             ap (λ (k : PieceKind). Some (k, p.1)) (sym (b.1 same)) ∙ ap (λ (n : ℕ). Some (kind, n)) (sym same)
       ] refl (bounds text seen from kind len l.piece)
 
-  pub one_longest : (kind other : PieceKind) (len more : ℕ) → IsLongest text seen from kind len → IsLongest text seen from other more → (kind ≡ other) × (len ≡ more)
+  pub one_longest : (kind other : PieceKind) (len more : ℕ) → IsLongest text seen from kind len → IsLongest text seen from other more
+      → (kind ≡ other) × (len ≡ more)
   one_longest kind other len more l m = some_pair_parts kind other len more (sym (longest-found kind len l) ∙ longest-found other more m)

@@ -1,5 +1,6 @@
 -- Texts in quotes at the front of a rest: where one ends, what it writes, and what the code answers.
-use Rattle.std.proofs.Common.{◌≡◌, ℕ, zero, suc, ◌+◌, ◌-◌, ◌≤◌, ◌==◌, ◌&&◌, ◌||◌, inl, inr, Bool, true, false, not, cond, List, [], ◌∷◌, ◌++◌, length, take, drop, Option, Some, None, is_some, option_map, Result, Ok, Err, refl, sym, ap, ◌∙◌, subst, arith, add-one}
+use Rattle.std.proofs.Common.{◌≡◌, ℕ, zero, suc, ◌+◌, ◌-◌, ◌≤◌, ◌==◌, ◌&&◌, ◌||◌, inl, inr, Bool, true, false, not, cond, List, [], ◌∷◌, ◌++◌, length}
+use Rattle.std.proofs.Common.{take, drop, Option, Some, None, is_some, option_map, Result, Ok, Err, refl, sym, ap, ◌∙◌, subst, arith, add-one}
 use Rattle.std.proofs.lemmas.Bool.{and_parts, and_from, or_parts, or_from, not-true, eq-eqb}
 use Rattle.std.proofs.lemmas.List.{take-take, drop-take, length-take-le, take-append-drop}
 use Rattle.sl_base.specs.Bytes.{begins}
@@ -23,12 +24,14 @@ behind front before (Err n) = Err (n + before)
 -- ## The end of a text in double quotes
 
 -- a byte ends the text or stands before its end
-by-byte : (escaped : Bool) (b : ℕ) (o : Option ℕ) (n : ℕ) (P : Type 0) → cond (is_line_feed b) None (cond (not escaped && (b == 34)) (Some 1) (option_map (λ k. k + 1) o)) ≡ Some n
+by-byte : (escaped : Bool) (b : ℕ) (o : Option ℕ) (n : ℕ) (P : Type 0)
+    → cond (is_line_feed b) None (cond (not escaped && (b == 34)) (Some 1) (option_map (λ k. k + 1) o)) ≡ Some n
     → (n ≡ 1 → is_line_feed b ≡ false → (not escaped && (b == 34)) ≡ true → P)
     → ((k : ℕ) → o ≡ Some k → n ≡ k + 1 → is_line_feed b ≡ false → (not escaped && (b == 34)) ≡ false → P)
     → P
 by-byte escaped b o n P e ends goes =
-    elim (is_line_feed b) as (λ t. is_line_feed b ≡ t → cond t None (cond (not escaped && (b == 34)) (Some 1) (option_map (λ k. k + 1) o)) ≡ Some n → P) [
+    elim (is_line_feed b) as (λ t. is_line_feed b ≡ t
+    → cond t None (cond (not escaped && (b == 34)) (Some 1) (option_map (λ k. k + 1) o)) ≡ Some n → P) [
       | true ↦ λ _ nothing. absurd cc
       | false ↦ λ on_line.
           elim (not escaped && (b == 34)) as (λ t. (not escaped && (b == 34)) ≡ t → cond t (Some 1) (option_map (λ k. k + 1) o) ≡ Some n → P) [
@@ -100,7 +103,8 @@ text-form (b ∷ bs) n quote e =
 
 -- ## Texts in single quotes
 
-character-at : (bytes tail : List ℕ) → is_character bytes ≡ true → (first_at (bytes ++ tail) ≡ Apostrophe) × (character_len (bytes ++ tail) ≡ Some (length bytes))
+character-at : (bytes tail : List ℕ) → is_character bytes ≡ true → (first_at (bytes ++ tail) ≡ Apostrophe)
+    × (character_len (bytes ++ tail) ≡ Some (length bytes))
 character-at [] tail e = absurd cc
 character-at (q ∷ []) tail e = absurd cc
 character-at (q ∷ b ∷ []) tail e = absurd cc
@@ -118,7 +122,8 @@ character-at (q ∷ s ∷ b ∷ r ∷ []) tail e =
     (at-byte 39 (q ∷ s ∷ b ∷ r ∷ tail) parts.0, rw (parts.1, escape.1, last.1) refl)
 character-at (q ∷ s ∷ b ∷ r ∷ t ∷ ts) tail e = absurd cc
 
-pub character-shape : (rest : List ℕ) (m : ℕ) → m ≤ length rest → is_character (take m rest) ≡ true → (first_at rest ≡ Apostrophe) × (character_len rest ≡ Some m)
+pub character-shape : (rest : List ℕ) (m : ℕ) → m ≤ length rest → is_character (take m rest) ≡ true → (first_at rest ≡ Apostrophe)
+    × (character_len rest ≡ Some m)
 character-shape rest m within e =
     let whole : take m rest ++ drop m rest ≡ rest = take-append-drop m rest in
     let at = character-at (take m rest) (drop m rest) e in (
@@ -130,7 +135,8 @@ abbrev IsCharacterFront : List ℕ → ℕ → Type 0
 IsCharacterFront rest n = (n ≤ length rest) × (is_character (take n rest) ≡ true)
 
 -- behind an escape stands a quote
-escape-form : (b e : ℕ) (es : List ℕ) (n : ℕ) → (b == 92) ≡ true → is_some (escape_of e) ≡ true → closed_one (b ∷ e ∷ es) (Some 2) ≡ Some n → IsCharacterFront (39 ∷ b ∷ e ∷ es) n
+escape-form : (b e : ℕ) (es : List ℕ) (n : ℕ) → (b == 92) ≡ true → is_some (escape_of e) ≡ true → closed_one (b ∷ e ∷ es) (Some 2) ≡ Some n
+    → IsCharacterFront (39 ∷ b ∷ e ∷ es) n
 escape-form b e [] n s known is = absurd cc
 escape-form b e (r ∷ rs) n s known is =
     elim (r == 39) as (λ t. (r == 39) ≡ t → cond t (Some 4) None ≡ Some n → IsCharacterFront (39 ∷ b ∷ e ∷ r ∷ rs) n) [
@@ -139,12 +145,14 @@ escape-form b e (r ∷ rs) n s known is =
     ] refl is
 
 -- or behind one byte
-byte-form : (b : ℕ) (bs : List ℕ) (n : ℕ) → (b == 92) ≡ false → ((b == 39) || is_line_feed b) ≡ false → closed_one (b ∷ bs) (Some 1) ≡ Some n → IsCharacterFront (39 ∷ b ∷ bs) n
+byte-form : (b : ℕ) (bs : List ℕ) (n : ℕ) → (b == 92) ≡ false → ((b == 39) || is_line_feed b) ≡ false → closed_one (b ∷ bs) (Some 1) ≡ Some n
+    → IsCharacterFront (39 ∷ b ∷ bs) n
 byte-form b [] n s plain is = absurd cc
 byte-form b (r ∷ rs) n s plain is =
     let parts = or_parts (b == 39) (is_line_feed b) plain in
     elim (r == 39) as (λ t. (r == 39) ≡ t → cond t (Some 3) None ≡ Some n → IsCharacterFront (39 ∷ b ∷ r ∷ rs) n) [
-      | true ↦ λ quote three. let size : 3 ≡ n = cc in subst (IsCharacterFront (39 ∷ b ∷ r ∷ rs)) size (omega arith, rw (parts.0, s, parts.1, quote) refl)
+      | true ↦ λ quote three. let size : 3 ≡ n = cc in subst (IsCharacterFront (39 ∷ b ∷ r ∷ rs)) size
+          (omega arith, rw (parts.0, s, parts.1, quote) refl)
       | false ↦ λ _ nothing. absurd cc
     ] refl is
 
@@ -152,27 +160,33 @@ one-form : (behind : List ℕ) (n : ℕ) → closed_one behind (one_len behind) 
 one-form [] n e = absurd cc
 one-form (b ∷ bs) n e =
     elim (b == 92) as (λ t. (b == 92) ≡ t
-    → closed_one (b ∷ bs) (cond t (cond (begins (λ c. is_some (escape_of c)) bs) (Some 2) None) (cond ((b == 39) || is_line_feed b) None (Some 1))) ≡ Some n
+    → closed_one (b ∷ bs)
+    (cond t (cond (begins (λ c. is_some (escape_of c)) bs) (Some 2) None) (cond ((b == 39) || is_line_feed b) None (Some 1))) ≡ Some n
     → IsCharacterFront (39 ∷ b ∷ bs) n) [
       | true ↦ λ s is. escape b bs n s is
       | false ↦ λ s.
-          elim ((b == 39) || is_line_feed b) as (λ t. ((b == 39) || is_line_feed b) ≡ t → closed_one (b ∷ bs) (cond t None (Some 1)) ≡ Some n → IsCharacterFront (39 ∷ b ∷ bs) n) [
+          elim ((b == 39) || is_line_feed b) as (λ t. ((b == 39) || is_line_feed b) ≡ t → closed_one (b ∷ bs) (cond t None (Some 1)) ≡ Some n
+          → IsCharacterFront (39 ∷ b ∷ bs) n) [
             | true ↦ λ _ nothing. absurd cc
             | false ↦ λ plain is. byte-form b bs n s plain is
           ] refl
     ] refl e
   where
-    escape : (b : ℕ) (bs : List ℕ) (n : ℕ) → (b == 92) ≡ true → closed_one (b ∷ bs) (cond (begins (λ c. is_some (escape_of c)) bs) (Some 2) None) ≡ Some n → IsCharacterFront (39 ∷ b ∷ bs) n
+    escape : (b : ℕ) (bs : List ℕ) (n : ℕ) → (b == 92) ≡ true
+        → closed_one (b ∷ bs) (cond (begins (λ c. is_some (escape_of c)) bs) (Some 2) None) ≡ Some n → IsCharacterFront (39 ∷ b ∷ bs) n
     escape b [] n s is = absurd cc
     escape b (e ∷ es) n s is =
-        elim (is_some (escape_of e)) as (λ t. is_some (escape_of e) ≡ t → closed_one (b ∷ e ∷ es) (cond t (Some 2) None) ≡ Some n → IsCharacterFront (39 ∷ b ∷ e ∷ es) n) [
+        elim (is_some (escape_of e)) as (λ t. is_some (escape_of e) ≡ t → closed_one (b ∷ e ∷ es) (cond t (Some 2) None) ≡ Some n
+        → IsCharacterFront (39 ∷ b ∷ e ∷ es) n) [
           | true ↦ λ known is. escape-form b e es n s known is
           | false ↦ λ _ nothing. absurd cc
         ] refl is
 
-pub character-form : (rest : List ℕ) (n : ℕ) → first_at rest ≡ Apostrophe → character_len rest ≡ Some n → (n ≤ length rest) × (is_character (take n rest) ≡ true)
+pub character-form : (rest : List ℕ) (n : ℕ) → first_at rest ≡ Apostrophe → character_len rest ≡ Some n → (n ≤ length rest)
+    × (is_character (take n rest) ≡ true)
 character-form [] n quote e = absurd cc
-character-form (q ∷ behind) n quote e = subst (λ b. IsCharacterFront (b ∷ behind) n) (sym (tells_at (q ∷ behind) Apostrophe quote)) (one-form behind n e)
+character-form (q ∷ behind) n quote e = subst (λ b. IsCharacterFront (b ∷ behind) n) (sym (tells_at (q ∷ behind) Apostrophe quote))
+    (one-form behind n e)
 
 -- ## What the code answers
 
@@ -180,7 +194,8 @@ character-form (q ∷ behind) n quote e = subst (λ b. IsCharacterFront (b ∷ b
 pub between-slice : (rest : List ℕ) (len : ℕ) → 2 ≤ len → len ≤ length rest → take (len - 1 - 1) (drop 1 rest) ≡ between (take len rest)
 between-slice rest len two within =
     let inside : 1 + (len - 1) ≡ len = omega arith in
-    let behind_first : drop 1 (take len rest) ≡ take (len - 1) (drop 1 rest) = ap (λ n. drop 1 (take n rest)) (sym inside) ∙ drop-take 1 (len - 1) rest in
+    let behind_first : drop 1 (take len rest) ≡ take (len - 1) (drop 1 rest) = ap (λ n. drop 1 (take n rest)) (sym inside)
+    ∙ drop-take 1 (len - 1) rest in
     let fewer : len - 1 - 1 ≡ length (take len rest) - 2 = omega (arith, length-take-le len rest within) in
     ap (λ n. take n (drop 1 rest)) fewer
     ∙ sym (take-take (length (take len rest) - 2) (len - 1) (drop 1 rest) (omega (arith, length-take-le len rest within)))

@@ -1,5 +1,6 @@
 -- Names, libs and numbers at the front of a rest: the run of their bytes forms one, and none is longer.
-use Rattle.std.proofs.Common.{◌≡◌, ℕ, zero, suc, ◌+◌, ◌-◌, ◌<◌, ◌≤◌, ◌==◌, inl, inr, Bool, true, false, cond, List, [], ◌∷◌, ◌++◌, length, take, drop, Ok, Err, refl, sym, ap, ◌∙◌, subst, arith, one-add}
+use Rattle.std.proofs.Common.{◌≡◌, ℕ, zero, suc, ◌+◌, ◌-◌, ◌<◌, ◌≤◌, ◌==◌, inl, inr, Bool, true, false, cond, List, [], ◌∷◌, ◌++◌, length, take, drop}
+use Rattle.std.proofs.Common.{Ok, Err, refl, sym, ap, ◌∙◌, subst, arith, one-add}
 use Rattle.std.specs.List.{prefix_len, list_all}
 use Rattle.std.specs.Str.{bytes_eq}
 use Rattle.std.proofs.lemmas.Bool.{and_parts, and_from, cond_both, both_ways, eqb-true, cases_lt}
@@ -38,7 +39,8 @@ name-form [] l = absurd cc
 name-form (b ∷ bs) l = rw (l, one-add, l) (run-all is_name_byte bs)
 
 -- a name begins with a letter and is no longer than that run
-pub name-shape : (rest : List ℕ) (m : ℕ) → m ≤ length rest → is_name (take m rest) ≡ true → (begins is_letter rest ≡ true) × (m ≤ prefix_len is_name_byte rest)
+pub name-shape : (rest : List ℕ) (m : ℕ) → m ≤ length rest → is_name (take m rest) ≡ true → (begins is_letter rest ≡ true)
+    × (m ≤ prefix_len is_name_byte rest)
 name-shape rest zero h e = absurd cc
 name-shape [] (suc m) h e = absurd cc
 name-shape (b ∷ bs) (suc m) h e =
@@ -59,7 +61,8 @@ taken false e name bytes h = (refl, cc)
 
 pub lib-text : (rest : List ℕ) → begins_lib rest ≡ true → rest ≡ std_colons ++ drop 5 rest
 lib-text rest h =
-    sym (take-append-drop 5 rest) ∙ ap (λ front. front ++ drop 5 rest) ((bytes_eq-Decides (take 5 rest) std_colons).0 (and_parts (bytes_eq (take 5 rest) std_colons) (begins is_letter (drop 5 rest)) h).0)
+    sym (take-append-drop 5 rest) ∙ ap (λ front. front ++ drop 5 rest)
+    ((bytes_eq-Decides (take 5 rest) std_colons).0 (and_parts (bytes_eq (take 5 rest) std_colons) (begins is_letter (drop 5 rest)) h).0)
 
 pub lib-letter : (rest : List ℕ) → begins_lib rest ≡ true → begins is_letter rest ≡ true
 lib-letter rest h = subst (λ r. begins is_letter r ≡ true) (sym (lib-text rest h)) refl
@@ -82,13 +85,15 @@ lib-form rest h =
 -- a lib is longer than what stands before its name
 pub lib-least : (rest : List ℕ) (m : ℕ) → is_lib (take m rest) ≡ true → 5 ≤ m
 lib-least rest m e =
-    let named : is_name (drop 5 (take m rest)) ≡ true = (and_parts (bytes_eq (take 5 (take m rest)) std_colons) (is_name (drop 5 (take m rest))) e).1 in
+    let named : is_name (drop 5 (take m rest)) ≡ true =
+    (and_parts (bytes_eq (take 5 (take m rest)) std_colons) (is_name (drop 5 (take m rest))) e).1 in
     elim (cases_lt m 5) [
       | inl short ↦ absurd (both_ways _ (ap is_name (drop_all 5 (take m rest) (omega (arith, length-take m rest)))) named)
       | inr long ↦ long
     ]
 
-pub lib-shape_at : (rest : List ℕ) (k : ℕ) → 5 + k ≤ length rest → is_lib (take (5 + k) rest) ≡ true → (begins_lib rest ≡ true) × (k ≤ prefix_len is_name_byte (drop 5 rest))
+pub lib-shape_at : (rest : List ℕ) (k : ℕ) → 5 + k ≤ length rest → is_lib (take (5 + k) rest) ≡ true → (begins_lib rest ≡ true)
+    × (k ≤ prefix_len is_name_byte (drop 5 rest))
 lib-shape_at rest k h e =
     let parts = and_parts (bytes_eq (take 5 (take (5 + k) rest)) std_colons) (is_name (drop 5 (take (5 + k) rest))) e in
     let front : bytes_eq (take 5 rest) std_colons ≡ true = rw (take-take 5 (5 + k) rest (omega arith)) at parts.0 in
@@ -96,7 +101,8 @@ lib-shape_at rest k h e =
     let name = name-shape (drop 5 rest) k (omega (arith, length-drop 5 rest)) behind in
     (and_from _ _ front name.0, name.1)
 
-pub lib-shape : (rest : List ℕ) (m : ℕ) → m ≤ length rest → is_lib (take m rest) ≡ true → (begins_lib rest ≡ true) × (m ≤ 5 + prefix_len is_name_byte (drop 5 rest))
+pub lib-shape : (rest : List ℕ) (m : ℕ) → m ≤ length rest → is_lib (take m rest) ≡ true → (begins_lib rest ≡ true)
+    × (m ≤ 5 + prefix_len is_name_byte (drop 5 rest))
 lib-shape rest m h e =
     let same : 5 + (m - 5) ≡ m = omega (arith, lib-least rest m e) in
     let at = lib-shape_at rest (m - 5) (omega arith) (subst (λ n. is_lib (take n rest) ≡ true) (sym same) e) in
@@ -114,7 +120,8 @@ number-form (b ∷ bs) d =
 pub number-digits : (rest : List ℕ) → begins is_digit rest ≡ true → list_all is_digit (take (number_len rest) rest) ≡ true
 number-digits [] d = absurd cc
 number-digits (b ∷ bs) d =
-    cond_both (b == 48) 1 (prefix_len is_digit (b ∷ bs)) (λ n. list_all is_digit (take n (b ∷ bs)) ≡ true) (λ _. rw d refl) (λ _. run-all is_digit (b ∷ bs))
+    cond_both (b == 48) 1 (prefix_len is_digit (b ∷ bs)) (λ n. list_all is_digit (take n (b ∷ bs)) ≡ true) (λ _. rw d refl)
+    (λ _. run-all is_digit (b ∷ bs))
 
 pub number-shape : (rest : List ℕ) (m : ℕ) → m ≤ length rest → is_number (take m rest) ≡ true → (begins is_digit rest ≡ true) × (m ≤ number_len rest)
 number-shape rest zero h e = absurd cc
@@ -123,7 +130,8 @@ number-shape (b ∷ bs) (suc m) h e =
     let parts = and_parts (is_digit b) (cond (b == 48) (length (take m bs) == 0) (list_all is_digit (take m bs))) e in
     let d : is_digit b ≡ true = parts.0 in
     let more : suc m ≤ number_len (b ∷ bs) =
-    elim (b == 48) as (λ t. cond t (length (take m bs) == 0) (list_all is_digit (take m bs)) ≡ true → suc m ≤ cond t 1 (prefix_len is_digit (b ∷ bs))) [
+    elim (b == 48) as (λ t. cond t (length (take m bs) == 0) (list_all is_digit (take m bs)) ≡ true
+    → suc m ≤ cond t 1 (prefix_len is_digit (b ∷ bs))) [
       | true ↦ λ z. omega (arith, eqb-true (length (take m bs)) 0 z, length-take-le m bs (omega arith))
       | false ↦ λ a. rw d (omega (arith, run-most is_digit bs m (omega arith) a))
     ] parts.1 in

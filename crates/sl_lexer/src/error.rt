@@ -9,7 +9,8 @@ use thiserror::Error;
 pub enum LexErr {
     #[error("out of memory")]
     Memory,
-    /// A byte that begins nothing, the 65th of a name, the backslash of a wrong escape, or one directly before a line's end.
+    /// A byte that begins nothing, the 65th of a name, the backslash of a wrong escape, or one directly before
+    /// a line's end.
     #[error("bad byte at offset {offset}")]
     BadByte { offset: u32 },
     /// A number past 2147483647, or one that a letter, digit, `_`, `.` or `'` directly follows; at its first byte.
@@ -18,7 +19,8 @@ pub enum LexErr {
     /// A `/*` that no `*/` follows; at the `/*`.
     #[error("open comment at offset {offset}")]
     OpenComment { offset: u32 },
-    /// A text that its line does not close, or one in single quotes that has not exactly one byte or escape; at the quote.
+    /// A text that its line does not close, or one in single quotes that has not exactly one byte or escape;
+    /// at the quote.
     #[error("open text at offset {offset}")]
     OpenText { offset: u32 },
     /// A `#` that begins no directive.

@@ -13,7 +13,8 @@ pub fn one_answer()
     ensures one_tokens { (text : List ℕ) (ts us : List TokenValue) → Tokens text ts → Tokens text us → ts ≡ us }
     ensures one_fault { (text : List ℕ) (rule other : TokenRule) (at there : ℕ) →
         TokenFault text rule at → TokenFault text other there → (rule ≡ other) × (at ≡ there) }
-    ensures not_both { (text : List ℕ) (ts : List TokenValue) (rule : TokenRule) (at : ℕ) → Tokens text ts → TokenFault text rule at → ⊥ }
+    ensures not_both { (text : List ℕ) (ts : List TokenValue) (rule : TokenRule) (at : ℕ) →
+        Tokens text ts → TokenFault text rule at → ⊥ }
 {}
 
 /// The tokens of a text come in the order of their places, so no two have one place.

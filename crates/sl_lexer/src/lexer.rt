@@ -20,9 +20,11 @@ pub fn lex(alloc: Global, text: &[u8]) -> Result<Items<Token>, LexErr>
     requires { length text.now ≤ TEXT_BYTES }
     // What is answered is so.
     ensures tokens { IfOk result (Tokens text.now) }
-    ensures fault { IfErr result (λ e. (rule : TokenRule) (at : ℕ) → fault_of e ≡ Some (rule, at) → TokenFault text.now rule at) }
+    ensures fault { IfErr result (λ e.
+        (rule : TokenRule) (at : ℕ) → fault_of e ≡ Some (rule, at) → TokenFault text.now rule at) }
     // What is so is answered, unless memory runs out.
-    ensures only_tokens { (tokens : List TokenValue) → Tokens text.now tokens → (result ≡ Ok tokens) ⊎ (result ≡ Err LexErr.Memory) }
+    ensures only_tokens { (tokens : List TokenValue) → Tokens text.now tokens →
+        (result ≡ Ok tokens) ⊎ (result ≡ Err LexErr.Memory) }
     ensures only_fault { (rule : TokenRule) (at : ℕ) → TokenFault text.now rule at →
         IsErrAnd result (λ e. (e ≡ LexErr.Memory) ⊎ (fault_of e ≡ Some (rule, at))) }
 {

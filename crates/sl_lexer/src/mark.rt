@@ -93,7 +93,8 @@ fn mark_at(rest: &[u8]) -> Option<(Mark, usize)>
 pub fn mark_front(rest: &[u8], from: usize) -> Result<Front, LexErr>
     requires some { 0 < length rest.now }
     requires short { from + length rest.now ≤ TEXT_BYTES }
-    ensures { result ≡ answer_of from rest.now (spec.front_from bad_byte rest.now (spec.as_piece mark_piece (spec.mark_len rest.now))) }
+    ensures { result ≡ answer_of from rest.now
+        (spec.front_from bad_byte rest.now (spec.as_piece mark_piece (spec.mark_len rest.now))) }
 {
     match mark_at(rest) {
         Some(_) if rest.starts_with(b"/*") => Err(LexErr::OpenComment {

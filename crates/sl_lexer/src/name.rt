@@ -73,7 +73,8 @@ fn name_at(rest: &[u8], at: usize) -> Result<Name, LexErr>
 fn name_front(rest: &[u8], from: usize) -> Result<Front, LexErr>
     requires letter { IsTrue (bytes.begins bytes.is_letter rest.now) }
     requires short { from ≤ TEXT_BYTES }
-    ensures { result ≡ answer_of from rest.now (spec.judged name_piece (prefix_len bytes.is_name_byte rest.now) rest.now) }
+    ensures { result ≡ answer_of from rest.now
+        (spec.judged name_piece (prefix_len bytes.is_name_byte rest.now) rest.now) }
 {
     let name = name_at(rest, from)?;
     let len = name.as_slice().len();
@@ -87,7 +88,8 @@ fn name_front(rest: &[u8], from: usize) -> Result<Front, LexErr>
 fn lib_front(rest: &[u8], from: usize) -> Result<Front, LexErr>
     requires lib { IsTrue (spec.begins_lib rest.now) }
     requires short { from ≤ TEXT_BYTES }
-    ensures { result ≡ answer_of from rest.now (spec.judged lib_piece (5 + prefix_len bytes.is_name_byte (drop 5 rest.now)) rest.now) }
+    ensures { result ≡ answer_of from rest.now
+        (spec.judged lib_piece (5 + prefix_len bytes.is_name_byte (drop 5 rest.now)) rest.now) }
 {
     let name = name_at(&rest[STD_COLONS..], from + STD_COLONS)?;
     let len = STD_COLONS + name.as_slice().len();

@@ -38,7 +38,8 @@ fn number_len(rest: &[u8]) -> usize
 /// The number that digits write, if it is not past the largest.
 fn decimal(digits: &[u8]) -> Option<u32>
     requires { IsTrue (list_all bytes.is_digit digits.now) }
-    ensures { result ≡ (if nat_lt LARGEST_NUMBER (base.decimal digits.now) then None else Some (base.decimal digits.now)) }
+    ensures { result ≡
+        (if nat_lt LARGEST_NUMBER (base.decimal digits.now) then None else Some (base.decimal digits.now)) }
 {
     let largest = u64::from(LARGEST_NUMBER);
     let mut value = 0;

@@ -16,11 +16,13 @@ use Rattle.sl_model.proofs.Apart.{TakenOnce}
 use Rattle.sl_model.proofs.Changed.{IsOrderly, changed_low, changed_used, changed_once, length-from_sources}
 
 -- the other containers stay as they are
-pub get-after-other : (ch : Change) (m : Memory) (j i : ℕ) (c : Cont) (site : ℕ) → j ≢ i → slice_get (after ch m j c site).conts i ≡ slice_get m.conts i
+pub get-after-other : (ch : Change) (m : Memory) (j i : ℕ) (c : Cont) (site : ℕ) → j ≢ i
+    → slice_get (after ch m j c site).conts i ≡ slice_get m.conts i
 get-after-other ch m j i c site apart = get_set_other m.conts j i (changed m.fresh ch c c) apart
 
 -- the container is the changed one
-pub get-after-own : (ch : Change) (m : Memory) (j : ℕ) (c : Cont) (site : ℕ) → slice_get m.conts j ≡ Some c → slice_get (after ch m j c site).conts j ≡ Some (changed m.fresh ch c c)
+pub get-after-own : (ch : Change) (m : Memory) (j : ℕ) (c : Cont) (site : ℕ) → slice_get m.conts j ≡ Some c
+    → slice_get (after ch m j c site).conts j ≡ Some (changed m.fresh ch c c)
 get-after-own ch m j c site there = get_set_same m.conts j (changed m.fresh ch c c) (get_within m.conts j c there)
 
 -- there are as many containers as before
@@ -40,11 +42,13 @@ cont_of_there : (m : Memory) (j : ℕ) (c : Cont) → slice_get m.conts j ≡ So
 cont_of_there m j c there = get_or_from_slice_get m.conts j c (record { form = f.Vector; cells = []; end = m.fresh; room = 0 }) there
 
 -- the container with the number is the changed one
-pub cont_at-after-own : (ch : Change) (m : Memory) (j : ℕ) (c : Cont) (site : ℕ) → slice_get m.conts j ≡ Some c → cont_at (after ch m j c site) j ≡ changed m.fresh ch c c
+pub cont_at-after-own : (ch : Change) (m : Memory) (j : ℕ) (c : Cont) (site : ℕ) → slice_get m.conts j ≡ Some c
+    → cont_at (after ch m j c site) j ≡ changed m.fresh ch c c
 cont_at-after-own ch m j c site there = cont_of_there (after ch m j c site) j (changed m.fresh ch c c) (get-after-own ch m j c site there)
 
 -- a container with another number is the one that it was
-pub cont_at-after-other : (ch : Change) (m : Memory) (j i : ℕ) (c d : Cont) (site : ℕ) → j ≢ i → slice_get m.conts i ≡ Some d → cont_at (after ch m j c site) i ≡ d
+pub cont_at-after-other : (ch : Change) (m : Memory) (j i : ℕ) (c d : Cont) (site : ℕ) → j ≢ i → slice_get m.conts i ≡ Some d
+    → cont_at (after ch m j c site) i ≡ d
 cont_at-after-other ch m j i c d site apart there = cont_of_there (after ch m j c site) i d (get-after-other ch m j i c site apart ∙ there)
 
 -- what stands in another container stands there still
@@ -56,7 +60,8 @@ abbrev pub AfterAt : Change → Memory → ℕ → Cont → ℕ → ℕ → ℕ 
 AfterAt ch m j c i k s = ((j ≡ i) × (slice_get (stamps (changed m.fresh ch c c)) k ≡ Some s)) ⊎ ((j ≢ i) × IsAt m i k s)
 
 -- what stands after a change stands in the changed container, or in another one where it stood before
-pub after_at : (ch : Change) (m : Memory) (j i k s : ℕ) (c : Cont) (site : ℕ) → slice_get m.conts j ≡ Some c → IsAt (after ch m j c site) i k s → AfterAt ch m j c i k s
+pub after_at : (ch : Change) (m : Memory) (j i k s : ℕ) (c : Cont) (site : ℕ) → slice_get m.conts j ≡ Some c → IsAt (after ch m j c site) i k s
+    → AfterAt ch m j c i k s
 after_at ch m j i k s c site there h = ⊎_elim
     (λ (e : j ≡ i).
     let a : slice_get (after ch m j c site).conts j ≡ Some h.cont = ap (slice_get (after ch m j c site).conts) e ∙ h.there in
@@ -69,14 +74,17 @@ after_at ch m j i k s c site there h = ⊎_elim
     in_own x y e g = let q : x ≡ y = cc in ap (λ (z : Cont). slice_get (stamps z) k) q ∙ g
 
 -- what was invalidated has the change's site beside it
-pub after-dropped : (ch : Change) (m : Memory) (j k s : ℕ) (c : Cont) (site : ℕ) → slice_get (stamps c) k ≡ Some s → ch.kill k ≡ true → killer (after ch m j c site) s ≡ Some site
+pub after-dropped : (ch : Change) (m : Memory) (j k s : ℕ) (c : Cont) (site : ℕ) → slice_get (stamps c) k ≡ Some s → ch.kill k ≡ true
+    → killer (after ch m j c site) s ≡ Some site
 after-dropped ch m j k s c site stands killed =
     let z : 0 + k ≡ k = omega arith in
     killer_before s (buried ch.kill site 0 (stamps c)) m.graves site (buried_killer ch.kill site 0 (stamps c) k s stands (ap ch.kill z ∙ killed))
 
 -- what was dropped before keeps its site
-pub after-dropped-before : (ch : Change) (m : Memory) (j s g : ℕ) (c : Cont) (site : ℕ) → IsSound m → slice_get m.conts j ≡ Some c → killer m s ≡ Some g → killer (after ch m j c site) s ≡ Some g
-after-dropped-before ch m j s g c site sound there h = killer_behind s (buried ch.kill site 0 (stamps c)) m.graves (λ t r. stood t (buried_stood ch.kill site 0 (stamps c) s t r)) ∙ h
+pub after-dropped-before : (ch : Change) (m : Memory) (j s g : ℕ) (c : Cont) (site : ℕ) → IsSound m → slice_get m.conts j ≡ Some c
+    → killer m s ≡ Some g → killer (after ch m j c site) s ≡ Some g
+after-dropped-before ch m j s g c site sound there h =
+    killer_behind s (buried ch.kill site 0 (stamps c)) m.graves (λ t r. stood t (buried_stood ch.kill site 0 (stamps c) s t r)) ∙ h
   where
     stood : (t : ℕ) → StoodAt ch.kill site 0 (stamps c) s t → ⊥
     stood t r = sound.dead j r.0 s g (record { cont = c; there = there; stands = r.1 }) (killer_is s m.graves g h)
@@ -99,7 +107,9 @@ module _ (ch : Change) (m : Memory) (j : ℕ) (c : Cont) (site : ℕ)
 
   -- nothing stands in the changed container and in another one
   not_both : (i p h s : ℕ) → j ≢ i → slice_get (stamps (changed m.fresh ch c c)) p ≡ Some s → IsAt m i h s → ⊥
-  not_both i p h s apart a b = let r = changed_low m.fresh ch c orderly p s (sound.used i h s b) a in apart (sound.once j r.0 i h s (own_at r.0 s r.1) b).0
+  not_both i p h s apart a b =
+      let r = changed_low m.fresh ch c orderly p s (sound.used i h s b) a in
+      apart (sound.once j r.0 i h s (own_at r.0 s r.1) b).0
 
   -- nothing stands twice after the change
   once_after : (i k n h s : ℕ) → AfterAt ch m j c i k s → AfterAt ch m j c n h s → (i ≡ n) × (k ≡ h)
@@ -140,7 +150,8 @@ module _ (ch : Change) (m : Memory) (j : ℕ) (c : Cont) (site : ℕ)
   dead_after i k s t (inr a) (inr g) = sound.dead i k s t a.1 g
 
   -- no container has too many elements after the change
-  small_after : length ch.sources ≤ ELEMENTS → (i : ℕ) (d : Cont) → slice_get (after ch m j c site).conts i ≡ Some d → (j ≡ i) ⊎ j ≢ i → size d ≤ ELEMENTS
+  small_after : length ch.sources ≤ ELEMENTS → (i : ℕ) (d : Cont) → slice_get (after ch m j c site).conts i ≡ Some d → (j ≡ i) ⊎ j ≢ i
+      → size d ≤ ELEMENTS
   small_after few i d h (inl e) =
       let a : slice_get (after ch m j c site).conts j ≡ Some d = ap (slice_get (after ch m j c site).conts) e ∙ h in
       let b : Some (changed m.fresh ch c c) ≡ Some d = sym (get-after-own ch m j c site there) ∙ a in

@@ -20,50 +20,64 @@ stands_in m j k s c there h = by_cont h.cont (sym there ∙ h.there) h.stands
     by_cont d e g = let q : c ≡ d = cc in ap (λ (z : Cont). slice_get (stamps z) k) q ∙ g
 
 -- an edit that leaves not too many elements leaves the memory sound
-pub after-sound : (class : Class) (m : Memory) (j : ℕ) (c : Cont) (e : Edit) (site : ℕ) → IsSound m → slice_get m.conts j ≡ Some c → Fits e (size c) → size c + length e.come ≤ ELEMENTS + e.gone → IsSound (after (change_of class c e) m j c site)
+pub after-sound : (class : Class) (m : Memory) (j : ℕ) (c : Cont) (e : Edit) (site : ℕ) → IsSound m → slice_get m.conts j ≡ Some c → Fits e (size c)
+    → size c + length e.come ≤ ELEMENTS + e.gone → IsSound (after (change_of class c e) m j c site)
 after-sound class m j c e site sound there fits few =
     let l : length (change_of class c e).sources ≡ (size c + length e.come) - e.gone = edit_length class c e fits in
-    change-sound (change_of class c e) m j c site sound there (edit_once class c e fits) (λ p k h. edit_plain class c e p (theirs k) h) (omega arith)
+    change-sound (change_of class c e) m j c site sound there (edit_once class c e fits) (λ p k h. edit_plain class c e p (theirs k) h)
+    (omega arith)
 
 -- what stands in another container stands there still
-pub after-at-other : (class : Class) (m : Memory) (j i k s : ℕ) (c : Cont) (e : Edit) (site : ℕ) → j ≢ i → IsAt m i k s → IsAt (after (change_of class c e) m j c site) i k s
+pub after-at-other : (class : Class) (m : Memory) (j i k s : ℕ) (c : Cont) (e : Edit) (site : ℕ) → j ≢ i → IsAt m i k s
+    → IsAt (after (change_of class c e) m j c site) i k s
 after-at-other class m j i k s c e site apart h = after-other (change_of class c e) m j i k s c site apart h
 
 -- what was invalidated has the edit's site beside it
-pub after-killed : (class : Class) (m : Memory) (j k s : ℕ) (c : Cont) (e : Edit) (site : ℕ) → IsSound m → slice_get m.conts j ≡ Some c → IsAt m j k s → kills class (size c) c.room e k ≡ true → killer (after (change_of class c e) m j c site) s ≡ Some site
+pub after-killed : (class : Class) (m : Memory) (j k s : ℕ) (c : Cont) (e : Edit) (site : ℕ) → IsSound m → slice_get m.conts j ≡ Some c
+    → IsAt m j k s → kills class (size c) c.room e k ≡ true → killer (after (change_of class c e) m j c site) s ≡ Some site
 after-killed class m j k s c e site sound there h killed = after-dropped (change_of class c e) m j k s c site (stands_in m j k s c there h) killed
 
 -- what was dropped before keeps its site
-pub after-dead : (class : Class) (m : Memory) (j s g : ℕ) (c : Cont) (e : Edit) (site : ℕ) → IsSound m → slice_get m.conts j ≡ Some c → killer m s ≡ Some g → killer (after (change_of class c e) m j c site) s ≡ Some g
+pub after-dead : (class : Class) (m : Memory) (j s g : ℕ) (c : Cont) (e : Edit) (site : ℕ) → IsSound m → slice_get m.conts j ≡ Some c
+    → killer m s ≡ Some g → killer (after (change_of class c e) m j c site) s ≡ Some g
 after-dead class m j s g c e site sound there h = after-dropped-before (change_of class c e) m j s g c site sound there h
 
 -- the size of the container after an edit
-pub size-after : (class : Class) (m : Memory) (c : Cont) (e : Edit) → Fits e (size c) → size (changed m.fresh (change_of class c e) c c) ≡ (size c + length e.come) - e.gone
+pub size-after : (class : Class) (m : Memory) (c : Cont) (e : Edit) → Fits e (size c) → size (changed m.fresh (change_of class c e) c c)
+    ≡ (size c + length e.come) - e.gone
 size-after class m c e fits = size-changed (change_of class c e) m.fresh c ∙ edit_length class c e fits
 
 -- the size of the container with the number after an edit
-pub size_at-after : (class : Class) (m : Memory) (j : ℕ) (c : Cont) (e : Edit) (site : ℕ) → slice_get m.conts j ≡ Some c → Fits e (size c) → size (cont_at (after (change_of class c e) m j c site) j) ≡ (size c + length e.come) - e.gone
-size_at-after class m j c e site there fits = ap (λ (x : Cont). size x) (cont_at-after-own (change_of class c e) m j c site there) ∙ size-after class m c e fits
+pub size_at-after : (class : Class) (m : Memory) (j : ℕ) (c : Cont) (e : Edit) (site : ℕ) → slice_get m.conts j ≡ Some c → Fits e (size c)
+    → size (cont_at (after (change_of class c e) m j c site) j) ≡ (size c + length e.come) - e.gone
+size_at-after class m j c e site there fits =
+    ap (λ (x : Cont). size x) (cont_at-after-own (change_of class c e) m j c site there) ∙ size-after class m c e fits
 
 -- an iterator that isn't invalidated stands where the edit moved it, and the end at the end
-pub after-at-own : (class : Class) (m : Memory) (j k s : ℕ) (c : Cont) (e : Edit) (site : ℕ) → slice_get m.conts j ≡ Some c → IsAt m j k s → Fits e (size c) → kills class (size c) c.room e k ≡ false → (k < e.from) ⊎ (e.from + e.gone ≤ k) → IsAt (after (change_of class c e) m j c site) j (shifted e k) s
+pub after-at-own : (class : Class) (m : Memory) (j k s : ℕ) (c : Cont) (e : Edit) (site : ℕ) → slice_get m.conts j ≡ Some c → IsAt m j k s
+    → Fits e (size c) → kills class (size c) c.room e k ≡ false → (k < e.from) ⊎ (e.from + e.gone ≤ k)
+    → IsAt (after (change_of class c e) m j c site) j (shifted e k) s
 after-at-own class m j k s c e site there h fits alive outside = record {
   cont = changed m.fresh (change_of class c e) c c;
   there = get-after-own (change_of class c e) m j c site there;
   stands = by_place (stands_as c.cells c.end k s (stands_in m j k s c there h));
 }
   where
-    by_place : HasStamp c.cells k s ⊎ ((k ≡ size c) × (c.end ≡ s)) → slice_get (stamps (changed m.fresh (change_of class c e) c c)) (shifted e k) ≡ Some s
+    by_place : HasStamp c.cells k s ⊎ ((k ≡ size c) × (c.end ≡ s)) → slice_get (stamps (changed m.fresh (change_of class c e) c c)) (shifted e k)
+        ≡ Some s
     by_place (inl a) =
         element_stands (new_cells m.fresh (change_of class c e) c) (new_end m.fresh (change_of class c e) c) (shifted e k) s
-        (kept (kills class (size c) c.room e) m.fresh c c (m.fresh + size c + 1) (change_of class c e).sources (shifted e k) k s (edit_keeps class c e k fits (stamp_within c.cells k s a) outside) alive a)
+        (kept (kills class (size c) c.room e) m.fresh c c (m.fresh + size c + 1) (change_of class c e).sources (shifted e k) k s
+        (edit_keeps class c e k fits (stamp_within c.cells k s a) outside) alive a)
     by_place (inr a) =
         let n : k ≡ size c = a.0 in
         let f : e.from + e.gone ≤ size c = fits in
         let t : shifted e k + e.gone ≡ k + length e.come = shifted_behind e k (omega arith) in
-        let l : length (new_cells m.fresh (change_of class c e) c) ≡ length (change_of class c e).sources = size-changed (change_of class c e) m.fresh c in
+        let l : length (new_cells m.fresh (change_of class c e) c) ≡ length (change_of class c e).sources =
+        size-changed (change_of class c e) m.fresh c in
         let q : length (change_of class c e).sources ≡ (size c + length e.come) - e.gone = edit_length class c e fits in
         let place : shifted e k ≡ length (new_cells m.fresh (change_of class c e) c) = omega arith in
-        let stays : new_end m.fresh (change_of class c e) c ≡ c.end = ap (λ (b : Bool). if b then m.fresh + size c else c.end) (ap (kills class (size c) c.room e) (sym n) ∙ alive) in
+        let stays : new_end m.fresh (change_of class c e) c ≡ c.end =
+        ap (λ (b : Bool). if b then m.fresh + size c else c.end) (ap (kills class (size c) c.room e) (sym n) ∙ alive) in
         ap (slice_get (stamps (changed m.fresh (change_of class c e) c c))) place
         ∙ (end_stands (new_cells m.fresh (change_of class c e) c) (new_end m.fresh (change_of class c e) c) ∙ ap (λ x. Some x) (stays ∙ a.1))

@@ -1,5 +1,6 @@
 -- Which stamps a container holds after a change that takes nothing of another container.
-use Rattle.std.proofs.Common.{◌≡◌, ℕ, suc, ◌+◌, ◌<◌, ◌≤◌, Bool, true, false, List, [], ◌∷◌, Some, length, refl, ap, sym, ◌∙◌, arith, ◌⊎◌, inl, inr, ⊎_elim, if◌then◌else◌}
+use Rattle.std.proofs.Common.{◌≡◌, ℕ, suc, ◌+◌, ◌<◌, ◌≤◌, Bool, true, false, List, [], ◌∷◌, Some, length, refl, ap, sym, ◌∙◌, arith, ◌⊎◌, inl, inr}
+use Rattle.std.proofs.Common.{⊎_elim, if◌then◌else◌}
 use Rattle.std.specs.List.{slice_get}
 use Rattle.std.proofs.lemmas.Bool.{cases_lt}
 use Rattle.sl_model.specs.Containers.{Cell, Cont, size, stamps}
@@ -16,7 +17,8 @@ pub record IsOrderly (fresh : ℕ) (ch : Change) (c : Cont) : Type 0 where
   pub alone : (p k : ℕ) → slice_get ch.sources p ≡ Some (theirs k) → ⊥
 
 -- a change makes an element for each source
-pub length-from_sources : (kill : ℕ → Bool) (fresh : ℕ) (own other : Cont) (next : ℕ) (ss : List Source) → length (from_sources kill fresh own other next ss) ≡ length ss
+pub length-from_sources : (kill : ℕ → Bool) (fresh : ℕ) (own other : Cont) (next : ℕ) (ss : List Source)
+    → length (from_sources kill fresh own other next ss) ≡ length ss
 length-from_sources kill fresh own other next [] = refl
 length-from_sources kill fresh own other next (s ∷ ss) = ap suc (length-from_sources kill fresh own other (next + 1) ss)
 
@@ -70,14 +72,18 @@ module _ (fresh : ℕ) (ch : Change) (c : Cont) (orderly : IsOrderly fresh ch c)
       not_theirs q j (new x y) e t = t
 
   -- a stamp in use that stands in the container after a change stood in it before, at a place that isn't invalidated
-  pub changed_low : (p s : ℕ) → s < fresh → slice_get (stamps (changed fresh ch c c)) p ≡ Some s → (k : ℕ) × (slice_get (stamps c) k ≡ Some s) × (ch.kill k ≡ false)
+  pub changed_low : (p s : ℕ) → s < fresh → slice_get (stamps (changed fresh ch c c)) p ≡ Some s
+      → (k : ℕ) × (slice_get (stamps c) k ≡ Some s) × (ch.kill k ≡ false)
   changed_low p s low h =
       ⊎_elim
-      (λ (a : HasStamp (new_cells fresh ch c) p s). let r = came_from ch.kill fresh c c (fresh + size c + 1) ch.sources p s (omega arith) low a in by_source r.0 r.1 r.2)
-      (λ (a : (p ≡ length (new_cells fresh ch c)) × (new_end fresh ch c ≡ s)). let r = end_low fresh ch c s low a.1 in (size c, end_stands c.cells c.end ∙ ap (λ n. Some n) r.0, r.1))
+      (λ (a : HasStamp (new_cells fresh ch c) p s). let r = came_from ch.kill fresh c c (fresh + size c + 1) ch.sources p s (omega arith) low a in
+      by_source r.0 r.1 r.2)
+      (λ (a : (p ≡ length (new_cells fresh ch c)) × (new_end fresh ch c ≡ s)). let r = end_low fresh ch c s low a.1 in
+      (size c, end_stands c.cells c.end ∙ ap (λ n. Some n) r.0, r.1))
       (stands_as (new_cells fresh ch c) (new_end fresh ch c) p s h)
     where
-      by_source : (source : Source) → slice_get ch.sources p ≡ Some source → Stood ch.kill c c s source → (k : ℕ) × (slice_get (stamps c) k ≡ Some s) × (ch.kill k ≡ false)
+      by_source : (source : Source) → slice_get ch.sources p ≡ Some source → Stood ch.kill c c s source
+          → (k : ℕ) × (slice_get (stamps c) k ≡ Some s) × (ch.kill k ≡ false)
       by_source (old k) e st = (k, element_stands c.cells c.end k s st.0, st.1)
       by_source (written k x) e st = (k, element_stands c.cells c.end k s st.0, st.1)
       by_source (theirs k) e st = absurd (orderly.alone p k e)
@@ -85,13 +91,15 @@ module _ (fresh : ℕ) (ch : Change) (c : Cont) (orderly : IsOrderly fresh ch c)
 
   -- what stands in the container after a change is in use after it
   pub changed_used : (p s : ℕ) → slice_get (stamps (changed fresh ch c c)) p ≡ Some s → s < used fresh ch c
-  changed_used p s h = ⊎_elim (λ (low : s < fresh). let r : s < used fresh ch c = omega arith in r) (λ (high : fresh ≤ s). above high (stands_as (new_cells fresh ch c) (new_end fresh ch c) p s h)) (cases_lt s fresh)
+  changed_used p s h = ⊎_elim (λ (low : s < fresh). let r : s < used fresh ch c = omega arith in r)
+      (λ (high : fresh ≤ s). above high (stands_as (new_cells fresh ch c) (new_end fresh ch c) p s h)) (cases_lt s fresh)
     where
       by_number : (source : Source) → p < length ch.sources → NewAt fresh (size c) ((fresh + size c + 1) + p) source s → s < used fresh ch c
       by_number source within (inl e) = omega arith
       by_number source within (inr e) = let a = e.2 in let b = e.3 in omega arith
 
-      above : fresh ≤ s → HasStamp (new_cells fresh ch c) p s ⊎ ((p ≡ length (new_cells fresh ch c)) × (new_end fresh ch c ≡ s)) → s < used fresh ch c
+      above : fresh ≤ s → HasStamp (new_cells fresh ch c) p s ⊎ ((p ≡ length (new_cells fresh ch c)) × (new_end fresh ch c ≡ s))
+          → s < used fresh ch c
       above high (inl a) =
           let r = new_at ch.kill fresh c c (fresh + size c + 1) ch.sources p s cell_before cell_before high a in
           let n : p < length (new_cells fresh ch c) = stamp_within (new_cells fresh ch c) p s a in
@@ -114,7 +122,8 @@ module _ (fresh : ℕ) (ch : Change) (c : Cont) (orderly : IsOrderly fresh ch c)
       at_end : c.end ≡ s → (k : ℕ) → HasStamp c.cells k s → ⊥
       at_end x k st =
           let w : k < size c = stamp_within c.cells k s st in
-          let same : k ≡ size c = orderly.stands_once k (size c) s (element_stands c.cells c.end k s st) (end_stands c.cells c.end ∙ ap (λ n. Some n) x) in
+          let same : k ≡ size c =
+          orderly.stands_once k (size c) s (element_stands c.cells c.end k s st) (end_stands c.cells c.end ∙ ap (λ n. Some n) x) in
           omega arith
 
       by_source : c.end ≡ s → (source : Source) → slice_get ch.sources p ≡ Some source → Stood ch.kill c c s source → ⊥
@@ -128,10 +137,13 @@ module _ (fresh : ℕ) (ch : Change) (c : Cont) (orderly : IsOrderly fresh ch c)
       by_number source x (inr y) = let m = y.2 in let n = y.3 in omega arith
 
   -- no stamp stands twice in the container after a change
-  pub changed_once : (p q s : ℕ) → slice_get (stamps (changed fresh ch c c)) p ≡ Some s → slice_get (stamps (changed fresh ch c c)) q ≡ Some s → p ≡ q
-  changed_once p q s h g = by_cases (stands_as (new_cells fresh ch c) (new_end fresh ch c) p s h) (stands_as (new_cells fresh ch c) (new_end fresh ch c) q s g)
+  pub changed_once : (p q s : ℕ) → slice_get (stamps (changed fresh ch c c)) p ≡ Some s → slice_get (stamps (changed fresh ch c c)) q ≡ Some s
+      → p ≡ q
+  changed_once p q s h g =
+      by_cases (stands_as (new_cells fresh ch c) (new_end fresh ch c) p s h) (stands_as (new_cells fresh ch c) (new_end fresh ch c) q s g)
     where
-      by_cases : HasStamp (new_cells fresh ch c) p s ⊎ ((p ≡ length (new_cells fresh ch c)) × (new_end fresh ch c ≡ s)) → HasStamp (new_cells fresh ch c) q s ⊎ ((q ≡ length (new_cells fresh ch c)) × (new_end fresh ch c ≡ s)) → p ≡ q
+      by_cases : HasStamp (new_cells fresh ch c) p s ⊎ ((p ≡ length (new_cells fresh ch c)) × (new_end fresh ch c ≡ s))
+          → HasStamp (new_cells fresh ch c) q s ⊎ ((q ≡ length (new_cells fresh ch c)) × (new_end fresh ch c ≡ s)) → p ≡ q
       by_cases (inl a) (inl b) = stay_apart ch.kill fresh c c ch.sources p q s differ orderly.taken a b
       by_cases (inl a) (inr b) = absurd (element_end p s a b.1)
       by_cases (inr a) (inl b) = absurd (element_end q s b a.1)

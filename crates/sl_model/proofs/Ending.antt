@@ -1,5 +1,6 @@
 -- Where containers end, the memory stays sound, and what stands in the others stands there still.
-use Rattle.std.proofs.Common.{◌≡◌, ℕ, zero, suc, ◌+◌, ◌-◌, ◌<◌, ◌≤◌, List, [], ◌∷◌, Some, length, take, drop, refl, ap, sym, ◌∙◌, arith, ◌⊎◌, inl, inr}
+use Rattle.std.proofs.Common.{◌≡◌, ℕ, zero, suc, ◌+◌, ◌-◌, ◌<◌, ◌≤◌, List, [], ◌∷◌, Some, length, take, drop, refl, ap, sym, ◌∙◌, arith, ◌⊎◌, inl}
+use Rattle.std.proofs.Common.{inr}
 use Rattle.std.specs.List.{slice_get}
 use Rattle.std.proofs.lemmas.Bool.{cases_lt}
 use Rattle.sl_model.specs.Containers.{Cont, Grave, Memory, stamps, killer_of, killer, graves_at, all_stamps, end_from}
@@ -13,7 +14,8 @@ graves_of : (at : ℕ) (ss : List ℕ) (s t : ℕ) → IsGrave (graves_at at ss)
 graves_of at [] s t g = absurd (let q = g.1 in cc)
 graves_of at (x ∷ ss) s t g = by_place (λ r. graves_of at ss s t r) g.0 g.1
   where
-    by_place : (IsGrave (graves_at at ss) s t → (d : ℕ) × (slice_get ss d ≡ Some s) × (at ≡ t)) → (n : ℕ) → slice_get (graves_at at (x ∷ ss)) n ≡ Some (record { stamp = s; site = t }) → (d : ℕ) × (slice_get (x ∷ ss) d ≡ Some s) × (at ≡ t)
+    by_place : (IsGrave (graves_at at ss) s t → (d : ℕ) × (slice_get ss d ≡ Some s) × (at ≡ t)) → (n : ℕ)
+        → slice_get (graves_at at (x ∷ ss)) n ≡ Some (record { stamp = s; site = t }) → (d : ℕ) × (slice_get (x ∷ ss) d ≡ Some s) × (at ≡ t)
     by_place rest zero e =
         let q : ◌≡◌ {A = Grave} (record { stamp = x; site = at }) (record { stamp = s; site = t }) = cc in
         (0, ap (λ (y : Grave). Some y.stamp) q, ap (λ (y : Grave). y.site) q)
@@ -31,7 +33,8 @@ some_stands [] d s h = absurd (cc)
 some_stands (c ∷ cs) d s h =
     by_place (some_stands cs (d - length (stamps c)) s) (cases_lt d (length (stamps c)))
   where
-    by_place : (slice_get (all_stamps cs) (d - length (stamps c)) ≡ Some s → (i : ℕ) × (k : ℕ) × StandsIn cs i k s) → (d < length (stamps c)) ⊎ (length (stamps c) ≤ d) → (i : ℕ) × (k : ℕ) × StandsIn (c ∷ cs) i k s
+    by_place : (slice_get (all_stamps cs) (d - length (stamps c)) ≡ Some s → (i : ℕ) × (k : ℕ) × StandsIn cs i k s)
+        → (d < length (stamps c)) ⊎ (length (stamps c) ≤ d) → (i : ℕ) × (k : ℕ) × StandsIn (c ∷ cs) i k s
     by_place rest (inl low) = (0, d, (c, refl, sym (get_left (stamps c) (all_stamps cs) d low) ∙ h))
     by_place rest (inr high) = let r = rest (sym (get_right (stamps c) (all_stamps cs) d high) ∙ h) in (suc r.0, r.1, r.2)
 
@@ -50,7 +53,8 @@ pub in_ended : (site n : ℕ) (m : Memory) (j k s : ℕ) → IsAt (end_from site
 in_ended site n m j k s h = let r = get_take n m.conts j h.cont h.there in (r.0, record { cont = h.cont; there = r.1; stands = h.stands })
 
 -- what was dropped where containers ended stood in one of them
-ended_stood : (site n : ℕ) (m : Memory) (s t : ℕ) → IsGrave (graves_at site (all_stamps (drop n m.conts))) s t → (i : ℕ) × (k : ℕ) × IsAt m (n + i) k s
+ended_stood : (site n : ℕ) (m : Memory) (s t : ℕ) → IsGrave (graves_at site (all_stamps (drop n m.conts))) s t
+    → (i : ℕ) × (k : ℕ) × IsAt m (n + i) k s
 ended_stood site n m s t g =
     let r = graves_of site (all_stamps (drop n m.conts)) s t g in
     let q = some_stands (drop n m.conts) r.0 s r.1 in
@@ -87,12 +91,14 @@ end_from-killed site n m j k s high h = by_stamp (stands_some (drop n m.conts) (
     there = get_drop n m.conts (j - n) ∙ (ap (slice_get m.conts) place ∙ h.there)
 
     by_stamp : (d : ℕ) × (slice_get (all_stamps (drop n m.conts)) d ≡ Some s) → killer (end_from site n m) s ≡ Some site
-    by_stamp d = killer_before s (graves_at site (all_stamps (drop n m.conts))) m.graves site (graves_killer site (all_stamps (drop n m.conts)) d.0 s d.1)
+    by_stamp d =
+        killer_before s (graves_at site (all_stamps (drop n m.conts))) m.graves site (graves_killer site (all_stamps (drop n m.conts)) d.0 s d.1)
 
 -- what was dropped before keeps its site
 pub end_from-dead : (site n : ℕ) (m : Memory) (s g : ℕ) → IsSound m → killer m s ≡ Some g → killer (end_from site n m) s ≡ Some g
 end_from-dead site n m s g sound h =
-    killer_behind s (graves_at site (all_stamps (drop n m.conts))) m.graves (λ t r. let q = ended_stood site n m s t r in sound.dead (n + q.0) q.1 s g q.2 (killer_is s m.graves g h)) ∙ h
+    killer_behind s (graves_at site (all_stamps (drop n m.conts))) m.graves (λ t r. let q = ended_stood site n m s t r in
+    sound.dead (n + q.0) q.1 s g q.2 (killer_is s m.graves g h)) ∙ h
 
 -- a memory in which containers ended is sound
 pub end_from-sound : (site n : ℕ) (m : Memory) → IsSound m → IsSound (end_from site n m)

@@ -9,6 +9,8 @@ pub mod Calls
 pub mod Reads
 pub mod Numbers
 pub mod Faults
+pub mod Discarded
 pub mod Told
 pub mod Rows
+pub mod Cleared
 pub mod Scoped

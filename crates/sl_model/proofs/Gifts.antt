@@ -7,11 +7,15 @@ use Rattle.sl_base.specs.declared.place.Place.{Place}
 use Rattle.sl_model.specs.Numbers.{Answer, value, fault}
 use Rattle.sl_syntax.specs.Typed.{Callee, Head, Fix, prefix, postfix, Left, scalar, element, Function}
 use Rattle.sl_model.specs.Containers.{Memory}
-use Rattle.sl_model.specs.Values.{Value, nothing, number, iterator, pair, scalar_at, container_at, element_at, Args, LibOut, trapped, thrown, faulted, gives, unbuilt, Lib}
+use Rattle.sl_model.specs.Values.{Value, nothing, number, iterator, pair, scalar_at, container_at, element_at, Args, LibOut, trapped, thrown, faulted}
+use Rattle.sl_model.specs.Values.{gives, unbuilt, Lib}
 use Rattle.sl_model.specs.State.{State, Frame, iter_of, stamp_of, set_iterator_at, scalar_value}
-use Rattle.sl_model.specs.Eval.{Out, Gives, Stops, Outs, AllGive, OneStops, Oracle, then_eval, with_number, then_number, add_value, then_rest, then_call, branch, answered, if_set, read_at, settle_call, use_library, moved_to, chosen, first_of, second_of}
+use Rattle.sl_model.specs.Eval.{Out, Gives, Stops, Outs, AllGive, OneStops, Oracle, then_eval, with_number, then_number, add_value, then_rest}
+use Rattle.sl_model.specs.Eval.{then_call, branch, answered, if_set, read_at, settle_call, use_library, moved_to, chosen, first_of, second_of}
 use Rattle.sl_model.specs.Good.{IsSound, AreApart}
-use Rattle.sl_model.specs.Shapes.{Shape, a_number, a_stamp, a_pair, an_element, Gift, a_value, the_scalar, Signature, HasShape, IsGiven, shape_of_result, AllSuit, containers_in}
+use Rattle.sl_model.specs.Shapes.{Shape, a_number, a_stamp, a_pair, an_element, Gift, a_value, the_scalar, Signature, HasShape, IsGiven}
+use Rattle.sl_model.specs.Shapes.{shape_of_result, AllSuit, containers_in}
+use Rattle.sl_model.proofs.Vanishing.{Leaves}
 use Rattle.sl_model.proofs.Levels.{Level, Now, apart_from_stacks, memory-now, set_iterator-now, Above, now_above, above_less}
 
 -- the stamp of a value is below n
@@ -30,26 +34,27 @@ abbrev pub grown : Bool → ℕ → ℕ
 grown true n = n + 1
 grown false n = n
 
--- What a call gives: the memory is sound, it has as many containers, or one more where the call makes one, no stamp is unused
--- again, and the value has its shape and a stamp that was used.
-pub record Answers (shape : Shape) (makes_one : Bool) (m : Memory) (v : Value) (t : Memory) : Type 0 where
-  pub sound : IsSound t
+-- What a call gives: the memory is sound and nothing has vanished, it has as many containers, or one more where the call makes
+-- one, no stamp is unused again, and the value has its shape and a stamp that was used.
+pub record Answers (shape : Shape) (makes_one : Bool) (m : Memory) (site : ℕ) (v : Value) (t : Memory) : Type 0 where
+  pub leaves : Leaves m site t
   pub many : length t.conts ≡ grown makes_one (length m.conts)
   pub later : m.fresh ≤ t.fresh
   pub shaped : HasShape shape v
   pub used : IsUsed t.fresh v
 
 -- where a call gives something
-abbrev pub IsAnswer : Shape → Bool → Memory → LibOut → Type 0
-IsAnswer shape makes_one m (gives v t picks) = Answers shape makes_one m v t
-IsAnswer shape makes_one m (trapped k a) = Unit {0}
-IsAnswer shape makes_one m thrown = Unit {0}
-IsAnswer shape makes_one m (faulted w) = Unit {0}
-IsAnswer shape makes_one m unbuilt = Unit {0}
+abbrev pub IsAnswer : Shape → Bool → Memory → ℕ → LibOut → Type 0
+IsAnswer shape makes_one m site (gives v t picks) = Answers shape makes_one m site v t
+IsAnswer shape makes_one m site (trapped k a) = Unit {0}
+IsAnswer shape makes_one m site thrown = Unit {0}
+IsAnswer shape makes_one m site (faulted w) = Unit {0}
+IsAnswer shape makes_one m site unbuilt = Unit {0}
 
--- a library gives these shapes and makes containers at these calls, and it keeps what holds of all states of a run
+-- a library gives these shapes and makes containers at these calls, and it keeps memory and what holds of all states of a run
 abbrev pub KeepsGood : (Callee → Shape) → (Callee → Bool) → Lib → Type 0
-KeepsGood shape makes_one l = (c : Callee) (a : Args) (m : Memory) (picks : List ℕ) → IsSound m → AllUsed m.fresh a.values → IsAnswer (shape c) (makes_one c) m (l c a m picks)
+KeepsGood shape makes_one l = (c : Callee) (a : Args) (m : Memory) (picks : List ℕ) → IsSound m → AllUsed m.fresh a.values
+    → IsAnswer (shape c) (makes_one c) m a.site (l c a m picks)
 
 -- a value is given in a good state at a level
 pub record Gave (L : Level) (n : ℕ) (gift : Gift) (v : Value) (s : State) : Type 0 where
@@ -111,16 +116,19 @@ now_again L n s h = record { good = h.good; level = h.level; later = omega arith
 -- the stamp of an iterator that is in scope was used
 pub stamp_used : (L : Level) (n : ℕ) (s : State) (x : ℕ) → x < length L.frame.iters → Now L n s → stamp_of s x < s.memory.fresh
 stamp_used L n s x low h = subst (λ (l : Level). x < length l.frame.iters → stamp_of s x < s.memory.fresh) h.level
-    (λ low. h.good.held (iter_of s x) (stamp_of s x) (slice_get-get_or s.iters (iter_of s x) 0 (h.good.iters x (iter_of s x) (slice_get-get_or s.frame.iters x 0 low)))) low
+    (λ low. h.good.held (iter_of s x) (stamp_of s x)
+    (slice_get-get_or s.iters (iter_of s x) 0 (h.good.iters x (iter_of s x) (slice_get-get_or s.frame.iters x 0 low)))) low
 
 module _ (L : Level) where
   -- what follows a value
-  pub at_then : (n : ℕ) (gift next : Gift) (o : Out) (go : Value → State → Out) → OutAt L n gift o → ((v : Value) (s : State) → Gave L n gift v s → OutAt L n next (go v s)) → OutAt L n next (then_eval o go)
+  pub at_then : (n : ℕ) (gift next : Gift) (o : Out) (go : Value → State → Out) → OutAt L n gift o
+      → ((v : Value) (s : State) → Gave L n gift v s → OutAt L n next (go v s)) → OutAt L n next (then_eval o go)
   at_then n gift next (Gives v s) go h k = k v s h
   at_then n gift next (Stops e s) go h k = h
 
   -- what follows a number, where the number comes from a value
-  at_number : (n : ℕ) (next : Gift) (go : ℤ → State → Out) (v : Value) (s : State) → Now L n s → ((z : ℤ) (s : State) → Now L n s → OutAt L n next (go z s)) → OutAt L n next (with_number go v s)
+  at_number : (n : ℕ) (next : Gift) (go : ℤ → State → Out) (v : Value) (s : State) → Now L n s
+      → ((z : ℤ) (s : State) → Now L n s → OutAt L n next (go z s)) → OutAt L n next (with_number go v s)
   at_number n next go nothing s h k = k (pos 0) s h
   at_number n next go (number z) s h k = k z s h
   at_number n next go (iterator x) s h k = k (pos 0) s h
@@ -130,16 +138,19 @@ module _ (L : Level) where
   at_number n next go (element_at i j p) s h k = k (pos 0) s h
 
   -- what follows a number
-  pub at_then_number : (n : ℕ) (gift next : Gift) (o : Out) (go : ℤ → State → Out) → OutAt L n gift o → ((z : ℤ) (s : State) → Now L n s → OutAt L n next (go z s)) → OutAt L n next (then_number o go)
+  pub at_then_number : (n : ℕ) (gift next : Gift) (o : Out) (go : ℤ → State → Out) → OutAt L n gift o
+      → ((z : ℤ) (s : State) → Now L n s → OutAt L n next (go z s)) → OutAt L n next (then_number o go)
   at_then_number n gift next o go h k = at_then n gift next o (with_number go) h (λ v s i. at_number n next go v s i.now k)
 
   -- what follows all operands
-  pub at_call : (n : ℕ) (gifts : List Gift) (next : Gift) (o : Outs) (go : List Value → State → Out) → OutsAt L n gifts o → ((vs : List Value) (s : State) → AllGave L n gifts vs s → OutAt L n next (go vs s)) → OutAt L n next (then_call o go)
+  pub at_call : (n : ℕ) (gifts : List Gift) (next : Gift) (o : Outs) (go : List Value → State → Out) → OutsAt L n gifts o
+      → ((vs : List Value) (s : State) → AllGave L n gifts vs s → OutAt L n next (go vs s)) → OutAt L n next (then_call o go)
   at_call n gifts next (AllGive vs s) go h k = k vs s h
   at_call n gifts next (OneStops e s) go h k = h
 
   -- an operand before the others
-  at_add : (n : ℕ) (gift : Gift) (gifts : List Gift) (v : Value) (t : State) (o : Outs) → Gave L n gift v t → OutsAt L t.memory.fresh gifts o → OutsAt L n (gift ∷ gifts) (add_value v o)
+  at_add : (n : ℕ) (gift : Gift) (gifts : List Gift) (v : Value) (t : State) (o : Outs) → Gave L n gift v t → OutsAt L t.memory.fresh gifts o
+      → OutsAt L n (gift ∷ gifts) (add_value v o)
   at_add n gift gifts v t (AllGive vs s) h k = record {
     now = now_less L n t.memory.fresh s h.now.later k.now;
     given = (h.given, k.given);
@@ -148,7 +159,8 @@ module _ (L : Level) where
   at_add n gift gifts v t (OneStops e s) h k = above_less L n t.memory.fresh s h.now.later k
 
   -- the operands behind the first one
-  pub at_rest : (n : ℕ) (gift : Gift) (gifts : List Gift) (o : Out) (go : State → Outs) → OutAt L n gift o → ((s : State) → Now L s.memory.fresh s → OutsAt L s.memory.fresh gifts (go s)) → OutsAt L n (gift ∷ gifts) (then_rest o go)
+  pub at_rest : (n : ℕ) (gift : Gift) (gifts : List Gift) (o : Out) (go : State → Outs) → OutAt L n gift o
+      → ((s : State) → Now L s.memory.fresh s → OutsAt L s.memory.fresh gifts (go s)) → OutsAt L n (gift ∷ gifts) (then_rest o go)
   at_rest n gift gifts (Gives v s) go h k = at_add n gift gifts v s (go s) h (k s (now_again L n s h.now))
   at_rest n gift gifts (Stops e s) go h k = h
 
@@ -162,7 +174,8 @@ module _ (L : Level) where
   at_answer n at (fault w) s h = now_above L n s h
 
   -- one of two ways
-  pub at_branch : (n : ℕ) (next : Gift) (b : Bool) (f k : State → Out) (s : State) → OutAt L n next (f s) → OutAt L n next (k s) → OutAt L n next (branch b f k s)
+  pub at_branch : (n : ℕ) (next : Gift) (b : Bool) (f k : State → Out) (s : State) → OutAt L n next (f s) → OutAt L n next (k s)
+      → OutAt L n next (branch b f k s)
   at_branch n next true f k s p q = p
   at_branch n next false f k s p q = q
 
@@ -182,7 +195,8 @@ module _ (L : Level) where
   at_element n at (element_at i j p) s h = record { now = h.now; given = tt; used = tt }
 
   -- reading the place of a left side
-  pub at_read : (n : ℕ) (at : Place) (l : Left) (v : Value) (s : State) → Gave L n (gift_of_left l) v s → OutAt L n (a_value a_number) (read_at at v s)
+  pub at_read : (n : ℕ) (at : Place) (l : Left) (v : Value) (s : State) → Gave L n (gift_of_left l) v s
+      → OutAt L n (a_value a_number) (read_at at v s)
   at_read n at (element hd ops) v s h = at_element n at v s h
   at_read n at (scalar x p) nothing s h = absurd h.given
   at_read n at (scalar x p) (number z) s h = absurd h.given
@@ -198,15 +212,18 @@ module _ (L : Level) where
   gave_chosen n postfix y z s h = gave_number n y s h
 
   -- one of two iterators is given
-  gave_iterator : (n : ℕ) (x : Fix) (y z : ℕ) (s : State) → y < s.memory.fresh → z < s.memory.fresh → Now L n s → Gave L n (a_value a_stamp) (chosen x (iterator y) (iterator z)) s
+  gave_iterator : (n : ℕ) (x : Fix) (y z : ℕ) (s : State) → y < s.memory.fresh → z < s.memory.fresh → Now L n s
+      → Gave L n (a_value a_stamp) (chosen x (iterator y) (iterator z)) s
   gave_iterator n prefix y z s p q h = record { now = h; given = tt; used = q }
   gave_iterator n postfix y z s p q h = record { now = h; given = tt; used = p }
 
   -- an iterator variable takes the stamp that a call gave
-  pub at_moved : (n : ℕ) (x : Fix) (at old : ℕ) (v : Value) (s : State) → old < s.memory.fresh → Gave L n (a_value a_stamp) v s → OutAt L n (a_value a_stamp) (moved_to x at old v s)
+  pub at_moved : (n : ℕ) (x : Fix) (at old : ℕ) (v : Value) (s : State) → old < s.memory.fresh → Gave L n (a_value a_stamp) v s
+      → OutAt L n (a_value a_stamp) (moved_to x at old v s)
   at_moved n x at old nothing s low h = absurd h.given
   at_moved n x at old (number z) s low h = absurd h.given
-  at_moved n x at old (iterator new) s low h = gave_iterator n x old new (set_iterator_at at new s) low h.used (set_iterator-now L n at new s h.used h.now)
+  at_moved n x at old (iterator new) s low h =
+      gave_iterator n x old new (set_iterator_at at new s) low h.used (set_iterator-now L n at new s h.used h.now)
   at_moved n x at old (pair y b) s low h = absurd h.given
   at_moved n x at old (scalar_at l) s low h = absurd h.given
   at_moved n x at old (container_at l) s low h = absurd h.given
@@ -242,17 +259,22 @@ module _ (L : Level) where
   gave_as n gift next v s e h = subst (λ (x : Gift). Gave L n x v s) e h
 
   -- what a call of the library gives, where it makes no container
-  at_settle : (n : ℕ) (shape : Shape) (makes_one : Bool) (hd : Head) (vs : List Value) (o : LibOut) (s : State) → makes_one ≡ false → Now L n s → IsAnswer shape makes_one s.memory o → OutAt L n (a_value shape) (settle_call hd vs o s)
+  at_settle : (n : ℕ) (shape : Shape) (makes_one : Bool) (hd : Head) (vs : List Value) (o : LibOut) (s : State) → makes_one ≡ false → Now L n s
+      → IsAnswer shape makes_one s.memory hd.site o → OutAt L n (a_value shape) (settle_call hd vs o s)
   at_settle n shape makes_one hd vs (trapped k a) s e h i = now_above L n s h
   at_settle n shape makes_one hd vs thrown s e h i = now_above L n s h
   at_settle n shape makes_one hd vs (faulted w) s e h i = now_above L n s h
   at_settle n shape makes_one hd vs (gives v m picks) s e h i = record {
-    now = apart_from_stacks L n (record s { memory = m }) s.input picks s.steps s.written (memory-now L n m s i.sound (i.many ∙ ap (λ b. grown b (length s.memory.conts)) e) i.later h);
+    now = apart_from_stacks L n (record s { memory = m }) s.input picks s.steps s.written
+        (memory-now L n m s i.leaves.sound (i.many ∙ ap (λ b. grown b (length s.memory.conts)) e) i.later h);
     given = i.shaped;
     used = i.used;
   }
   at_settle n shape makes_one hd vs unbuilt s e h i = now_above L n s h
 
   -- a call of the library, where it makes no container
-  pub at_library : (n : ℕ) (shape : Callee → Shape) (makes_one : Callee → Bool) (l : Lib) → KeepsGood shape makes_one l → (hd : Head) (vs : List Value) (s : State) → makes_one hd.callee ≡ false → AllUsed s.memory.fresh vs → Now L n s → OutAt L n (a_value (shape hd.callee)) (use_library l hd vs s)
-  at_library n shape makes_one l keeps hd vs s e used h = at_settle n (shape hd.callee) (makes_one hd.callee) hd vs _ s e h (keeps hd.callee _ s.memory s.picks h.good.sound used)
+  pub at_library : (n : ℕ) (shape : Callee → Shape) (makes_one : Callee → Bool) (l : Lib) → KeepsGood shape makes_one l
+      → (hd : Head) (vs : List Value) (s : State) → makes_one hd.callee ≡ false → AllUsed s.memory.fresh vs → Now L n s
+      → OutAt L n (a_value (shape hd.callee)) (use_library l hd vs s)
+  at_library n shape makes_one l keeps hd vs s e used h =
+      at_settle n (shape hd.callee) (makes_one hd.callee) hd vs _ s e h (keeps hd.callee _ s.memory s.picks h.good.sound used)

@@ -3,13 +3,18 @@ use Rattle.std.proofs.Common.{ℕ, Bool, true, false, not, List, ◌∷◌, Opti
 use Rattle.std.specs.Prelude.{ℤ, pos, slice_get, slice_set}
 use Rattle.sl_base.specs.declared.place.Place.{Place}
 use Rattle.sl_model.specs.Numbers.{Answer, value, fault, is_zero, converted, operated, compared, truth}
-use Rattle.sl_syntax.specs.Typed.{Callee, Head, Step, Fix, Expr, literal, held, iterator as iterator_held, convert, negate, logical_not, logical_and, logical_or, arithmetic, comparison, increment, move, call, own_call, first, second, container, reference, Left, scalar, element, Operands, none, with}
+use Rattle.sl_syntax.specs.Typed.{Callee, Head, Step, Fix, Expr, literal, held, iterator as iterator_held, convert, negate, logical_not, logical_and}
+use Rattle.sl_syntax.specs.Typed.{logical_or, arithmetic, comparison, increment, move, call, own_call, first, second, container, reference, Left}
+use Rattle.sl_syntax.specs.Typed.{scalar, element, Operands, none, with}
 use Rattle.sl_base.specs.declared.scalar.Scalar.{Scalar}
 use Rattle.sl_syntax.specs.declared.operator.Arithmetic.TheVariants as o
 use Rattle.sl_model.specs.Containers.{Memory, Part, write_element}
-use Rattle.sl_model.specs.Values.{Value, nothing, number, iterator, pair, scalar_at, container_at, element_at, Args, LibOut, trapped, thrown, faulted, gives, unbuilt}
+use Rattle.sl_model.specs.Values.{Value, nothing, number, iterator, pair, scalar_at, container_at, element_at, Args, LibOut, trapped, thrown, faulted}
+use Rattle.sl_model.specs.Values.{gives, unbuilt}
 use Rattle.sl_model.specs.State.{State, iter_of, stamp_of, set_scalar_at, scalar_value}
-use Rattle.sl_model.specs.Eval.{by_one, Out, Gives, Stops, Outs, AllGive, OneStops, World, then_eval, with_number, then_number, add_value, then_rest, then_call, branch, answered, if_set, read_at, write_at, settle_call, use_library, increased, moved_to, chosen, eval, reach, eval_all, name_place}
+use Rattle.sl_model.specs.Eval.{by_one, Out, Gives, Stops, Outs, AllGive, OneStops, World, then_eval, with_number, then_number, add_value, then_rest}
+use Rattle.sl_model.specs.Eval.{then_call, branch, answered, if_set, read_at, write_at, settle_call, use_library, increased, moved_to, chosen, eval}
+use Rattle.sl_model.specs.Eval.{reach, eval_all, name_place}
 
 module _ (I : Memory → Type 0) where
   -- it holds of a library's answer
@@ -36,7 +41,8 @@ module _ (I : Memory → Type 0) where
   keeps_then (Stops e s) go h k = h
 
   -- what follows a number keeps it, where the number comes from a value
-  keeps_number : (go : ℤ → State → Out) (v : Value) (s : State) → I s.memory → ((z : ℤ) (s : State) → I s.memory → InOut (go z s)) → InOut (with_number go v s)
+  keeps_number : (go : ℤ → State → Out) (v : Value) (s : State) → I s.memory → ((z : ℤ) (s : State) → I s.memory → InOut (go z s))
+      → InOut (with_number go v s)
   keeps_number go nothing s h k = k (pos 0) s h
   keeps_number go (number z) s h k = k z s h
   keeps_number go (iterator x) s h k = k (pos 0) s h
@@ -46,11 +52,13 @@ module _ (I : Memory → Type 0) where
   keeps_number go (element_at i j p) s h k = k (pos 0) s h
 
   -- what follows a number keeps it
-  pub keeps_then_number : (o : Out) (go : ℤ → State → Out) → InOut o → ((z : ℤ) (s : State) → I s.memory → InOut (go z s)) → InOut (then_number o go)
+  pub keeps_then_number : (o : Out) (go : ℤ → State → Out) → InOut o → ((z : ℤ) (s : State) → I s.memory → InOut (go z s))
+      → InOut (then_number o go)
   keeps_then_number o go h k = keeps_then o (with_number go) h (λ v s i. keeps_number go v s i k)
 
   -- what follows all operands keeps it
-  pub keeps_call : (o : Outs) (go : List Value → State → Out) → InOuts o → ((vs : List Value) (s : State) → I s.memory → InOut (go vs s)) → InOut (then_call o go)
+  pub keeps_call : (o : Outs) (go : List Value → State → Out) → InOuts o → ((vs : List Value) (s : State) → I s.memory → InOut (go vs s))
+      → InOut (then_call o go)
   keeps_call (AllGive vs s) go h k = k vs s h
   keeps_call (OneStops e s) go h k = h
 
@@ -109,7 +117,12 @@ module _ (I : Memory → Type 0) where
 
   -- a scalar that takes a number keeps it
   pub keeps_set : (l : ℕ) (z : ℤ) (s : State) → I s.memory → I (set_scalar_at l z s).memory
-  keeps_set l z s h = elim (slice_get s.scalars l) as (λ o. I (elim o as (λ _. State) [ None ↦ s | Some x ↦ record s { scalars = slice_set s.scalars l (record x { value = Some z }) } ]).memory) [ None ↦ h | Some x ↦ h ]
+  keeps_set l z s h =
+      elim (slice_get s.scalars l) as (λ o. I
+      (elim o as (λ _. State) [ None ↦ s | Some x ↦ record s { scalars = slice_set s.scalars l (record x { value = Some z }) } ]).memory) [
+        | None ↦ h
+        | Some x ↦ h
+      ]
 
   module _ (w : World)
       (lib_keeps : (c : Callee) (a : Args) (m : Memory) (ps : List ℕ) → I m → InAnswer (w.lib c a m ps))
@@ -130,8 +143,11 @@ module _ (I : Memory → Type 0) where
     keeps_write (element_at i j p) z s h = write_keeps s.memory i j p z h
 
     -- a number that goes up or down by one keeps it
-    keeps_increased : (d : Step) (x : Fix) (ty : Scalar) (at : Place) (l : Value) (old : ℤ) (s : State) → I s.memory → InOut (increased d x ty at l old s)
-    keeps_increased d x ty at l old s h = keeps_then_number (answered at (operated o.Add ty old (by_one d)) s) (λ new s. Gives (chosen x (number old) (number new)) (write_at l new s)) (keeps_answer at (operated o.Add ty old (by_one d)) s h) (λ z s i. keeps_write l z s i)
+    keeps_increased : (d : Step) (x : Fix) (ty : Scalar) (at : Place) (l : Value) (old : ℤ) (s : State) → I s.memory
+        → InOut (increased d x ty at l old s)
+    keeps_increased d x ty at l old s h = keeps_then_number (answered at (operated o.Add ty old (by_one d)) s)
+        (λ new s. Gives (chosen x (number old) (number new)) (write_at l new s)) (keeps_answer at (operated o.Add ty old (by_one d)) s h)
+        (λ z s i. keeps_write l z s i)
 
     mutual
       -- each expression keeps it
@@ -140,17 +156,34 @@ module _ (I : Memory → Type 0) where
       keeps_eval (held l) s h = keeps_then (reach w l s) _ (keeps_reach l s h) (λ v s i. keeps_read (name_place l) v s i)
       keeps_eval (iterator_held x) s h = h
       keeps_eval (convert ty a) s h = keeps_then_number (eval w a s) (λ z s. Gives (number (converted ty z)) s) (keeps_eval a s h) (λ z s i. i)
-      keeps_eval (negate ty at a) s h = keeps_then_number (eval w a s) _ (keeps_eval a s h) (λ z s i. keeps_answer at (operated o.Subtract ty (pos 0) z) s i)
-      keeps_eval (logical_not at a) s h = keeps_then_number (eval w a s) (λ z s. Gives (number (truth (is_zero z))) s) (keeps_eval a s h) (λ z s i. i)
-      keeps_eval (logical_and at a b) s h = keeps_then_number (eval w a s) (λ z s. branch (is_zero z) (Gives (number (pos 0))) (λ s. then_number (eval w b s) (λ z s. Gives (number (truth (not (is_zero z)))) s)) s) (keeps_eval a s h)
-          (λ z s i. keeps_branch (is_zero z) (Gives (number (pos 0))) (λ s. then_number (eval w b s) (λ z s. Gives (number (truth (not (is_zero z)))) s)) s i (keeps_then_number (eval w b s) (λ z s. Gives (number (truth (not (is_zero z)))) s) (keeps_eval b s i) (λ y s j. j)))
-      keeps_eval (logical_or at a b) s h = keeps_then_number (eval w a s) (λ z s. branch (is_zero z) (λ s. then_number (eval w b s) (λ z s. Gives (number (truth (not (is_zero z)))) s)) (Gives (number (pos 1))) s) (keeps_eval a s h)
-          (λ z s i. keeps_branch (is_zero z) (λ s. then_number (eval w b s) (λ z s. Gives (number (truth (not (is_zero z)))) s)) (Gives (number (pos 1))) s (keeps_then_number (eval w b s) (λ z s. Gives (number (truth (not (is_zero z)))) s) (keeps_eval b s i) (λ y s j. j)) i)
-      keeps_eval (arithmetic op ty at a b) s h = keeps_then_number (eval w a s) _ (keeps_eval a s h) (λ x s i. keeps_then_number (eval w b s) _ (keeps_eval b s i) (λ y s j. keeps_answer at (operated op ty x y) s j))
-      keeps_eval (comparison c at a b) s h = keeps_then_number (eval w a s) (λ x s. then_number (eval w b s) (λ y s. Gives (number (truth (compared c x y))) s)) (keeps_eval a s h)
+      keeps_eval (negate ty at a) s h =
+          keeps_then_number (eval w a s) _ (keeps_eval a s h) (λ z s i. keeps_answer at (operated o.Subtract ty (pos 0) z) s i)
+      keeps_eval (logical_not at a) s h =
+          keeps_then_number (eval w a s) (λ z s. Gives (number (truth (is_zero z))) s) (keeps_eval a s h) (λ z s i. i)
+      keeps_eval (logical_and at a b) s h =
+          keeps_then_number (eval w a s)
+          (λ z s. branch (is_zero z) (Gives (number (pos 0))) (λ s. then_number (eval w b s) (λ z s. Gives (number (truth (not (is_zero z)))) s)) s)
+          (keeps_eval a s h)
+          (λ z s i. keeps_branch (is_zero z) (Gives (number (pos 0)))
+          (λ s. then_number (eval w b s) (λ z s. Gives (number (truth (not (is_zero z)))) s)) s i
+          (keeps_then_number (eval w b s) (λ z s. Gives (number (truth (not (is_zero z)))) s) (keeps_eval b s i) (λ y s j. j)))
+      keeps_eval (logical_or at a b) s h =
+          keeps_then_number (eval w a s)
+          (λ z s. branch (is_zero z) (λ s. then_number (eval w b s) (λ z s. Gives (number (truth (not (is_zero z)))) s)) (Gives (number (pos 1))) s)
+          (keeps_eval a s h)
+          (λ z s i. keeps_branch (is_zero z) (λ s. then_number (eval w b s) (λ z s. Gives (number (truth (not (is_zero z)))) s))
+          (Gives (number (pos 1))) s (keeps_then_number (eval w b s) (λ z s. Gives (number (truth (not (is_zero z)))) s) (keeps_eval b s i)
+          (λ y s j. j)) i)
+      keeps_eval (arithmetic op ty at a b) s h = keeps_then_number (eval w a s) _ (keeps_eval a s h)
+          (λ x s i. keeps_then_number (eval w b s) _ (keeps_eval b s i) (λ y s j. keeps_answer at (operated op ty x y) s j))
+      keeps_eval (comparison c at a b) s h =
+          keeps_then_number (eval w a s) (λ x s. then_number (eval w b s) (λ y s. Gives (number (truth (compared c x y))) s)) (keeps_eval a s h)
           (λ x s i. keeps_then_number (eval w b s) (λ y s. Gives (number (truth (compared c x y))) s) (keeps_eval b s i) (λ y s j. j))
-      keeps_eval (increment d x ty at l) s h = keeps_then (reach w l s) _ (keeps_reach l s h) (λ v s i. keeps_then_number (read_at (name_place l) v s) _ (keeps_read (name_place l) v s i) (λ z s j. keeps_increased d x ty at v z s j))
-      keeps_eval (move x it hd ops) s h = keeps_call (eval_all w ops s) _ (keeps_all ops s h) (λ vs s i. keeps_then (use_library w.lib hd (iterator (stamp_of s it) ∷ vs) s) _ (keeps_library hd (iterator (stamp_of s it) ∷ vs) s i) (λ v s' j. keeps_moved x (iter_of s it) (stamp_of s it) v s' j))
+      keeps_eval (increment d x ty at l) s h = keeps_then (reach w l s) _ (keeps_reach l s h)
+          (λ v s i. keeps_then_number (read_at (name_place l) v s) _ (keeps_read (name_place l) v s i) (λ z s j. keeps_increased d x ty at v z s j))
+      keeps_eval (move x it hd ops) s h = keeps_call (eval_all w ops s) _ (keeps_all ops s h)
+          (λ vs s i. keeps_then (use_library w.lib hd (iterator (stamp_of s it) ∷ vs) s) _ (keeps_library hd (iterator (stamp_of s it) ∷ vs) s i)
+          (λ v s' j. keeps_moved x (iter_of s it) (stamp_of s it) v s' j))
       keeps_eval (call hd ops) s h = keeps_call (eval_all w ops s) _ (keeps_all ops s h) (λ vs s i. keeps_library hd vs s i)
       keeps_eval (own_call f at ops) s h = keeps_call (eval_all w ops s) _ (keeps_all ops s h) (λ vs s i. own_keeps f at vs s i)
       keeps_eval (first at a) s h = keeps_then (eval w a s) _ (keeps_eval a s h) (λ v s i. i)

@@ -58,7 +58,8 @@ module _ (I : Memory → Type 0) where
     -- a body that reached its closing brace keeps it
     in_fell : (b : Bool) (f : Function) (before s : State) → I s.memory → InOut I (fell b f before s)
     in_fell true f before s h = end_keeps 0 (length before.memory.conts) s.memory h
-    in_fell false f before s h = elim f.result as (λ r. InOut I (elim r as (λ _. Out) [ None ↦ Gives nothing (leave 0 before s) | Some k ↦ Stops (Language f.close 4) s ]))
+    in_fell false f before s h =
+        elim f.result as (λ r. InOut I (elim r as (λ _. Out) [ None ↦ Gives nothing (leave 0 before s) | Some k ↦ Stops (Language f.close 4) s ]))
         [ None ↦ end_keeps 0 (length before.memory.conts) s.memory h | Some k ↦ h ]
 
     -- the end of a call keeps it
@@ -70,12 +71,16 @@ module _ (I : Memory → Type 0) where
     in_called b f before (Over e s) h = h
 
     -- a function that runs its body keeps it
-    in_function : (b : Bool) (o : Option Function) (w : World) → w.lib ≡ lib → ((f : ℕ) (at : Place) (vs : List Value) (s : State) → I s.memory → InOut I (w.own f at vs s)) → (at : Place) (vs : List Value) (s : State) → I s.memory → InOut I (of_function b o w at vs s)
+    in_function : (b : Bool) (o : Option Function) (w : World) → w.lib ≡ lib
+        → ((f : ℕ) (at : Place) (vs : List Value) (s : State) → I s.memory → InOut I (w.own f at vs s)) → (at : Place) (vs : List Value) (s : State)
+        → I s.memory → InOut I (of_function b o w at vs s)
     in_function b None w e k at vs s h = h
     in_function b (Some g) w e k at vs s h = in_called b g s (exec w g.body (bound g vs s))
-        (in_exec I w (λ c a m ps i. subst (λ (l : Lib). InAnswer I (l c a m ps)) (sym e) (lib_keeps c a m ps i)) k write_keeps end_keeps g.body (bound g vs s) (in_bind g.parameters vs (record s { frame = no_frame }) h))
+        (in_exec I w (λ c a m ps i. subst (λ (l : Lib). InAnswer I (l c a m ps)) (sym e) (lib_keeps c a m ps i)) k write_keeps end_keeps g.body
+        (bound g vs s) (in_bind g.parameters vs (record s { frame = no_frame }) h))
 
     -- every call keeps it
     pub in_call : (n : ℕ) (p : Typed) (f : ℕ) (at : Place) (vs : List Value) (s : State) → I s.memory → InOut I (call_of lib n p f at vs s)
     in_call zero p f at vs s h = h
-    in_call (suc n) p f at vs s h = in_function (f == p.main) (slice_get p.functions f) (record { lib = lib; own = call_of lib n p }) refl (in_call n p) at vs s h
+    in_call (suc n) p f at vs s h =
+        in_function (f == p.main) (slice_get p.functions f) (record { lib = lib; own = call_of lib n p }) refl (in_call n p) at vs s h

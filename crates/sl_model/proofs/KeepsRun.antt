@@ -6,14 +6,21 @@ use Rattle.sl_base.specs.declared.place.Place.{Place}
 use Rattle.sl_base.specs.declared.scalar.Scalar.{Scalar}
 use Rattle.sl_syntax.specs.declared.operator.Arithmetic.{Arithmetic}
 use Rattle.sl_model.specs.Numbers.{is_zero, converted, operated}
-use Rattle.sl_syntax.specs.Typed.{Callee, Head, Expr, Left, Cond, read, not_read, test, always, Printed, text, endline, number as printed_number, Effect, reads, prints, evaluates, assigns, updates, moves_to, Declaration, unset_scalar, set_scalar, set_iterator, makes, First, no_first, declares_first, does_first, Stmt, block, declares, choice, choice_else, while, for, range_for, break, continue, gives_back, does, Stmts, no_more, followed, star, up, compares}
+use Rattle.sl_syntax.specs.Typed.{Callee, Head, Expr, Left, Cond, read, not_read, test, always, Printed, text, endline, number as printed_number}
+use Rattle.sl_syntax.specs.Typed.{Effect, reads, prints, evaluates, assigns, updates, moves_to, Declaration, unset_scalar, set_scalar, set_iterator}
+use Rattle.sl_syntax.specs.Typed.{makes, First, no_first, declares_first, does_first, Stmt, block, declares, choice, choice_else, while, for}
+use Rattle.sl_syntax.specs.Typed.{range_for, break, continue, gives_back, does, Stmts, no_more, followed, star, up, compares}
 use Rattle.sl_model.specs.Containers.{Memory, Part, write_element, end_from}
 use Rattle.sl_model.specs.Values.{Value, nothing, number, iterator, pair, scalar_at, container_at, element_at, Args}
 use Rattle.sl_model.specs.State.{State, scalar_of, iter_of, cont_of, set_scalar_at, set_iterator_at, new_scalar, new_iterator, new_container}
 use Rattle.sl_model.specs.Ends.{OutOfSteps}
-use Rattle.sl_model.specs.Eval.{Out, Gives, Stops, World, eval, reach, eval_all, then_eval, then_number, then_call, read_at, write_at, use_library, answered, name_place}
-use Rattle.sl_model.specs.Exec.{Flow, Next, Broke, Continued, Returned, Over, Meaning, tick, and_then, flow_of, on_number, on_stamp, either_way, scoped, read_all, tested, printed, print_all, affect, declared, begun, ended, after_body, turns, loop, wrote, asks, hidden_at, over_range, range_start, exec, exec_all}
-use Rattle.sl_model.proofs.Keeps.{InAnswer, InOut, keeps_eval, keeps_reach, keeps_all, keeps_call, keeps_then, keeps_then_number, keeps_answer, keeps_read, keeps_library, keeps_write, keeps_set}
+use Rattle.sl_model.specs.Eval.{Out, Gives, Stops, World, eval, reach, eval_all, then_eval, then_number, then_call, read_at, write_at, use_library}
+use Rattle.sl_model.specs.Eval.{answered, name_place}
+use Rattle.sl_model.specs.Exec.{Flow, Next, Broke, Continued, Returned, Over, Meaning, tick, and_then, flow_of, on_number, on_stamp, either_way}
+use Rattle.sl_model.specs.Exec.{scoped, read_all, tested, printed, print_all, is_scalar_name, affect, declared, begun, ended, after_body, turns, loop}
+use Rattle.sl_model.specs.Exec.{wrote, asks, hidden_at, over_range, range_start, exec, exec_all}
+use Rattle.sl_model.proofs.Keeps.{InAnswer, InOut, keeps_eval, keeps_reach, keeps_all, keeps_call, keeps_then, keeps_then_number, keeps_answer}
+use Rattle.sl_model.proofs.Keeps.{keeps_read, keeps_library, keeps_write, keeps_set}
 use Rattle.sl_syntax.specs.declared.operator.Comparison.TheVariants as c
 
 module _ (I : Memory → Type 0) where
@@ -61,7 +68,8 @@ module _ (I : Memory → Type 0) where
 
   -- a step keeps it
   in_tick : (go : Meaning) → Keeps go → Keeps (tick go)
-  in_tick go k s h = elim s.steps as (λ n. InFlow (elim n as (λ _. Flow) [ zero ↦ Over OutOfSteps s | suc n ↦ go (record s { steps = n }) ])) [ zero ↦ h | suc n ↦ k (record s { steps = n }) h ]
+  in_tick go k s h = elim s.steps as (λ n. InFlow (elim n as (λ _. Flow) [ zero ↦ Over OutOfSteps s | suc n ↦ go (record s { steps = n }) ]))
+      [ zero ↦ h | suc n ↦ k (record s { steps = n }) h ]
 
   -- what comes after a statement keeps it
   in_then : (w : Flow) (go : Meaning) → InFlow w → Keeps go → InFlow (and_then w go)
@@ -82,21 +90,30 @@ module _ (I : Memory → Type 0) where
   -- reading variables keeps it
   in_reads : (xs : List ℕ) (go : Bool → Meaning) → ((b : Bool) → Keeps (go b)) → Keeps (λ s. read_all xs s go)
   in_reads [] go k s h = k true s h
-  in_reads (x ∷ xs) go k s h = elim s.input as (λ l. InFlow (elim l as (λ _. Flow) [ [] ↦ go false s | z ∷ rest ↦ read_all xs (set_scalar_at (scalar_of s x) z (record s { input = rest })) go ]))
-      [ [] ↦ k false s h | z ∷ rest ↦ in_reads xs go k (set_scalar_at (scalar_of s x) z (record s { input = rest })) (keeps_set I (scalar_of s x) z (record s { input = rest }) h) ]
+  in_reads (x ∷ xs) go k s h =
+      elim s.input as (λ l. InFlow (elim l as (λ _. Flow) [
+        | [] ↦ go false s
+        | z ∷ rest ↦ read_all xs (set_scalar_at (scalar_of s x) z (record s { input = rest })) go
+      ])) [
+        | [] ↦ k false s h
+        | z ∷ rest ↦ in_reads xs go k (set_scalar_at (scalar_of s x) z (record s { input = rest }))
+            (keeps_set I (scalar_of s x) z (record s { input = rest }) h)
+      ]
 
   -- a test that hands on a kept memory
   abbrev pub KeepsTest : (State → (Bool → Meaning) → Flow) → Type 0
   KeepsTest check = (go : Bool → Meaning) → ((b : Bool) → Keeps (go b)) → Keeps (λ s. check s go)
 
   -- the turns of a loop keep it where its test, its body and its last part do
-  in_turns : (n : ℕ) (check : State → (Bool → Meaning) → Flow) (body last : Meaning) → KeepsTest check → Keeps body → Keeps last → Keeps (turns n check body last)
+  in_turns : (n : ℕ) (check : State → (Bool → Meaning) → Flow) (body last : Meaning) → KeepsTest check → Keeps body → Keeps last
+      → Keeps (turns n check body last)
   in_turns zero check body last p q r s h = h
   in_turns (suc n) check body last p q r s h =
       in_tick (λ s. check s (λ b. either_way b (λ s. after_body (body s) (λ s. and_then (last s) (turns n check body last))) Next))
       (p (λ b. either_way b (λ s. after_body (body s) (λ s. and_then (last s) (turns n check body last))) Next)
       (λ b. in_either b (λ s. after_body (body s) (λ s. and_then (last s) (turns n check body last))) Next
-      (λ s i. in_body (body s) (λ s. and_then (last s) (turns n check body last)) (q s i) (λ s j. in_then (last s) (turns n check body last) (r s j) (in_turns n check body last p q r)))
+      (λ s i. in_body (body s) (λ s. and_then (last s) (turns n check body last)) (q s i)
+      (λ s j. in_then (last s) (turns n check body last) (r s j) (in_turns n check body last p q r)))
       (λ s i. i)))
       s h
 
@@ -117,14 +134,16 @@ module _ (I : Memory → Type 0) where
     in_tested : (c : Cond) → KeepsTest (tested w c)
     in_tested (read xs) go k s h = in_reads xs go k s h
     in_tested (not_read xs) go k s h = in_reads xs (λ b. go (not b)) (λ b. k (not b)) s h
-    in_tested (test a) go k s h = in_value a (on_number (λ z. go (not (is_zero z)))) (in_number (λ z. go (not (is_zero z))) (λ z. k (not (is_zero z)))) s h
+    in_tested (test a) go k s h =
+        in_value a (on_number (λ z. go (not (is_zero z)))) (in_number (λ z. go (not (is_zero z))) (λ z. k (not (is_zero z)))) s h
     in_tested always go k s h = k true s h
 
     -- an item of a print keeps it
     in_printed : (p : Printed) → Keeps (printed w p)
     in_printed (text bytes) s h = h
     in_printed endline s h = h
-    in_printed (printed_number a) s h = in_value a (on_number (λ z s. Next (wrote (signed_decimal z) s))) (in_number (λ z s. Next (wrote (signed_decimal z) s)) (λ z s i. i)) s h
+    in_printed (printed_number a) s h =
+        in_value a (on_number (λ z s. Next (wrote (signed_decimal z) s))) (in_number (λ z s. Next (wrote (signed_decimal z) s)) (λ z s i. i)) s h
 
     -- a print keeps it
     in_print : (ps : List Printed) → Keeps (print_all w ps)
@@ -145,27 +164,40 @@ module _ (I : Memory → Type 0) where
 
     -- the end of an assignment with an operator
     abbrev finish : Arithmetic → Scalar → Scalar → Place → Left → ℤ → Value → Meaning
-    finish op ty left_ty at l y at_l s = flow_of (then_number (read_at (name_place l) at_l s) (λ x s. answered at (operated op ty (converted ty x) y) s)) (on_number (λ z s. Next (write_at at_l (converted left_ty z) s)))
+    finish op ty left_ty at l y at_l s =
+        flow_of (then_number (read_at (name_place l) at_l s) (λ x s. answered at (operated op ty (converted ty x) y) s))
+        (on_number (λ z s. Next (write_at at_l (converted left_ty z) s)))
 
     -- each effect keeps it
     in_affect : (e : Effect) → Keeps (affect w e)
     in_affect (reads xs) s h = in_reads xs (λ b. Next) (λ b s i. i) s h
     in_affect (prints ps) s h = in_print ps s h
-    in_affect (evaluates a) s h = in_value a (λ v. Next) (λ v s i. i) s h
-    in_affect (assigns l a) s h = in_value a (on_number (λ z s. flow_of (reach w l s) (λ at_l s. Next (write_at at_l z s)))) (in_number (λ z s. flow_of (reach w l s) (λ at_l s. Next (write_at at_l z s))) (in_assign l)) s h
-    in_affect (updates op ty left_ty at l a) s h = in_value a (on_number (λ y s. flow_of (reach w l s) (finish op ty left_ty at l y))) (in_number (λ y s. flow_of (reach w l s) (finish op ty left_ty at l y)) (λ y s i. in_flow_of (reach w l s) (finish op ty left_ty at l y) (reaches l s i) (λ v s j.
-        in_flow_of (then_number (read_at (name_place l) v s) (λ x s. answered at (operated op ty (converted ty x) y) s)) (on_number (λ z s. Next (write_at v (converted left_ty z) s)))
-        (keeps_then_number I (read_at (name_place l) v s) (λ x s. answered at (operated op ty (converted ty x) y) s) (keeps_read I (name_place l) v s j) (λ x s k. keeps_answer I at (operated op ty (converted ty x) y) s k))
+    in_affect (evaluates a) s h = in_either (is_scalar_name a) Next (λ s. flow_of (eval w a s) (λ v. Next))
+        (λ s i. i) (λ s i. in_value a (λ v. Next) (λ v s i. i) s i) s h
+    in_affect (assigns l a) s h = in_value a (on_number (λ z s. flow_of (reach w l s) (λ at_l s. Next (write_at at_l z s))))
+        (in_number (λ z s. flow_of (reach w l s) (λ at_l s. Next (write_at at_l z s))) (in_assign l)) s h
+    in_affect (updates op ty left_ty at l a) s h = in_value a (on_number (λ y s. flow_of (reach w l s) (finish op ty left_ty at l y)))
+        (in_number (λ y s. flow_of (reach w l s) (finish op ty left_ty at l y))
+        (λ y s i. in_flow_of (reach w l s) (finish op ty left_ty at l y) (reaches l s i) (λ v s j.
+        in_flow_of (then_number (read_at (name_place l) v s) (λ x s. answered at (operated op ty (converted ty x) y) s))
+        (on_number (λ z s. Next (write_at v (converted left_ty z) s)))
+        (keeps_then_number I (read_at (name_place l) v s) (λ x s. answered at (operated op ty (converted ty x) y) s)
+        (keeps_read I (name_place l) v s j) (λ x s k. keeps_answer I at (operated op ty (converted ty x) y) s k))
         (in_number (λ z s. Next (write_at v (converted left_ty z) s)) (λ z s k. writes v (converted left_ty z) s k))))) s h
-    in_affect (moves_to it a) s h = in_value a (on_stamp (λ stamp s. Next (set_iterator_at (iter_of s it) stamp s))) (in_stamp (λ stamp s. Next (set_iterator_at (iter_of s it) stamp s)) (λ x s i. i)) s h
+    in_affect (moves_to it a) s h = in_value a (on_stamp (λ stamp s. Next (set_iterator_at (iter_of s it) stamp s)))
+        (in_stamp (λ stamp s. Next (set_iterator_at (iter_of s it) stamp s)) (λ x s i. i)) s h
 
     -- each declaration keeps it
     in_declared : (d : Declaration) → Keeps (declared w d)
     in_declared (unset_scalar ty) s h = h
-    in_declared (set_scalar ty a) s h = in_value a (on_number (λ z s. Next (new_scalar ty (Some z) s))) (in_number (λ z s. Next (new_scalar ty (Some z) s)) (λ z s i. i)) s h
-    in_declared (set_iterator a) s h = in_value a (on_stamp (λ stamp s. Next (new_iterator stamp s))) (in_stamp (λ stamp s. Next (new_iterator stamp s)) (λ x s i. i)) s h
-    in_declared (makes form hd ops) s h = in_flow_of (then_call (eval_all w ops s) (use_library w.lib hd)) (λ v t. Next (new_container (length s.memory.conts) t))
-        (keeps_call I (eval_all w ops s) (use_library w.lib hd) (keeps_all I w lib_keeps own_keeps write_keeps ops s h) (keeps_library I w lib_keeps own_keeps write_keeps hd)) (λ v s i. i)
+    in_declared (set_scalar ty a) s h =
+        in_value a (on_number (λ z s. Next (new_scalar ty (Some z) s))) (in_number (λ z s. Next (new_scalar ty (Some z) s)) (λ z s i. i)) s h
+    in_declared (set_iterator a) s h =
+        in_value a (on_stamp (λ stamp s. Next (new_iterator stamp s))) (in_stamp (λ stamp s. Next (new_iterator stamp s)) (λ x s i. i)) s h
+    in_declared (makes form hd ops) s h =
+        in_flow_of (then_call (eval_all w ops s) (use_library w.lib hd)) (λ v t. Next (new_container (length s.memory.conts) t))
+        (keeps_call I (eval_all w ops s) (use_library w.lib hd) (keeps_all I w lib_keeps own_keeps write_keeps ops s h)
+        (keeps_library I w lib_keeps own_keeps write_keeps hd)) (λ v s i. i)
 
     -- the first part of a `for` keeps it
     in_begun : (f : First) → Keeps (begun w f)
@@ -193,14 +225,21 @@ module _ (I : Memory → Type 0) where
     -- a range-for keeps it
     in_range : (at : Place) (name b e x : ℕ) (body : Meaning) → Keeps body → Keeps (over_range w at name b e x body)
     in_range at name b e x body k s h = in_turns (suc s.steps)
-        (λ s go. flow_of (use_library w.lib (asks (compares c.NotEqual) at name) (hidden_at s b ∷ hidden_at s e ∷ []) s) (on_number (λ z. go (not (is_zero z)))))
-        (λ s. flow_of (then_eval (use_library w.lib (asks star at name) (hidden_at s b ∷ []) s) (read_at at)) (on_number (λ z s. body (set_scalar_at x z s))))
+        (λ s go. flow_of (use_library w.lib (asks (compares c.NotEqual) at name) (hidden_at s b ∷ hidden_at s e ∷ []) s)
+        (on_number (λ z. go (not (is_zero z)))))
+        (λ s. flow_of (then_eval (use_library w.lib (asks star at name) (hidden_at s b ∷ []) s) (read_at at))
+        (on_number (λ z s. body (set_scalar_at x z s))))
         (λ s. flow_of (use_library w.lib (asks up at name) (hidden_at s b ∷ []) s) (on_stamp (λ stamp s. Next (set_iterator_at b stamp s))))
-        (λ go p s i. in_flow_of (use_library w.lib (asks (compares c.NotEqual) at name) (hidden_at s b ∷ hidden_at s e ∷ []) s) (on_number (λ z. go (not (is_zero z)))) (asked (asks (compares c.NotEqual) at name) (hidden_at s b ∷ hidden_at s e ∷ []) s i) (in_number (λ z. go (not (is_zero z))) (λ z. p (not (is_zero z)))))
-        (λ s i. in_flow_of (then_eval (use_library w.lib (asks star at name) (hidden_at s b ∷ []) s) (read_at at)) (on_number (λ z s. body (set_scalar_at x z s)))
-        (keeps_then I (use_library w.lib (asks star at name) (hidden_at s b ∷ []) s) (read_at at) (asked (asks star at name) (hidden_at s b ∷ []) s i) (keeps_read I at))
+        (λ go p s i. in_flow_of (use_library w.lib (asks (compares c.NotEqual) at name) (hidden_at s b ∷ hidden_at s e ∷ []) s)
+        (on_number (λ z. go (not (is_zero z)))) (asked (asks (compares c.NotEqual) at name) (hidden_at s b ∷ hidden_at s e ∷ []) s i)
+        (in_number (λ z. go (not (is_zero z))) (λ z. p (not (is_zero z)))))
+        (λ s i. in_flow_of (then_eval (use_library w.lib (asks star at name) (hidden_at s b ∷ []) s) (read_at at))
+        (on_number (λ z s. body (set_scalar_at x z s)))
+        (keeps_then I (use_library w.lib (asks star at name) (hidden_at s b ∷ []) s) (read_at at)
+        (asked (asks star at name) (hidden_at s b ∷ []) s i) (keeps_read I at))
         (in_number (λ z s. body (set_scalar_at x z s)) (λ z s j. k (set_scalar_at x z s) (keeps_set I x z s j))))
-        (λ s i. in_flow_of (use_library w.lib (asks up at name) (hidden_at s b ∷ []) s) (on_stamp (λ stamp s. Next (set_iterator_at b stamp s))) (asked (asks up at name) (hidden_at s b ∷ []) s i) (in_stamp (λ stamp s. Next (set_iterator_at b stamp s)) (λ x s j. j)))
+        (λ s i. in_flow_of (use_library w.lib (asks up at name) (hidden_at s b ∷ []) s) (on_stamp (λ stamp s. Next (set_iterator_at b stamp s)))
+        (asked (asks up at name) (hidden_at s b ∷ []) s i) (in_stamp (λ stamp s. Next (set_iterator_at b stamp s)) (λ x s j. j)))
         s h
 
     mutual
@@ -208,14 +247,22 @@ module _ (I : Memory → Type 0) where
       pub in_exec : (a : Stmt) → Keeps (exec w a)
       in_exec (block site all) s h = in_scope (unwrap_or site 0) s (exec_all w all s) (in_all all s h)
       in_exec (declares d) s h = in_tick (declared w d) (in_declared d) s h
-      in_exec (choice c a) s h = in_tick (λ s. tested w c s (λ v. either_way v (exec w a) Next)) (in_tested c (λ v. either_way v (exec w a) Next) (λ v. in_either v (exec w a) Next (in_exec a) (λ s i. i))) s h
-      in_exec (choice_else c a b) s h = in_tick (λ s. tested w c s (λ v. either_way v (exec w a) (exec w b))) (in_tested c (λ v. either_way v (exec w a) (exec w b)) (λ v. in_either v (exec w a) (exec w b) (in_exec a) (in_exec b))) s h
-      in_exec (while c a) s h = in_tick (loop (tested w c) (exec w a) Next) (λ s i. in_turns (suc s.steps) (tested w c) (exec w a) Next (in_tested c) (in_exec a) (λ s i. i) s i) s h
+      in_exec (choice c a) s h = in_tick (λ s. tested w c s (λ v. either_way v (exec w a) Next))
+          (in_tested c (λ v. either_way v (exec w a) Next) (λ v. in_either v (exec w a) Next (in_exec a) (λ s i. i))) s h
+      in_exec (choice_else c a b) s h = in_tick (λ s. tested w c s (λ v. either_way v (exec w a) (exec w b)))
+          (in_tested c (λ v. either_way v (exec w a) (exec w b)) (λ v. in_either v (exec w a) (exec w b) (in_exec a) (in_exec b))) s h
+      in_exec (while c a) s h =
+          in_tick (loop (tested w c) (exec w a) Next)
+          (λ s i. in_turns (suc s.steps) (tested w c) (exec w a) Next (in_tested c) (in_exec a) (λ s i. i) s i) s h
       in_exec (for head c last a) s h = in_tick (λ s. scoped 0 s (and_then (begun w head s) (loop (tested w c) (exec w a) (ended w last))))
-          (λ s i. in_scope 0 s (and_then (begun w head s) (loop (tested w c) (exec w a) (ended w last))) (in_then (begun w head s) (loop (tested w c) (exec w a) (ended w last)) (in_begun head s i)
+          (λ s i. in_scope 0 s (and_then (begun w head s) (loop (tested w c) (exec w a) (ended w last)))
+          (in_then (begun w head s) (loop (tested w c) (exec w a) (ended w last)) (in_begun head s i)
           (λ s j. in_turns (suc s.steps) (tested w c) (exec w a) (ended w last) (in_tested c) (in_exec a) (in_ended last) s j))) s h
-      in_exec (range_for x at name a) s h = in_tick (λ s. scoped 0 s (over_range w at name (length s.iters) (length s.iters + 1) (length s.scalars) (exec w a) (range_start (cont_of s x) s)))
-          (λ s i. in_scope 0 s (over_range w at name (length s.iters) (length s.iters + 1) (length s.scalars) (exec w a) (range_start (cont_of s x) s))
+      in_exec (range_for x at name a) s h =
+          in_tick (λ s. scoped 0 s (over_range w at name (length s.iters) (length s.iters + 1) (length s.scalars) (exec w a)
+          (range_start (cont_of s x) s)))
+          (λ s i. in_scope 0 s (over_range w at name (length s.iters) (length s.iters + 1) (length s.scalars) (exec w a)
+          (range_start (cont_of s x) s))
           (in_range at name (length s.iters) (length s.iters + 1) (length s.scalars) (exec w a) (in_exec a) (range_start (cont_of s x) s) i)) s h
       in_exec break s h = in_tick Broke (λ s i. i) s h
       in_exec continue s h = in_tick Continued (λ s i. i) s h

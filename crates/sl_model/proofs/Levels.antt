@@ -54,35 +54,58 @@ levels f a b c x y z p q r = cc
 
 -- what holds at a level holds from it on
 pub now_above : (L : Level) (n : ℕ) (s : State) → Now L n s → Above L n s
-now_above L n s h = subst (λ (l : Level). Above l n s) h.level (record { good = h.good; scalars = omega arith; iters = omega arith; conts = omega arith; later = h.later })
+now_above L n s h =
+    subst (λ (l : Level). Above l n s) h.level
+    (record { good = h.good; scalars = omega arith; iters = omega arith; conts = omega arith; later = h.later })
 
 -- the stacks are as high as at a level, and the stamps below a lesser number were used
 pub above_less : (L : Level) (n m : ℕ) (s : State) → n ≤ m → Above L m s → Above L n s
-above_less L n m s less h = record { good = h.good; scalars = h.scalars; iters = h.iters; conts = h.conts; later = let r : m ≤ s.memory.fresh = h.later in omega arith }
+above_less L n m s less h = record {
+  good = h.good;
+  scalars = h.scalars;
+  iters = h.iters;
+  conts = h.conts;
+  later = let r : m ≤ s.memory.fresh = h.later in omega arith;
+}
 
 -- what holds of a state holds with another input, other picks and steps, and something else written
-pub apart_from_stacks : (L : Level) (n : ℕ) (s : State) (input : List ℤ) (picks : List ℕ) (steps : ℕ) (written : List ℕ) → Now L n s → Now L n (record s { input = input; picks = picks; steps = steps; written = written })
+pub apart_from_stacks : (L : Level) (n : ℕ) (s : State) (input : List ℤ) (picks : List ℕ) (steps : ℕ) (written : List ℕ) → Now L n s
+    → Now L n (record s { input = input; picks = picks; steps = steps; written = written })
 apart_from_stacks L n s input picks steps written h = record {
-  good = record { sound = h.good.sound; scalars = h.good.scalars; iters = h.good.iters; conts = h.good.conts; apart = h.good.apart; held = h.good.held };
+  good = record {
+    sound = h.good.sound;
+    scalars = h.good.scalars;
+    iters = h.good.iters;
+    conts = h.good.conts;
+    apart = h.good.apart;
+    held = h.good.held;
+  };
   level = h.level;
   later = h.later;
 }
 
 -- a scalar takes a number
 pub set_scalar-now : (L : Level) (n l : ℕ) (z : ℤ) (s : State) → Now L n s → Now L n (set_scalar_at l z s)
-set_scalar-now L n l z s h = elim (slice_get s.scalars l) as (λ o. Now L n (elim o as (λ _. State) [ None ↦ s | Some x ↦ record s { scalars = slice_set s.scalars l (record x { value = Some z }) } ])) [ None ↦ h | Some x ↦ with_slot (record x { value = Some z }) ]
+set_scalar-now L n l z s h =
+    elim (slice_get s.scalars l) as (λ o. Now L n
+    (elim o as (λ _. State) [ None ↦ s | Some x ↦ record s { scalars = slice_set s.scalars l (record x { value = Some z }) } ])) [
+      | None ↦ h
+      | Some x ↦ with_slot (record x { value = Some z })
+    ]
   where
     with_slot : (x : Slot) → Now L n (record s { scalars = slice_set s.scalars l x })
     with_slot x = record {
       good = record {
         sound = h.good.sound;
-        scalars = below_more s.frame.scalars (length s.scalars) (length (slice_set s.scalars l x)) (let e = length-set s.scalars l x in omega arith) h.good.scalars;
+        scalars = below_more s.frame.scalars (length s.scalars) (length (slice_set s.scalars l x)) (let e = length-set s.scalars l x in
+            omega arith) h.good.scalars;
         iters = h.good.iters;
         conts = h.good.conts;
         apart = h.good.apart;
         held = h.good.held;
       };
-      level = levels s.frame (length (slice_set s.scalars l x)) (length s.iters) (length s.memory.conts) (length s.scalars) (length s.iters) (length s.memory.conts) (length-set s.scalars l x) refl refl ∙ h.level;
+      level = levels s.frame (length (slice_set s.scalars l x)) (length s.iters) (length s.memory.conts) (length s.scalars) (length s.iters)
+          (length s.memory.conts) (length-set s.scalars l x) refl refl ∙ h.level;
       later = h.later;
     }
 
@@ -92,17 +115,20 @@ set_iterator-now L n l stamp s low h = record {
   good = record {
     sound = h.good.sound;
     scalars = h.good.scalars;
-    iters = below_more s.frame.iters (length s.iters) (length (slice_set s.iters l stamp)) (let e = length-set s.iters l stamp in omega arith) h.good.iters;
+    iters = below_more s.frame.iters (length s.iters) (length (slice_set s.iters l stamp)) (let e = length-set s.iters l stamp in
+        omega arith) h.good.iters;
     conts = h.good.conts;
     apart = h.good.apart;
     held = below_set s.iters l stamp s.memory.fresh h.good.held low;
   };
-  level = levels s.frame (length s.scalars) (length (slice_set s.iters l stamp)) (length s.memory.conts) (length s.scalars) (length s.iters) (length s.memory.conts) refl (length-set s.iters l stamp) refl ∙ h.level;
+  level = levels s.frame (length s.scalars) (length (slice_set s.iters l stamp)) (length s.memory.conts) (length s.scalars) (length s.iters)
+      (length s.memory.conts) refl (length-set s.iters l stamp) refl ∙ h.level;
   later = h.later;
 }
 
 -- memory is another one that is sound, with as many containers, and no stamp is unused again
-pub memory-now : (L : Level) (n : ℕ) (m : Memory) (s : State) → IsSound m → length m.conts ≡ length s.memory.conts → s.memory.fresh ≤ m.fresh → Now L n s → Now L n (record s { memory = m })
+pub memory-now : (L : Level) (n : ℕ) (m : Memory) (s : State) → IsSound m → length m.conts ≡ length s.memory.conts → s.memory.fresh ≤ m.fresh
+    → Now L n s → Now L n (record s { memory = m })
 memory-now L n m s sound many more h = record {
   good = record {
     sound = sound;
@@ -112,14 +138,23 @@ memory-now L n m s sound many more h = record {
     apart = h.good.apart;
     held = below_more s.iters s.memory.fresh m.fresh more h.good.held;
   };
-  level = levels s.frame (length s.scalars) (length s.iters) (length m.conts) (length s.scalars) (length s.iters) (length s.memory.conts) refl refl many ∙ h.level;
+  level = levels s.frame (length s.scalars) (length s.iters) (length m.conts) (length s.scalars) (length s.iters)
+      (length s.memory.conts) refl refl many ∙ h.level;
   later = let low : n ≤ s.memory.fresh = h.later in omega arith;
 }
 
 -- a number written in an element leaves as many containers and the same unused stamps
-written_as_many : (m : Memory) (j k : ℕ) (part : Part) (z : ℤ) → (length (write_element m j k part z).conts ≡ length m.conts) × ((write_element m j k part z).fresh ≡ m.fresh)
+written_as_many : (m : Memory) (j k : ℕ) (part : Part) (z : ℤ) → (length (write_element m j k part z).conts ≡ length m.conts)
+    × ((write_element m j k part z).fresh ≡ m.fresh)
 written_as_many m j k part z = elim (slice_get m.conts j)
-    as (λ o. (length (elim o as (λ _. Memory) [ None ↦ m | Some c ↦ record m { conts = slice_set m.conts j (record c { cells = cells_with c.cells k part z }) } ]).conts ≡ length m.conts) × ((elim o as (λ _. Memory) [ None ↦ m | Some c ↦ record m { conts = slice_set m.conts j (record c { cells = cells_with c.cells k part z }) } ]).fresh ≡ m.fresh))
+    as (λ o. (length (elim o as (λ _. Memory) [
+      | None ↦ m
+      | Some c ↦ record m { conts = slice_set m.conts j (record c { cells = cells_with c.cells k part z }) }
+    ]).conts ≡ length m.conts)
+    × ((elim o as (λ _. Memory) [
+      | None ↦ m
+      | Some c ↦ record m { conts = slice_set m.conts j (record c { cells = cells_with c.cells k part z }) }
+    ]).fresh ≡ m.fresh))
     [ None ↦ (refl, refl) | Some c ↦ (length-set m.conts j (record c { cells = cells_with c.cells k part z }), refl) ]
 
 -- a number is written at a place
@@ -153,13 +188,16 @@ pub new_scalar-now : (L : Level) (n : ℕ) (ty : Scalar) (z : Option ℤ) (s : S
 new_scalar-now L n ty z s h = subst (λ (l : Level). Now (with_scalar l) n (new_scalar ty z s)) h.level (record {
   good = record {
     sound = h.good.sound;
-    scalars = below_one_more s.frame.scalars (length s.scalars) (length (s.scalars ++ record { ty = ty; value = z } ∷ [])) (below_more s.frame.scalars (length s.scalars) (length (s.scalars ++ record { ty = ty; value = z } ∷ [])) (let e = more in omega arith) h.good.scalars) (let e = more in omega arith);
+    scalars = below_one_more s.frame.scalars (length s.scalars) (length (s.scalars ++ record { ty = ty; value = z } ∷ []))
+        (below_more s.frame.scalars (length s.scalars) (length (s.scalars ++ record { ty = ty; value = z } ∷ [])) (let e = more in
+        omega arith) h.good.scalars) (let e = more in omega arith);
     iters = h.good.iters;
     conts = h.good.conts;
     apart = h.good.apart;
     held = h.good.held;
   };
-  level = levels (new_scalar ty z s).frame (length (s.scalars ++ record { ty = ty; value = z } ∷ [])) (length s.iters) (length s.memory.conts) (length s.scalars + 1) (length s.iters) (length s.memory.conts) more refl refl;
+  level = levels (new_scalar ty z s).frame (length (s.scalars ++ record { ty = ty; value = z } ∷ [])) (length s.iters) (length s.memory.conts)
+      (length s.scalars + 1) (length s.iters) (length s.memory.conts) more refl refl;
   later = h.later;
 })
   where
@@ -172,12 +210,15 @@ new_iterator-now L n stamp s low h = subst (λ (l : Level). Now (with_iterator l
   good = record {
     sound = h.good.sound;
     scalars = h.good.scalars;
-    iters = below_one_more s.frame.iters (length s.iters) (length (s.iters ++ stamp ∷ [])) (below_more s.frame.iters (length s.iters) (length (s.iters ++ stamp ∷ [])) (let e = more in omega arith) h.good.iters) (let e = more in omega arith);
+    iters = below_one_more s.frame.iters (length s.iters) (length (s.iters ++ stamp ∷ []))
+        (below_more s.frame.iters (length s.iters) (length (s.iters ++ stamp ∷ [])) (let e = more in omega arith) h.good.iters)
+        (let e = more in omega arith);
     conts = h.good.conts;
     apart = h.good.apart;
     held = below_one_more s.iters stamp s.memory.fresh h.good.held low;
   };
-  level = levels (new_iterator stamp s).frame (length s.scalars) (length (s.iters ++ stamp ∷ [])) (length s.memory.conts) (length s.scalars) (length s.iters + 1) (length s.memory.conts) refl more refl;
+  level = levels (new_iterator stamp s).frame (length s.scalars) (length (s.iters ++ stamp ∷ [])) (length s.memory.conts) (length s.scalars)
+      (length s.iters + 1) (length s.memory.conts) refl more refl;
   later = h.later;
 })
   where
@@ -185,32 +226,41 @@ new_iterator-now L n stamp s low h = subst (λ (l : Level). Now (with_iterator l
     more = length-append s.iters (stamp ∷ [])
 
 -- the container that a call made comes into scope
-pub new_container-now : (L : Level) (n : ℕ) (m : Memory) (picks : List ℕ) (s : State) → IsSound m → length m.conts ≡ length s.memory.conts + 1 → s.memory.fresh ≤ m.fresh → Now L n s → Now (with_container L) n (new_container L.conts (record s { memory = m; picks = picks }))
-new_container-now L n m picks s sound many more h = subst (λ (l : Level). Now (with_container l) n (new_container l.conts (record s { memory = m; picks = picks }))) h.level (record {
-  good = record {
-    sound = sound;
-    scalars = h.good.scalars;
-    iters = h.good.iters;
-    conts = below_one_more s.frame.conts (length s.memory.conts) (length m.conts) (below_more s.frame.conts (length s.memory.conts) (length m.conts) (omega arith) h.good.conts) (omega arith);
-    apart = apart_one_more s.frame.conts (length s.memory.conts) h.good.apart (not_there s.frame.conts (length s.memory.conts) h.good.conts);
-    held = below_more s.iters s.memory.fresh m.fresh more h.good.held;
-  };
-  level = levels (new_container (length s.memory.conts) s).frame (length s.scalars) (length s.iters) (length m.conts) (length s.scalars) (length s.iters) (length s.memory.conts + 1) refl refl many;
-  later = let low : n ≤ s.memory.fresh = h.later in omega arith;
-})
+pub new_container-now : (L : Level) (n : ℕ) (m : Memory) (picks : List ℕ) (s : State) → IsSound m → length m.conts ≡ length s.memory.conts + 1
+    → s.memory.fresh ≤ m.fresh → Now L n s → Now (with_container L) n (new_container L.conts (record s { memory = m; picks = picks }))
+new_container-now L n m picks s sound many more h =
+    subst (λ (l : Level). Now (with_container l) n (new_container l.conts (record s { memory = m; picks = picks }))) h.level (record {
+      good = record {
+        sound = sound;
+        scalars = h.good.scalars;
+        iters = h.good.iters;
+        conts = below_one_more s.frame.conts (length s.memory.conts) (length m.conts)
+            (below_more s.frame.conts (length s.memory.conts) (length m.conts) (omega arith) h.good.conts) (omega arith);
+        apart = apart_one_more s.frame.conts (length s.memory.conts) h.good.apart (not_there s.frame.conts (length s.memory.conts) h.good.conts);
+        held = below_more s.iters s.memory.fresh m.fresh more h.good.held;
+      };
+      level = levels (new_container (length s.memory.conts) s).frame (length s.scalars) (length s.iters) (length m.conts) (length s.scalars)
+          (length s.iters) (length s.memory.conts + 1) refl refl many;
+      later = let low : n ≤ s.memory.fresh = h.later in omega arith;
+    })
 
 -- a scope that began in the first state ends
 leave-here : (n site : ℕ) (start s : State) → IsGood start → Above (level_of start) n s → Now (level_of start) n (leave site start s)
 leave-here n site start s good h = record {
   good = record {
     sound = end_from-sound site (length start.memory.conts) s.memory h.good.sound;
-    scalars = below_more start.frame.scalars (length start.scalars) (length (take (length start.scalars) s.scalars)) (let e = scalars in omega arith) good.scalars;
-    iters = below_more start.frame.iters (length start.iters) (length (take (length start.iters) s.iters)) (let e = iters in omega arith) good.iters;
-    conts = below_more start.frame.conts (length start.memory.conts) (length (take (length start.memory.conts) s.memory.conts)) (let e = conts in omega arith) good.conts;
+    scalars = below_more start.frame.scalars (length start.scalars) (length (take (length start.scalars) s.scalars))
+        (let e = scalars in omega arith) good.scalars;
+    iters = below_more start.frame.iters (length start.iters) (length (take (length start.iters) s.iters)) (let e = iters in
+        omega arith) good.iters;
+    conts = below_more start.frame.conts (length start.memory.conts) (length (take (length start.memory.conts) s.memory.conts))
+        (let e = conts in omega arith) good.conts;
     apart = good.apart;
     held = below_take (length start.iters) s.iters s.memory.fresh h.good.held;
   };
-  level = levels start.frame (length (take (length start.scalars) s.scalars)) (length (take (length start.iters) s.iters)) (length (take (length start.memory.conts) s.memory.conts)) (length start.scalars) (length start.iters) (length start.memory.conts) scalars iters conts;
+  level = levels start.frame (length (take (length start.scalars) s.scalars)) (length (take (length start.iters) s.iters))
+      (length (take (length start.memory.conts) s.memory.conts)) (length start.scalars) (length start.iters)
+      (length start.memory.conts) scalars iters conts;
   later = h.later;
 }
   where

@@ -2,13 +2,18 @@
 use Rattle.std.proofs.Common.{◌≡◌, ◌+◌, refl, sym, subst, ℕ, List, [], ◌∷◌, Bool, true, false, not, ℤ, pos, Option, Some, None, slice_get, slice_set}
 use Rattle.sl_base.specs.declared.place.Place.{Place}
 use Rattle.sl_base.specs.declared.scalar.Scalar.{Scalar}
-use Rattle.sl_syntax.specs.Typed.{Head, Step, Fix, Expr, literal, held, iterator as iterator_held, convert, negate, logical_not, logical_and, logical_or, arithmetic, comparison, increment, move, call, own_call, first, second, container, reference, Left, scalar, element, Operands, none, with}
+use Rattle.sl_syntax.specs.Typed.{Head, Step, Fix, Expr, literal, held, iterator as iterator_held, convert, negate, logical_not, logical_and}
+use Rattle.sl_syntax.specs.Typed.{logical_or, arithmetic, comparison, increment, move, call, own_call, first, second, container, reference, Left}
+use Rattle.sl_syntax.specs.Typed.{scalar, element, Operands, none, with}
 use Rattle.sl_syntax.specs.declared.operator.Arithmetic.TheVariants as o
 use Rattle.sl_model.specs.Numbers.{Answer, value, fault, is_zero, truth, converted, operated, compared}
-use Rattle.sl_model.specs.Values.{Value, nothing, number, iterator, pair, scalar_at, container_at, element_at, Lib, LibOut, trapped, thrown, faulted, gives as lib_gives, unbuilt}
+use Rattle.sl_model.specs.Values.{Value, nothing, number, iterator, pair, scalar_at, container_at, element_at, Lib, LibOut, trapped, thrown, faulted}
+use Rattle.sl_model.specs.Values.{gives as lib_gives, unbuilt}
 use Rattle.sl_model.specs.Ends.{End, OutOfSteps}
 use Rattle.sl_model.specs.State.{State, Slot, set_scalar_at, set_iterator_at}
-use Rattle.sl_model.specs.Eval.{Out, Gives, Stops, Outs, AllGive, OneStops, World, then_eval, with_number, then_number, add_value, then_rest, then_call, branch, answered, if_set, read_at, write_at, settle_call, use_library, increased, moved_to, chosen, name_place, eval, reach, eval_all}
+use Rattle.sl_model.specs.Eval.{Out, Gives, Stops, Outs, AllGive, OneStops, World, then_eval, with_number, then_number, add_value, then_rest}
+use Rattle.sl_model.specs.Eval.{then_call, branch, answered, if_set, read_at, write_at, settle_call, use_library, increased, moved_to, chosen}
+use Rattle.sl_model.specs.Eval.{name_place, eval, reach, eval_all}
 
 -- a state with k steps more
 abbrev pub more : ℕ → State → State
@@ -52,7 +57,8 @@ with_number-later go same (scalar_at l) s = same (pos 0) s
 with_number-later go same (container_at l) s = same (pos 0) s
 with_number-later go same (element_at i j p) s = same (pos 0) s
 
-pub then_number-later : {k : ℕ} (go : ℤ → State → Out) {a b : Out} → LaterOut k a b → ((z : ℤ) → Same k (go z)) → LaterOut k (then_number a go) (then_number b go)
+pub then_number-later : {k : ℕ} (go : ℤ → State → Out) {a b : Out} → LaterOut k a b → ((z : ℤ) → Same k (go z))
+    → LaterOut k (then_number a go) (then_number b go)
 then_number-later go h same = then_eval-later (with_number go) h (with_number-later go same)
 
 add_value-later : {k : ℕ} (v : Value) {a b : Outs} → LaterOuts k a b → LaterOuts k (add_value v a) (add_value v b)
@@ -95,7 +101,10 @@ read_at-later at (element_at i j p) s = gives _ s
 
 pub set_scalar_at-more : (k at : ℕ) (z : ℤ) (s : State) → set_scalar_at at z (more k s) ≡ more k (set_scalar_at at z s)
 set_scalar_at-more k at z s = elim (slice_get s.scalars at) as (λ (o : Option Slot).
-    ◌≡◌ {A = State} (elim o as (λ _. State) [ None ↦ more k s | Some x ↦ record (more k s) { scalars = slice_set s.scalars at (record x { value = Some z }) } ])
+    ◌≡◌ {A = State} (elim o as (λ _. State) [
+      | None ↦ more k s
+      | Some x ↦ record (more k s) { scalars = slice_set s.scalars at (record x { value = Some z }) }
+    ])
     (more k (elim o as (λ _. State) [ None ↦ s | Some x ↦ record s { scalars = slice_set s.scalars at (record x { value = Some z }) } ])))
     [ None ↦ refl | Some x ↦ refl ]
 
@@ -166,6 +175,7 @@ mutual
   reach-later w own (scalar x at) s = gives _ s
   reach-later w own (element h ops) s = then_call-later _ (eval_all-later w own ops s) (use_library-later w.lib h)
 
-  pub eval_all-later : {k : ℕ} (w : World) → SameWorld k w → (ops : Operands) (s : State) → LaterOuts k (eval_all w ops s) (eval_all w ops (more k s))
+  pub eval_all-later : {k : ℕ} (w : World) → SameWorld k w → (ops : Operands) (s : State)
+      → LaterOuts k (eval_all w ops s) (eval_all w ops (more k s))
   eval_all-later w own none s = all_give [] s
   eval_all-later w own (with a rest) s = then_rest-later _ (eval-later w own a s) (eval_all-later w own rest)

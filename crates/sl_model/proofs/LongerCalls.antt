@@ -1,5 +1,6 @@
 -- A run that has more steps left does the same, but where it is out of steps. Here: calls and whole runs.
-use Rattle.std.proofs.Common.{◌≡◌, ◌≢◌, ◌+◌, ◌==◌, ◌∙◌, refl, sym, ap, subst, ℕ, zero, suc, List, [], ◌∷◌, Bool, true, false, ℤ, Option, Some, None, slice_get}
+use Rattle.std.proofs.Common.{◌≡◌, ◌≢◌, ◌+◌, ◌==◌, ◌∙◌, refl, sym, ap, subst, ℕ, zero, suc, List, [], ◌∷◌, Bool, true, false, ℤ, Option, Some, None}
+use Rattle.std.proofs.Common.{slice_get}
 use Rattle.sl_base.specs.declared.place.Place.{Place}
 use Rattle.sl_base.specs.declared.limits.TheConstants.{CALLS}
 use Rattle.sl_syntax.specs.Typed.{Kind, by_value, Function, Typed}
@@ -35,7 +36,8 @@ fell-later {k} false f before s = elim f.result as (λ (o : Option Kind). LaterO
     (elim o as (λ _. Out) [ None ↦ Gives nothing (leave 0 (more k before) (more k s)) | Some x ↦ Stops (Language f.close 4) (more k s) ]))
     [ None ↦ gives _ _ | Some x ↦ stops _ _ ]
 
-called-later : {k : ℕ} (m : Bool) (f : Function) (before : State) {a b : Flow} → LaterFlow k a b → LaterOut k (called m f before a) (called m f (more k before) b)
+called-later : {k : ℕ} (m : Bool) (f : Function) (before : State) {a b : Flow} → LaterFlow k a b
+    → LaterOut k (called m f before a) (called m f (more k before) b)
 called-later m f before (next s) = fell-later m f before s
 called-later m f before (broke s) = fell-later m f before s
 called-later m f before (continued s) = fell-later m f before s
@@ -43,7 +45,8 @@ called-later m f before (returned v s) = gives v (leave 0 before s)
 called-later m f before (over e s) = stops e s
 called-later {k} m f before (run_out s x) = out s (called m f (more k before) x)
 
-of_function-later : {k : ℕ} (m : Bool) (o : Option Function) (w : World) → SameWorld k w → (at : Place) (vs : List Value) → Same k (of_function m o w at vs)
+of_function-later : {k : ℕ} (m : Bool) (o : Option Function) (w : World) → SameWorld k w → (at : Place) (vs : List Value)
+    → Same k (of_function m o w at vs)
 of_function-later m None w own at vs s = gives nothing s
 of_function-later {k} m (Some f) w own at vs s = called-later m f s
     (subst (λ t. LaterFlow k (exec w f.body (bound f vs s)) (exec w f.body t)) (sym (bound-more k f vs s)) (exec-later w own f.body (bound f vs s)))
@@ -59,5 +62,6 @@ finished-later (stops e s) ends = refl
 finished-later (out s x) ends = absurd (ends refl)
 
 -- a run that isn't out of steps is the same with more of them
-pub longer_runs : (p : Typed) (input : List ℤ) (picks : List ℕ) (n k : ℕ) → (run p input picks n).end ≢ OutOfSteps → run p input picks (n + k) ≡ run p input picks n
+pub longer_runs : (p : Typed) (input : List ℤ) (picks : List ℕ) (n k : ℕ) → (run p input picks n).end ≢ OutOfSteps
+    → run p input picks (n + k) ≡ run p input picks n
 longer_runs p input picks n k ends = finished-later {k = k} (call_of-later lib CALLS p p.main first_place [] (empty_state input picks n)) ends

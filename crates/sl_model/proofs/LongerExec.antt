@@ -1,16 +1,23 @@
 -- A run that has more steps left does the same, but where it is out of steps. Here: statements.
-use Rattle.std.proofs.Common.{◌≡◌, ◌+◌, sym, subst, ℕ, zero, suc, List, [], ◌∷◌, length, Bool, true, false, not, ℤ, pos, Option, Some, None, unwrap_or, suc-add, arith, ◌≤◌}
+use Rattle.std.proofs.Common.{◌≡◌, ◌+◌, sym, subst, ℕ, zero, suc, List, [], ◌∷◌, length, Bool, true, false, not, ℤ, pos, Option, Some, None}
+use Rattle.std.proofs.Common.{unwrap_or, suc-add, arith, ◌≤◌}
 use Rattle.std.specs.Fmt.{signed_decimal}
 use Rattle.sl_base.specs.declared.place.Place.{Place}
 use Rattle.sl_syntax.specs.declared.operator.Comparison.TheVariants as c
-use Rattle.sl_syntax.specs.Typed.{star, up, compares, Cond, read, not_read, test, always, Printed, text, endline, number as printed_number, Effect, reads, prints, evaluates, assigns, updates, moves_to, Declaration, unset_scalar, set_scalar, set_iterator, makes, First, no_first, declares_first, does_first, Stmt, block, declares, choice, choice_else, while, for, range_for, break, continue, gives_back, does, Stmts, no_more, followed}
+use Rattle.sl_syntax.specs.Typed.{star, up, compares, Cond, read, not_read, test, always, Printed, text, endline, number as printed_number, Effect}
+use Rattle.sl_syntax.specs.Typed.{reads, prints, evaluates, assigns, updates, moves_to, Declaration, unset_scalar, set_scalar, set_iterator, makes}
+use Rattle.sl_syntax.specs.Typed.{First, no_first, declares_first, does_first, Stmt, block, declares, choice, choice_else, while, for, range_for}
+use Rattle.sl_syntax.specs.Typed.{break, continue, gives_back, does, Stmts, no_more, followed}
 use Rattle.sl_model.specs.Numbers.{is_zero, converted, operated}
 use Rattle.sl_model.specs.Values.{Value, nothing, number, iterator, pair, scalar_at, container_at, element_at}
 use Rattle.sl_model.specs.Ends.{End, OutOfSteps}
 use Rattle.sl_model.specs.State.{State, scalar_of, cont_of, iter_of, set_scalar_at, set_iterator_at, new_scalar, new_iterator, new_container, leave}
 use Rattle.sl_model.specs.Eval.{Out, World, use_library, write_at, name_place}
-use Rattle.sl_model.specs.Exec.{Flow, Next, Broke, Continued, Returned, Over, Meaning, tick, and_then, flow_of, on_number, on_stamp, either_way, scoped, read_all, tested, wrote, printed, print_all, affect, declared, begun, ended, after_body, turns, loop, asks, hidden_at, over_range, range_start, exec, exec_all}
-use Rattle.sl_model.proofs.Longer.{more, LaterOut, gives, stops, out, SameWorld, set_scalar_at-more, write_at-more, answered-later, read_at-later, use_library-later, then_eval-later, then_number-later, then_call-later, eval-later, reach-later, eval_all-later}
+use Rattle.sl_model.specs.Exec.{Flow, Next, Broke, Continued, Returned, Over, Meaning, tick, and_then, flow_of, on_number, on_stamp, either_way}
+use Rattle.sl_model.specs.Exec.{scoped, read_all, tested, wrote, printed, print_all, is_scalar_name, affect, declared, begun, ended, after_body}
+use Rattle.sl_model.specs.Exec.{turns, loop, asks, hidden_at, over_range, range_start, exec, exec_all}
+use Rattle.sl_model.proofs.Longer.{more, LaterOut, gives, stops, out, SameWorld, set_scalar_at-more, write_at-more, answered-later, read_at-later}
+use Rattle.sl_model.proofs.Longer.{use_library-later, then_eval-later, then_number-later, then_call-later, eval-later, reach-later, eval_all-later}
 
 -- where a statement goes, and where it goes with k steps more: to the same, or the run is out of steps
 pub data LaterFlow (k : ℕ) : Flow → Flow → Type 0 where
@@ -42,7 +49,8 @@ ticked k (suc n) go other s same = rw suc-add (same (record s { steps = n }))
 tick-later : {k : ℕ} (go other : Meaning) → LaterMeaning k go other → LaterMeaning k (tick go) (tick other)
 tick-later {k} go other same s = ticked k s.steps go other s same
 
-and_then-later : {k : ℕ} (go other : Meaning) {a b : Flow} → LaterFlow k a b → LaterMeaning k go other → LaterFlow k (and_then a go) (and_then b other)
+and_then-later : {k : ℕ} (go other : Meaning) {a b : Flow} → LaterFlow k a b → LaterMeaning k go other
+    → LaterFlow k (and_then a go) (and_then b other)
 and_then-later go other (next s) same = same s
 and_then-later go other (broke s) same = broke s
 and_then-later go other (continued s) same = continued s
@@ -50,7 +58,8 @@ and_then-later go other (returned v s) same = returned v s
 and_then-later go other (over e s) same = over e s
 and_then-later go other (run_out s x) same = run_out s (and_then x other)
 
-after_body-later : {k : ℕ} (go other : Meaning) {a b : Flow} → LaterFlow k a b → LaterMeaning k go other → LaterFlow k (after_body a go) (after_body b other)
+after_body-later : {k : ℕ} (go other : Meaning) {a b : Flow} → LaterFlow k a b → LaterMeaning k go other
+    → LaterFlow k (after_body a go) (after_body b other)
 after_body-later go other (next s) same = same s
 after_body-later go other (broke s) same = next s
 after_body-later go other (continued s) same = same s
@@ -64,7 +73,8 @@ flow_of-later go other (gives v s) same = same v s
 flow_of-later go other (stops e s) same = over e s
 flow_of-later go other (out s x) same = run_out s (flow_of x other)
 
-on_number-later : {k : ℕ} (go other : ℤ → Meaning) → ((z : ℤ) → LaterMeaning k (go z) (other z)) → (v : Value) → LaterMeaning k (on_number go v) (on_number other v)
+on_number-later : {k : ℕ} (go other : ℤ → Meaning) → ((z : ℤ) → LaterMeaning k (go z) (other z)) → (v : Value)
+    → LaterMeaning k (on_number go v) (on_number other v)
 on_number-later go other same nothing s = same (pos 0) s
 on_number-later go other same (number z) s = same z s
 on_number-later go other same (iterator x) s = same (pos 0) s
@@ -91,7 +101,8 @@ number-same : {k : ℕ} (go : ℤ → Meaning) {a b : Out} → LaterOut k a b �
     LaterFlow k (flow_of a (on_number go)) (flow_of b (on_number go))
 number-same go = number-later go go
 
-flow_of-same : {k : ℕ} (go : Value → Meaning) {a b : Out} → LaterOut k a b → ((v : Value) → SameFlow k (go v)) → LaterFlow k (flow_of a go) (flow_of b go)
+flow_of-same : {k : ℕ} (go : Value → Meaning) {a b : Out} → LaterOut k a b → ((v : Value) → SameFlow k (go v))
+    → LaterFlow k (flow_of a go) (flow_of b go)
 flow_of-same go = flow_of-later go go
 
 and_then-same : {k : ℕ} (go : Meaning) {a b : Flow} → LaterFlow k a b → SameFlow k go → LaterFlow k (and_then a go) (and_then b go)
@@ -123,10 +134,12 @@ scoped-later {k} site start (run_out s x) = run_out s (scoped site (more k start
 
 -- A test is done before its answer is known: where what follows does the same, so does the whole.
 abbrev pub SameCheck : ℕ → (State → (Bool → Meaning) → Flow) → Type 0
-SameCheck k check = (go other : Bool → Meaning) → ((b : Bool) → LaterMeaning k (go b) (other b)) → (s : State) → LaterFlow k (check s go) (check (more k s) other)
+SameCheck k check =
+    (go other : Bool → Meaning) → ((b : Bool) → LaterMeaning k (go b) (other b)) → (s : State) → LaterFlow k (check s go) (check (more k s) other)
 
 -- one variable is read from an input
-read_one : {k : ℕ} (x : ℕ) (xs : List ℕ) → SameCheck k (read_all xs) → (go other : Bool → Meaning) → ((b : Bool) → LaterMeaning k (go b) (other b)) →
+read_one : {k : ℕ} (x : ℕ) (xs : List ℕ) → SameCheck k (read_all xs) → (go other : Bool → Meaning) → ((b : Bool) → LaterMeaning k (go b) (other b))
+    →
     (input : List ℤ) (s : State) → LaterFlow k (read_all (x ∷ xs) (record s { input = input }) go) (read_all (x ∷
     xs) (record s { input = input; steps = s.steps + k }) other)
 read_one x xs rest go other same [] s = same false (record s { input = [] })
@@ -142,11 +155,13 @@ read_all-later (x ∷ xs) go other same s = read_one x xs (read_all-later xs) go
 tested-later : {k : ℕ} (w : World) → SameWorld k w → (c : Cond) → SameCheck k (tested w c)
 tested-later w own (read xs) go other same s = read_all-later xs go other same s
 tested-later w own (not_read xs) go other same s = read_all-later xs (λ b. go (not b)) (λ b. other (not b)) (λ b. same (not b)) s
-tested-later w own (test a) go other same s = number-later (λ z. go (not (is_zero z))) (λ z. other (not (is_zero z))) (eval-later w own a s) (λ z. same
+tested-later w own (test a) go other same s =
+    number-later (λ z. go (not (is_zero z))) (λ z. other (not (is_zero z))) (eval-later w own a s) (λ z. same
     (not (is_zero z)))
 tested-later w own always go other same s = same true s
 
-tested-same : {k : ℕ} (w : World) → SameWorld k w → (c : Cond) (go : Bool → Meaning) → ((b : Bool) → SameFlow k (go b)) → SameFlow k (λ s. tested w c s go)
+tested-same : {k : ℕ} (w : World) → SameWorld k w → (c : Cond) (go : Bool → Meaning) → ((b : Bool) → SameFlow k (go b))
+    → SameFlow k (λ s. tested w c s go)
 tested-same w own c go = tested-later w own c go go
 
 printed-later : {k : ℕ} (w : World) → SameWorld k w → (p : Printed) → SameFlow k (printed w p)
@@ -165,8 +180,10 @@ written-later {k} v z s = next_to (write_at v z s) (write_at v z (more k s)) (wr
 affect-later : {k : ℕ} (w : World) → SameWorld k w → (e : Effect) → SameFlow k (affect w e)
 affect-later w own (reads xs) s = read_all-later xs (λ b. Next) (λ b. Next) (λ b s. next s) s
 affect-later w own (prints ps) s = print_all-later w own ps s
-affect-later w own (evaluates a) s = flow_of-later (λ v. Next) (λ v. Next) (eval-later w own a s) (λ v s. next s)
-affect-later w own (assigns l a) s = number-same _ (eval-later w own a s) (λ z s. flow_of-same _ (reach-later w own l s) (λ at_l. written-later at_l z))
+affect-later w own (evaluates a) s = either_way-same (is_scalar_name a) Next _ (λ s. next s)
+    (λ s. flow_of-later (λ v. Next) (λ v. Next) (eval-later w own a s) (λ v s. next s)) s
+affect-later w own (assigns l a) s =
+    number-same _ (eval-later w own a s) (λ z s. flow_of-same _ (reach-later w own l s) (λ at_l. written-later at_l z))
 affect-later w own (updates op ty left_ty at l a) s = number-same _ (eval-later w own a s) (λ y s. flow_of-same _ (reach-later w own l s) (λ at_l s.
     number-same _ (then_number-later _ (read_at-later (name_place l) at_l s) (λ x. answered-later at (operated op ty (converted ty x) y)))
     (λ z. written-later at_l (converted left_ty z))))
@@ -202,8 +219,10 @@ turns-later {k} check body last c b l (suc n) (suc m) h s =
     λ s. and_then-later (turns n check body last) (turns m check body last) (l s) rest in
     let step : (v : Bool) → LaterMeaning k (turn check body last n v) (turn check body last m v) =
     λ v. either_way-later v _ Next _ Next
-    (λ s. after_body-later (λ s. and_then (last s) (turns n check body last)) (λ s. and_then (last s) (turns m check body last)) (b s) again) (λ s. next s) in
-    tick-later (λ s. check s (turn check body last n)) (λ s. check s (turn check body last m)) (c (turn check body last n) (turn check body last m) step) s
+    (λ s. after_body-later (λ s. and_then (last s) (turns n check body last)) (λ s. and_then (last s) (turns m check body last)) (b s) again)
+    (λ s. next s) in
+    tick-later (λ s. check s (turn check body last n)) (λ s. check s (turn check body last m))
+    (c (turn check body last n) (turn check body last m) step) s
 
 loop-later : {k : ℕ} (check : State → (Bool → Meaning) → Flow) (body last : Meaning) → SameCheck k check → SameFlow k body → SameFlow k last →
     SameFlow k (loop check body last)
@@ -212,7 +231,8 @@ loop-later {k} check body last c b l s = turns-later check body last c b l (suc 
 over_range-later : {k : ℕ} (w : World) → SameWorld k w → (at : Place) (name b e x : ℕ) (body : Meaning) → SameFlow k body →
     SameFlow k (over_range w at name b e x body)
 over_range-later {k} w own at name b e x body same = loop-later
-    (λ s go. flow_of (use_library w.lib (asks (compares c.NotEqual) at name) (hidden_at s b ∷ hidden_at s e ∷ []) s) (on_number (λ z. go (not (is_zero z)))))
+    (λ s go. flow_of (use_library w.lib (asks (compares c.NotEqual) at name) (hidden_at s b ∷ hidden_at s e ∷ []) s)
+    (on_number (λ z. go (not (is_zero z)))))
     _ _
     (λ go other also s. number-later (λ z. go (not (is_zero z))) (λ z. other (not (is_zero z)))
     (use_library-later w.lib (asks (compares c.NotEqual) at name) (hidden_at s b ∷ hidden_at s e ∷ []) s) (λ z. also (not (is_zero z))))
@@ -226,7 +246,8 @@ mutual
   exec-later w own (block site all) s = scoped-later (unwrap_or site 0) s (exec_all-later w own all s)
   exec-later w own (declares d) s = tick-same _ (declared-later w own d) s
   exec-later w own (choice c a) s = tick-same _ (tested-same w own c _ (λ v. either_way-same v _ _ (exec-later w own a) (λ s. next s))) s
-  exec-later w own (choice_else c a b) s = tick-same _ (tested-same w own c _ (λ v. either_way-same v _ _ (exec-later w own a) (exec-later w own b))) s
+  exec-later w own (choice_else c a b) s =
+      tick-same _ (tested-same w own c _ (λ v. either_way-same v _ _ (exec-later w own a) (exec-later w own b))) s
   exec-later w own (while c body) s = tick-same _ (loop-later _ _ _ (tested-later w own c) (exec-later w own body) (λ s. next s)) s
   exec-later w own (for head c last body) s = tick-same _ (λ s. scoped-later 0 s (and_then-same _ (begun-later w own head s)
       (loop-later _ _ _ (tested-later w own c) (exec-later w own body) (ended-later w own last)))) s

@@ -1,5 +1,6 @@
 -- A new container leaves a memory sound and everything where it was.
-use Rattle.std.proofs.Common.{◌≡◌, ℕ, zero, suc, ◌+◌, ◌-◌, ◌<◌, ◌≤◌, List, [], ◌∷◌, ◌++◌, Some, length, refl, ap, sym, ◌∙◌, arith, ◌⊎◌, inl, inr, ⊎_elim}
+use Rattle.std.proofs.Common.{◌≡◌, ℕ, zero, suc, ◌+◌, ◌-◌, ◌<◌, ◌≤◌, List, [], ◌∷◌, ◌++◌, Some, length, refl, ap, sym, ◌∙◌, arith, ◌⊎◌, inl, inr}
+use Rattle.std.proofs.Common.{⊎_elim}
 use Rattle.std.specs.List.{slice_get}
 use Rattle.std.proofs.lemmas.Bool.{cases_lt}
 use Rattle.sl_base.specs.declared.form.Form.{Form}
@@ -28,7 +29,8 @@ InMade m j k s = IsAt m j k s ⊎ ((j ≡ length m.conts) × (k ≡ 0) × (s ≡
 pub in_made : (form : Form) (room : ℕ) (m : Memory) (j k s : ℕ) → IsAt (made form room m) j k s → InMade m j k s
 in_made form room m j k s h =
     ⊎_elim
-    (λ (low : j < length m.conts). inl (record { cont = h.cont; there = sym (get_left m.conts (fresh_cont form room m ∷ []) j low) ∙ h.there; stands = h.stands }))
+    (λ (low : j < length m.conts). inl
+    (record { cont = h.cont; there = sym (get_left m.conts (fresh_cont form room m ∷ []) j low) ∙ h.there; stands = h.stands }))
     (λ (high : length m.conts ≤ j).
     let r = last_one m.conts (fresh_cont form room m) h.cont j high h.there in
     inr (at_end k r.0 (ap (λ (c : Cont). slice_get (stamps c) k) r.1 ∙ h.stands)))
@@ -40,11 +42,20 @@ in_made form room m j k s h =
 
 -- what stands keeps standing when a container is made
 pub made-at : (form : Form) (room : ℕ) (m : Memory) (j k s : ℕ) → IsAt m j k s → IsAt (made form room m) j k s
-made-at form room m j k s h = record { cont = h.cont; there = get_left m.conts (fresh_cont form room m ∷ []) j (get_within m.conts j h.cont h.there) ∙ h.there; stands = h.stands }
+made-at form room m j k s h = record {
+  cont = h.cont;
+  there = get_left m.conts (fresh_cont form room m ∷ []) j (get_within m.conts j h.cont h.there) ∙ h.there;
+  stands = h.stands;
+}
 
 -- the end of the new container stands in it
 pub made-end : (form : Form) (room : ℕ) (m : Memory) → IsAt (made form room m) (length m.conts) 0 m.fresh
-made-end form room m = record { cont = fresh_cont form room m; there = get_right m.conts (fresh_cont form room m ∷ []) (length m.conts) (omega arith) ∙ ap (slice_get (fresh_cont form room m ∷ [])) (none_left (length m.conts)); stands = refl }
+made-end form room m = record {
+  cont = fresh_cont form room m;
+  there = get_right m.conts (fresh_cont form room m ∷ []) (length m.conts) (omega arith)
+      ∙ ap (slice_get (fresh_cont form room m ∷ [])) (none_left (length m.conts));
+  stands = refl;
+}
   where
     none_left : (n : ℕ) → n - n ≡ 0
     none_left n = omega arith
@@ -82,4 +93,5 @@ made-sound form room m sound = record {
 
     all_small : (j : ℕ) (c : Cont) → slice_get (made form room m).conts j ≡ Some c → (j < length m.conts) ⊎ (length m.conts ≤ j) → size c ≤ ELEMENTS
     all_small j c e (inl low) = sound.small j c (sym (get_left m.conts (fresh_cont form room m ∷ []) j low) ∙ e)
-    all_small j c e (inr high) = let r = last_one m.conts (fresh_cont form room m) c j high e in let q : 0 ≡ size c = ap (λ (x : Cont). size x) r.1 in omega arith
+    all_small j c e (inr high) = let r = last_one m.conts (fresh_cont form room m) c j high e in let q : 0 ≡ size c =
+        ap (λ (x : Cont). size x) r.1 in omega arith

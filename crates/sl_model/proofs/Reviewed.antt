@@ -1,5 +1,6 @@
 -- Lemmas behind the laws on stamps.
-use Rattle.std.proofs.Common.{◌≡◌, ◌+◌, refl, ℕ, zero, suc, List, [], ◌∷◌, ◌++◌, Bool, true, false, IsTrue, if◌then◌else◌, Some, slice_get, arith, subst, add-zero}
+use Rattle.std.proofs.Common.{◌≡◌, ◌+◌, refl, ℕ, zero, suc, List, [], ◌∷◌, ◌++◌, Bool, true, false, IsTrue, if◌then◌else◌, Some, slice_get, arith}
+use Rattle.std.proofs.Common.{subst, add-zero}
 use Rattle.sl_model.specs.Containers.{Grave}
 use Rattle.sl_model.specs.Edits.{buried}
 
@@ -28,7 +29,8 @@ buried_has kill site i [] gs k s stands killed = cc
 buried_has kill site i (t ∷ ss) gs zero s stands killed =
     let here : IsTrue (kill i) = rw add-zero at killed in
     let same : t ≡ s = cc in
-    subst (λ n. IsIn (grave n site) (buried kill site i (t ∷ ss) ++ gs)) same (in_front (kill i) (grave t site) (buried kill site (i + 1) ss) gs here)
+    subst (λ n. IsIn (grave n site) (buried kill site i (t ∷ ss) ++ gs)) same
+    (in_front (kill i) (grave t site) (buried kill site (i + 1) ss) gs here)
 buried_has kill site i (t ∷ ss) gs (suc k) s stands killed =
     let there : IsTrue (kill ((i + 1) + k)) = subst (λ n. IsTrue (kill n)) (omega arith) killed in
     still_in (kill i) (grave s site) (grave t site) (buried kill site (i + 1) ss) gs (buried_has kill site (i + 1) ss gs k s stands there)

@@ -18,7 +18,7 @@ use Rattle.sl_model.proofs.Writing.{write-sound}
 use Rattle.sl_model.proofs.Keeps.{InAnswer, InOut, keeps_eval}
 use Rattle.sl_model.proofs.KeepsRun.{InFlow, in_exec}
 use Rattle.sl_model.proofs.KeepsCalls.{in_call}
-use Rattle.sl_model.proofs.LibrarySound.{lib-sound}
+use Rattle.sl_model.proofs.LibrarySound.{KeepsMemory, sound-answer, lib-leaves}
 
 -- the memory without containers is sound
 pub empty-sound : IsSound empty_memory
@@ -30,30 +30,34 @@ empty-sound = record {
   small = λ j c h. absurd (cc);
 }
 
--- a library leaves each sound memory sound
-abbrev pub KeepsSound : Lib → Type 0
-KeepsSound l = (c : Callee) (a : Args) (m : Memory) (picks : List ℕ) → IsSound m → InAnswer IsSound (l c a m picks)
+-- a library that keeps memory leaves each sound memory sound
+leaves-sound : (l : Lib) → KeepsMemory l → (c : Callee) (a : Args) (m : Memory) (picks : List ℕ) → IsSound m
+    → InAnswer IsSound (l c a m picks)
+leaves-sound l lib_keeps c a m picks sound = sound-answer m a.site (l c a m picks) (lib_keeps c a m picks sound)
 
 -- a text's own functions leave each sound memory sound
 abbrev pub OwnKeepSound : World → Type 0
 OwnKeepSound w = (f : ℕ) (at : Place) (vs : List Value) (s : State) → IsSound s.memory → InOut IsSound (w.own f at vs s)
 
--- over a library that keeps memory sound, each expression does
-pub eval-sound : (w : World) → KeepsSound w.lib → OwnKeepSound w → (e : Expr) (s : State) → IsSound s.memory → InOut IsSound (eval w e s)
-eval-sound w lib_keeps own_keeps e s h = keeps_eval IsSound w lib_keeps own_keeps write-sound e s h
+-- over a library that keeps memory, each expression does
+pub eval-sound : (w : World) → KeepsMemory w.lib → OwnKeepSound w → (e : Expr) (s : State) → IsSound s.memory → InOut IsSound (eval w e s)
+eval-sound w lib_keeps own_keeps e s h = keeps_eval IsSound w (leaves-sound w.lib lib_keeps) own_keeps write-sound e s h
 
--- over a library that keeps memory sound, each statement does
-pub exec-sound : (w : World) → KeepsSound w.lib → OwnKeepSound w → (a : Stmt) (s : State) → IsSound s.memory → InFlow IsSound (exec w a s)
-exec-sound w lib_keeps own_keeps a s h = in_exec IsSound w lib_keeps own_keeps write-sound end_from-sound a s h
+-- over a library that keeps memory, each statement does
+pub exec-sound : (w : World) → KeepsMemory w.lib → OwnKeepSound w → (a : Stmt) (s : State) → IsSound s.memory → InFlow IsSound (exec w a s)
+exec-sound w lib_keeps own_keeps a s h = in_exec IsSound w (leaves-sound w.lib lib_keeps) own_keeps write-sound end_from-sound a s h
 
--- over a library that keeps memory sound, each call of a text's own function does
-pub call-sound : (l : Lib) → KeepsSound l → (n : ℕ) (p : Typed) (f : ℕ) (at : Place) (vs : List Value) (s : State) → IsSound s.memory → InOut IsSound (call_of l n p f at vs s)
-call-sound l lib_keeps n p f at vs s h = in_call IsSound l lib_keeps write-sound end_from-sound n p f at vs s h
+-- over a library that keeps memory, each call of a text's own function does
+pub call-sound : (l : Lib) → KeepsMemory l → (n : ℕ) (p : Typed) (f : ℕ) (at : Place) (vs : List Value) (s : State) → IsSound s.memory
+    → InOut IsSound (call_of l n p f at vs s)
+call-sound l lib_keeps n p f at vs s h = in_call IsSound l (leaves-sound l lib_keeps) write-sound end_from-sound n p f at vs s h
 
--- over a library that keeps memory sound, a run ends in a sound memory
-pub run_over-sound : (l : Lib) → KeepsSound l → (p : Typed) (input : List ℤ) (picks : List ℕ) (steps : ℕ) → InOut IsSound (call_of l CALLS p p.main first_place [] (empty_state input picks steps))
+-- over a library that keeps memory, a run ends in a sound memory
+pub run_over-sound : (l : Lib) → KeepsMemory l → (p : Typed) (input : List ℤ) (picks : List ℕ) (steps : ℕ)
+    → InOut IsSound (call_of l CALLS p p.main first_place [] (empty_state input picks steps))
 run_over-sound l lib_keeps p input picks steps = call-sound l lib_keeps CALLS p p.main first_place [] (empty_state input picks steps) empty-sound
 
 -- a run ends in a sound memory
-pub run-sound : (p : Typed) (input : List ℤ) (picks : List ℕ) (steps : ℕ) → InOut IsSound (call_of lib CALLS p p.main first_place [] (empty_state input picks steps))
-run-sound p input picks steps = run_over-sound lib lib-sound p input picks steps
+pub run-sound : (p : Typed) (input : List ℤ) (picks : List ℕ) (steps : ℕ)
+    → InOut IsSound (call_of lib CALLS p p.main first_place [] (empty_state input picks steps))
+run-sound p input picks steps = run_over-sound lib lib-leaves p input picks steps

@@ -1,5 +1,6 @@
 -- Where an old element stands after an edit.
-use Rattle.std.proofs.Common.{◌≡◌, ℕ, zero, suc, ◌+◌, ◌-◌, ◌<◌, ◌≤◌, List, [], ◌∷◌, ◌++◌, Some, length, refl, ap, sym, ◌∙◌, arith, ℤ, ◌⊎◌, inl, inr, ⊎_elim}
+use Rattle.std.proofs.Common.{◌≡◌, ℕ, zero, suc, ◌+◌, ◌-◌, ◌<◌, ◌≤◌, List, [], ◌∷◌, ◌++◌, Some, length, refl, ap, sym, ◌∙◌, arith, ℤ, ◌⊎◌, inl, inr}
+use Rattle.std.proofs.Common.{⊎_elim}
 use Rattle.std.specs.List.{slice_get}
 use Rattle.std.proofs.lemmas.Bool.{cases_lt}
 use Rattle.std.proofs.lemmas.Bool.Decides.{nat_tests}
@@ -38,7 +39,8 @@ shifted_above : (e : Edit) (k j : ℕ) → e.from + e.gone ≤ k → j + e.gone 
 shifted_above e k j h g = grind (arith, nat_tests)
 
 -- An element that is old after an edit was outside of what went, and it moved by the edit.
-pub where_old : (class : Class) (c : Cont) (e : Edit) (p k : ℕ) → Fits e (size c) → slice_get (change_of class c e).sources p ≡ Some (old k) → (p ≡ shifted e k) × ((k < e.from) ⊎ (e.from + e.gone ≤ k))
+pub where_old : (class : Class) (c : Cont) (e : Edit) (p k : ℕ) → Fits e (size c) → slice_get (change_of class c e).sources p ≡ Some (old k)
+    → (p ≡ shifted e k) × ((k < e.from) ⊎ (e.from + e.gone ≤ k))
 where_old class c e p k fits h =
     let A = olds 0 e.from in
     let B = news e.come in

@@ -22,7 +22,8 @@ stands_as (x ∷ cells) e (suc k) s h = ⊎_elim (λ r. inl r) (λ (r : (k ≡ l
 -- an element's stamp stands in the container
 pub element_stands : (cells : List Cell) (e k s : ℕ) → HasStamp cells k s → slice_get (stamps_of cells e) k ≡ Some s
 element_stands [] e k s h = absurd (let q = h.1 in cc)
-element_stands (x ∷ cells) e zero s h = let q : Some x ≡ Some h.0 = h.1 in let r : x ≡ h.0 = cc in ap (λ (y : Cell). Some y.stamp) r ∙ ap (λ n. Some n) h.2
+element_stands (x ∷ cells) e zero s h = let q : Some x ≡ Some h.0 = h.1 in let r : x ≡ h.0 =
+    cc in ap (λ (y : Cell). Some y.stamp) r ∙ ap (λ n. Some n) h.2
 element_stands (x ∷ cells) e (suc k) s h = element_stands cells e k s h
 
 -- the end's stamp stands in the container, at its size

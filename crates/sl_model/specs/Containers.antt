@@ -6,7 +6,8 @@
 -- and past-the-end iterators) and [vector.capacity] (a room, which the standard calls capacity).
 -- Chosen here: stamps, sites, and the end of a container as a place that can be invalidated like an element. A sequence or
 -- set keeps its element as the key, and a map's element is a key and a value. No elements but `int`s.
-use Rattle.std.specs.Prelude.{◌≡◌, ℕ, ◌+◌, ◌==◌, List, [], ◌∷◌, ◌++◌, map, length, take, drop, ℤ, pos, Option, Some, None, IsSome, option_map, slice_get, slice_set, slice_index_or, if◌then◌else◌}
+use Rattle.std.specs.Prelude.{◌≡◌, ℕ, ◌+◌, ◌==◌, List, [], ◌∷◌, ◌++◌, map, length, take, drop, ℤ, pos, Option, Some, None, IsSome, option_map}
+use Rattle.std.specs.Prelude.{slice_get, slice_set, slice_index_or, if◌then◌else◌}
 use Rattle.sl_base.specs.declared.form.Form.{Form}
 use Rattle.sl_base.specs.declared.form.Form.TheVariants as f
 

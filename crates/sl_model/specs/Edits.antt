@@ -4,7 +4,8 @@
 -- Restates ISO/IEC 14882:2017, [container.requirements.general], [vector.capacity], [vector.modifiers], [deque.capacity],
 -- [deque.modifiers], [list.modifiers], [associative.reqmts] and [unord.req].
 -- Chosen here: an operation that may invalidate an iterator does so, and where growth does, the room decides.
-use Rattle.std.specs.Prelude.{ℕ, zero, suc, ◌≤◌, ◌+◌, ◌-◌, ◌==◌, ◌&&◌, nat_lt, nat_le, Bool, true, false, not, List, [], ◌∷◌, ◌++◌, map, length, ℤ, pos, Some, None, slice_get, slice_set, if◌then◌else◌}
+use Rattle.std.specs.Prelude.{ℕ, zero, suc, ◌≤◌, ◌+◌, ◌-◌, ◌==◌, ◌&&◌, nat_lt, nat_le, Bool, true, false, not, List, [], ◌∷◌, ◌++◌, map, length, ℤ}
+use Rattle.std.specs.Prelude.{pos, Some, None, slice_get, slice_set, if◌then◌else◌}
 use Rattle.sl_model.specs.Containers.{Cell, Cont, Grave, Memory, size, stamps}
 
 -- `gone` elements go from place `from`, and these come there; then the container has this room

@@ -10,9 +10,12 @@ use Rattle.sl_base.specs.declared.scalar.Scalar.{Scalar}
 use Rattle.sl_syntax.specs.declared.operator.Arithmetic.TheVariants as o
 use Rattle.sl_base.specs.declared.place.Place.{Place}
 use Rattle.sl_model.specs.Numbers.{is_zero, truth, converted, Answer, value, fault, operated, compared}
-use Rattle.sl_syntax.specs.Typed.{Head, Step, rise, fall, Fix, prefix, postfix, Expr, literal, held, iterator as iterator_held, convert, negate, logical_not, logical_and, logical_or, arithmetic, comparison, increment, move, call, own_call, first, second, container, reference, Left, scalar, element, Operands, none, with}
+use Rattle.sl_syntax.specs.Typed.{Head, Step, rise, fall, Fix, prefix, postfix, Expr, literal, held, iterator as iterator_held, convert, negate}
+use Rattle.sl_syntax.specs.Typed.{logical_not, logical_and, logical_or, arithmetic, comparison, increment, move, call, own_call, first, second}
+use Rattle.sl_syntax.specs.Typed.{container, reference, Left, scalar, element, Operands, none, with}
 use Rattle.sl_model.specs.Containers.{element as element_of, write_element}
-use Rattle.sl_model.specs.Values.{Value, number, iterator, pair, scalar_at, container_at, element_at, LibOut, Lib, trapped, thrown, faulted, gives, unbuilt}
+use Rattle.sl_model.specs.Values.{Value, number, iterator, pair, scalar_at, container_at, element_at, LibOut, Lib, trapped, thrown, faulted, gives}
+use Rattle.sl_model.specs.Values.{unbuilt}
 use Rattle.sl_model.specs.Ends.{End, Trapped, Language, Thrown, NoMeaning, trap_of}
 use Rattle.sl_model.specs.State.{State, scalar_of, cont_of, iter_of, scalar_value, set_scalar_at, set_iterator_at, stamp_of}
 
@@ -101,7 +104,8 @@ settle_call h vs unbuilt s = Stops (NoMeaning h.place) s
 
 -- a call of the library on operands
 abbrev pub use_library : Lib → Head → List Value → State → Out
-use_library lib h vs s = settle_call h vs (lib h.callee (record { site = h.site; object = option_map (cont_of s) h.object; values = vs }) s.memory s.picks) s
+use_library lib h vs s =
+    settle_call h vs (lib h.callee (record { site = h.site; object = option_map (cont_of s) h.object; values = vs }) s.memory s.picks) s
 
 -- one up or one down
 abbrev pub by_one : Step → ℤ
@@ -115,7 +119,8 @@ chosen postfix old new = old
 
 -- the number at a place goes up or down by one
 abbrev pub increased : Step → Fix → Scalar → Place → Value → ℤ → State → Out
-increased d x ty at l old s = then_number (answered at (operated o.Add ty old (by_one d)) s) (λ new s. Gives (chosen x (number old) (number new)) (write_at l new s))
+increased d x ty at l old s = then_number (answered at (operated o.Add ty old (by_one d)) s)
+    (λ new s. Gives (chosen x (number old) (number new)) (write_at l new s))
 
 -- an iterator variable takes the stamp that a call gave
 abbrev pub moved_to : Fix → ℕ → ℕ → Value → State → Out

@@ -1,22 +1,28 @@
 -- Statements: where one goes from a state.
 --
 -- Restates ISO/IEC 14882:2017, [stmt.stmt] with [stmt.block], [stmt.if], [stmt.while], [stmt.for], [stmt.ranged], [stmt.break],
--- [stmt.cont], [stmt.return] and [stmt.dcl]; [expr.ass], by which the right side comes first; [istream.formatted.arithmetic]
--- and [ostream.formatted] as far as numbers and texts go.
+-- [stmt.cont], [stmt.return] and [stmt.dcl]; [stmt.expr] with [expr], by which nothing is read where a discarded value is a
+-- variable's name; [expr.ass], by which the right side comes first; [istream.formatted.arithmetic] and [ostream.formatted] as far
+-- as numbers and texts go.
 -- Chosen here: each statement but a block takes a step when it starts, and each test of a loop takes one. Input is a list of
 -- ints, and a read fails at its end alone. A variable that couldn't be read keeps its number.
-use Rattle.std.specs.Prelude.{ℕ, zero, suc, ◌+◌, Bool, true, false, not, List, [], ◌∷◌, ◌++◌, length, ℤ, pos, Option, Some, None, unwrap_or, slice_index}
+use Rattle.std.specs.Prelude.{ℕ, zero, suc, ◌+◌, Bool, true, false, not, List, [], ◌∷◌, ◌++◌, length, ℤ, pos, Option, Some, None, unwrap_or}
+use Rattle.std.specs.Prelude.{slice_index}
 use Rattle.std.specs.Fmt.{signed_decimal}
 use Rattle.sl_base.specs.declared.scalar.Scalar.TheVariants as t
 use Rattle.sl_syntax.specs.declared.operator.Comparison.TheVariants as c
 use Rattle.sl_base.specs.declared.place.Place.{Place}
 use Rattle.sl_model.specs.Numbers.{is_zero, converted, operated}
-use Rattle.sl_syntax.specs.Typed.{Head, hidden, Operator, star, up, compares, Cond, read, not_read, test, always, Printed, text, endline, number as printed_number, Effect, reads, prints, evaluates, assigns, updates, moves_to, Declaration, unset_scalar, set_scalar, set_iterator, makes, First, no_first, declares_first, does_first, Stmt, block, declares, choice, choice_else, while, for, range_for, break, continue, gives_back, does, Stmts, no_more, followed}
+use Rattle.sl_syntax.specs.Typed.{Expr, held, scalar, Head, hidden, Operator, star, up, compares, Cond, read, not_read, test, always, Printed, text}
+use Rattle.sl_syntax.specs.Typed.{endline, number as printed_number, Effect, reads, prints, evaluates, assigns, updates, moves_to, Declaration}
+use Rattle.sl_syntax.specs.Typed.{unset_scalar, set_scalar, set_iterator, makes, First, no_first, declares_first, does_first, Stmt, block, declares}
+use Rattle.sl_syntax.specs.Typed.{choice, choice_else, while, for, range_for, break, continue, gives_back, does, Stmts, no_more, followed}
 use Rattle.sl_model.specs.Containers.{begin_of, end_of}
 use Rattle.sl_model.specs.Values.{Value, nothing, number, iterator}
 use Rattle.sl_model.specs.Ends.{End, OutOfSteps}
 use Rattle.sl_model.specs.State.{State, scalar_of, cont_of, iter_of, set_scalar_at, set_iterator_at, new_scalar, new_iterator, new_container, leave}
-use Rattle.sl_model.specs.Eval.{Out, Gives, Stops, World, then_eval, then_number, then_call, eval, reach, eval_all, use_library, read_at, write_at, answered, name_place}
+use Rattle.sl_model.specs.Eval.{Out, Gives, Stops, World, then_eval, then_number, then_call, eval, reach, eval_all, use_library, read_at, write_at}
+use Rattle.sl_model.specs.Eval.{answered, name_place}
 
 -- where a statement goes
 pub data Flow : Type 0 where
@@ -73,7 +79,10 @@ scoped site start (Over e s) = Over e s
 -- variables are read in turn until the input is at its end; then goes on with whether all were
 abbrev pub read_all : List ℕ → State → (Bool → Meaning) → Flow
 read_all [] s go = go true s
-read_all (x ∷ xs) s go = elim s.input as (λ _. Flow) [ [] ↦ go false s | z ∷ rest ↦ read_all xs (set_scalar_at (scalar_of s x) z (record s { input = rest })) go ]
+read_all (x ∷ xs) s go = elim s.input as (λ _. Flow) [
+  | [] ↦ go false s
+  | z ∷ rest ↦ read_all xs (set_scalar_at (scalar_of s x) z (record s { input = rest })) go
+]
 
 -- a condition, and what follows its answer
 abbrev pub tested : World → Cond → State → (Bool → Meaning) → Flow
@@ -97,11 +106,20 @@ abbrev pub print_all : World → List Printed → Meaning
 print_all w [] s = Next s
 print_all w (p ∷ ps) s = and_then (printed w p s) (print_all w ps)
 
+-- an expression is the name of a scalar alone
+abbrev pub is_scalar_name : Expr → Bool
+is_scalar_name (held (scalar x at)) = true
+is_scalar_name a = false
+
+-- a value is discarded: a name alone is not read, and every other expression is evaluated
+abbrev pub discarded : World → Expr → Meaning
+discarded w a = either_way (is_scalar_name a) Next (λ s. flow_of (eval w a s) (λ v. Next))
+
 -- an effect; the right side of an assignment comes first, then the place of the left, then its number
 abbrev pub affect : World → Effect → Meaning
 affect w (reads xs) s = read_all xs s (λ b. Next)
 affect w (prints ps) s = print_all w ps s
-affect w (evaluates a) s = flow_of (eval w a s) (λ v. Next)
+affect w (evaluates a) s = discarded w a s
 affect w (assigns l a) s = flow_of (eval w a s) (on_number (λ z s. flow_of (reach w l s) (λ at_l s. Next (write_at at_l z s))))
 affect w (updates op ty left_ty at l a) s = flow_of (eval w a s) (on_number (λ y s. flow_of (reach w l s) (λ at_l s.
     flow_of (then_number (read_at (name_place l) at_l s) (λ x s. answered at (operated op ty (converted ty x) y) s)) (on_number (λ z s.
@@ -137,7 +155,8 @@ after_body (Over e s) go = Over e s
 -- at most n turns of a loop; each test takes a step, so n steps and one are enough
 abbrev pub turns : ℕ → (State → (Bool → Meaning) → Flow) → Meaning → Meaning → Meaning
 turns zero check body last s = Over OutOfSteps s
-turns (suc n) check body last s = tick (λ s. check s (λ b. either_way b (λ s. after_body (body s) (λ s. and_then (last s) (turns n check body last))) Next)) s
+turns (suc n) check body last s =
+    tick (λ s. check s (λ b. either_way b (λ s. after_body (body s) (λ s. and_then (last s) (turns n check body last))) Next)) s
 
 -- a loop in a state
 abbrev pub loop : (State → (Bool → Meaning) → Flow) → Meaning → Meaning → Meaning
@@ -155,8 +174,10 @@ hidden_at s at = iterator (slice_index s.iters at)
 -- the element is read into the variable, the body runs, and the first iterator goes up
 abbrev pub over_range : World → Place → ℕ → ℕ → ℕ → ℕ → Meaning → Meaning
 over_range w at name b e x body = loop
-    (λ s go. flow_of (use_library w.lib (asks (compares c.NotEqual) at name) (hidden_at s b ∷ hidden_at s e ∷ []) s) (on_number (λ z. go (not (is_zero z)))))
-    (λ s. flow_of (then_eval (use_library w.lib (asks star at name) (hidden_at s b ∷ []) s) (read_at at)) (on_number (λ z s. body (set_scalar_at x z s))))
+    (λ s go.
+    flow_of (use_library w.lib (asks (compares c.NotEqual) at name) (hidden_at s b ∷ hidden_at s e ∷ []) s) (on_number (λ z. go (not (is_zero z)))))
+    (λ s.
+    flow_of (then_eval (use_library w.lib (asks star at name) (hidden_at s b ∷ []) s) (read_at at)) (on_number (λ z s. body (set_scalar_at x z s))))
     (λ s. flow_of (use_library w.lib (asks up at name) (hidden_at s b ∷ []) s) (on_stamp (λ stamp s. Next (set_iterator_at b stamp s))))
 
 -- the state in which the loop of a range-for over a container's location begins

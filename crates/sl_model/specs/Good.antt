@@ -2,7 +2,7 @@
 -- Restates ISO/IEC 14882:2017, [container.requirements.general] (max_size()) and [basic.scope]: a name that is in scope stands for
 -- something that is there.
 -- Chosen here: stamps are never used twice, and no function is handed one container twice.
-use Rattle.std.specs.Prelude.{◌≡◌, ℕ, ◌<◌, ◌≤◌, List, length, Some, slice_get}
+use Rattle.std.specs.Prelude.{◌≡◌, ◌⊎◌, ℕ, ◌<◌, ◌≤◌, List, length, Some, slice_get}
 use Rattle.sl_base.specs.declared.limits.TheConstants.{ELEMENTS}
 use Rattle.sl_model.specs.Containers.{Cont, Memory, size, stamps, Dropped}
 use Rattle.sl_model.specs.State.{State}
@@ -21,6 +21,14 @@ pub record IsSound (m : Memory) : Type 0 where
   pub dropped : (s site : ℕ) → Dropped m s site → s < m.fresh
   pub dead : (j k s site : ℕ) → IsAt m j k s → Dropped m s site → ⊥
   pub small : (j : ℕ) (c : Cont) → slice_get m.conts j ≡ Some c → size c ≤ ELEMENTS
+
+-- a stamp stands somewhere, or it was dropped at a site
+abbrev pub StandsOrDropped : ℕ → ℕ → Memory → Type 0
+StandsOrDropped site stamp m = ((j : ℕ) × (k : ℕ) × IsAt m j k stamp) ⊎ Dropped m stamp site
+
+-- what stood in a memory stands in a later one, or it was dropped in between, at a site
+abbrev pub NoneVanishes : Memory → ℕ → Memory → Type 0
+NoneVanishes m site later = (j k stamp : ℕ) → IsAt m j k stamp → StandsOrDropped site stamp later
 
 -- each of these is below n
 abbrev pub AreBelow : List ℕ → ℕ → Type 0

@@ -5,7 +5,7 @@
 -- [vector.modifiers] and [sequence.reqmts] (`a.push_back(t)`), [iterator.requirements.general] and [input.iterators] (`*a`).
 -- Chosen here: a vector has a room from the start, and where it grows, its new room is its new size and a pick; an operation
 -- throws where a container would hold more than 1,000,000 elements, which is its max_size() ([vector.capacity]).
-use Rattle.std.specs.Prelude.{ℕ, ◌+◌, ◌==◌, nat_lt, List, [], ◌∷◌, length, ℤ, pos, Option, Some, None, codes, if◌then◌else◌}
+use Rattle.std.specs.Prelude.{ℕ, ◌+◌, ◌==◌, nat_lt, Bool, true, false, List, [], ◌∷◌, length, ℤ, pos, Option, Some, None, codes, if◌then◌else◌}
 use Rattle.sl_base.specs.declared.form.Form.{Form}
 use Rattle.sl_base.specs.declared.form.Form.TheVariants as f
 use Rattle.sl_base.specs.declared.limits.TheConstants.{ELEMENTS}
@@ -14,7 +14,7 @@ use Rattle.sl_syntax.specs.View.{vector_row, begin_row, push_back_row}
 use Rattle.sl_model.specs.Containers.{Cont, Memory, size, begin_of, key_part}
 use Rattle.sl_model.specs.Schedule.{pick}
 use Rattle.sl_model.specs.Edits.{Edit, Class, Nothing, VectorInsert}
-use Rattle.sl_model.specs.Values.{Value, nothing, iterator, element_at}
+use Rattle.sl_model.specs.Values.{Value, nothing, iterator, element_at, Shape, no_value, a_stamp, an_element}
 use Rattle.sl_model.specs.Situation.{Situation, own, own_size, place_of, number_of}
 use Rattle.sl_model.specs.Needs.{Need, Dereferenceable}
 
@@ -32,7 +32,7 @@ pub data Effect : Type 0 where
   edits : ℕ → Edit → Effect
 
 -- a row: its name, the form of its object, if it has one, the sorts of its operands, its needs, its class, its effect, and
--- what it gives in the memory after it
+-- what it gives in the memory after it, of which shape, and whether it makes a container
 pub record Row : Type 0 where
   pub name : List ℕ
   pub object : Option Form
@@ -41,6 +41,8 @@ pub record Row : Type 0 where
   pub class : Class
   pub effect : Situation → Effect
   pub result : Situation → Memory → Value
+  pub shape : Shape
+  pub makes_one : Bool
 
 -- the room of a vector into which n elements come
 abbrev pub grown_room : Cont → ℕ → List ℕ → ℕ
@@ -78,6 +80,8 @@ make = record {
   class = Nothing;
   effect = λ s. makes 1 f.Vector (pick s.picks);
   result = λ s m. nothing;
+  shape = no_value;
+  makes_one = true;
 }
 
 -- begin()
@@ -90,6 +94,8 @@ begin = record {
   class = Nothing;
   effect = λ s. keeps;
   result = λ s m. iterator (begin_of m s.object);
+  shape = a_stamp;
+  makes_one = false;
 }
 
 -- push_back(x)
@@ -102,6 +108,8 @@ push_back = record {
   class = VectorInsert;
   effect = λ s. inserts s (own_size s) ((number_of s 1, pos 0) ∷ []);
   result = λ s m. nothing;
+  shape = no_value;
+  makes_one = false;
 }
 
 -- *it
@@ -114,12 +122,22 @@ dereference = record {
   class = Nothing;
   effect = λ s. keeps;
   result = λ s m. int_at (place_of s 1);
+  shape = an_element;
+  makes_one = false;
 }
+
+-- the rows that have numbers
+abbrev pub table : List (ℕ × Row)
+table = (vector_row, make) ∷ (begin_row, begin) ∷ (push_back_row, push_back) ∷ []
+
+-- the first of these rows with a number
+abbrev pub row_in : List (ℕ × Row) → ℕ → Option Row
+row_in [] n = None
+row_in (x ∷ xs) n = if n == x.0 then Some x.1 else row_in xs n
 
 -- the row with a number
 abbrev pub row_numbered : ℕ → Option Row
-row_numbered n =
-    if n == vector_row then Some make else if n == begin_row then Some begin else if n == push_back_row then Some push_back else None
+row_numbered n = row_in table n
 
 -- the row of an operator
 abbrev pub row_of_operator : Operator → Option Row

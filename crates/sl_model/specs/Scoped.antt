@@ -9,9 +9,16 @@
 -- container is handed to two parameters of one call.
 use Rattle.std.specs.Prelude.{◌≡◌, ℕ, ◌+◌, ◌<◌, Bool, true, false, List, [], ◌∷◌, Option, Some, None, slice_get}
 use Rattle.sl_syntax.specs.declared.operator.Comparison.TheVariants as comparisons
-use Rattle.sl_syntax.specs.Typed.{Callee, Head, hidden, up, star, compares, Expr, literal, held, iterator as iterator_held, convert, negate, logical_not, logical_and, logical_or, arithmetic, comparison, increment, move, call, own_call, first, second, container, reference, Left, scalar, element, Operands, none, with, Cond, read, not_read, test, always, Printed, text, endline, number as printed_number, Effect, reads, prints, evaluates, assigns, updates, moves_to, Declaration, unset_scalar, set_scalar, set_iterator, makes, First, no_first, declares_first, does_first, Stmt, block, declares, choice, choice_else, while, for, range_for, break, continue, gives_back, does, Stmts, no_more, followed, Kind, by_value, by_reference, a_container, an_iterator, Function, Typed}
+use Rattle.sl_syntax.specs.Typed.{Callee, Head, hidden, up, star, compares, Expr, literal, held, iterator as iterator_held, convert, negate}
+use Rattle.sl_syntax.specs.Typed.{logical_not, logical_and, logical_or, arithmetic, comparison, increment, move, call, own_call, first, second}
+use Rattle.sl_syntax.specs.Typed.{container, reference, Left, scalar, element, Operands, none, with, Cond, read, not_read, test, always, Printed}
+use Rattle.sl_syntax.specs.Typed.{text, endline, number as printed_number, Effect, reads, prints, evaluates, assigns, updates, moves_to, Declaration}
+use Rattle.sl_syntax.specs.Typed.{unset_scalar, set_scalar, set_iterator, makes, First, no_first, declares_first, does_first, Stmt, block, declares}
+use Rattle.sl_syntax.specs.Typed.{choice, choice_else, while, for, range_for, break, continue, gives_back, does, Stmts, no_more, followed, Kind}
+use Rattle.sl_syntax.specs.Typed.{by_value, by_reference, a_container, an_iterator, Function, Typed}
 use Rattle.sl_model.specs.Good.{AreBelow, AreApart}
-use Rattle.sl_model.specs.Shapes.{Shape, no_value, a_number, a_stamp, a_pair, an_element, Gift, a_value, Signature, shape_of_result, gift_of, gifts_of, AllSuit, containers_in, signature_of}
+use Rattle.sl_model.specs.Shapes.{Shape, no_value, a_number, a_stamp, a_pair, an_element, Gift, a_value, Signature, shape_of_result, gift_of}
+use Rattle.sl_model.specs.Shapes.{gifts_of, AllSuit, containers_in, signature_of}
 
 -- how many variables of each sort are in scope
 pub record Counts : Type 0 where
@@ -173,7 +180,8 @@ abbrev mutual
   InStmt g shape c (choice k a) = InCond g c k × (IsPart a × InStmt g shape c a)
   InStmt g shape c (choice_else k a b) = InCond g c k × ((IsPart a × InStmt g shape c a) × (IsPart b × InStmt g shape c b))
   InStmt g shape c (while k a) = InCond g c k × (IsPart a × InStmt g shape c a)
-  InStmt g shape c (for head k last a) = InFirst g c head × (InCond g (with_first head c) k × (InLast g (with_first head c) last × (IsPart a × InStmt g shape (with_first head c) a)))
+  InStmt g shape c (for head k last a) = InFirst g c head × (InCond g (with_first head c) k
+      × (InLast g (with_first head c) last × (IsPart a × InStmt g shape (with_first head c) a)))
   InStmt g shape c (range_for x at name a) = (x < c.conts) × (AsksWell g × (IsPart a × InStmt g shape (with_range c) a))
   InStmt g shape c break = Unit {0}
   InStmt g shape c continue = Unit {0}

@@ -5,21 +5,14 @@
 -- [iterator.requirements.general].
 -- Chosen here: types are told apart as far as their values are, so all types of numbers have one shape. For a call of the
 -- library, the shape goes by what is called, and so does whether it makes a container.
-use Rattle.std.specs.Prelude.{◌≡◌, ℕ, ◌==◌, Bool, false, List, [], ◌∷◌, ◌++◌, Option, Some, None, slice_get, if◌then◌else◌}
-use Rattle.sl_syntax.specs.Typed.{Operator, star, arrow_first, arrow_second, up, down, plus, minus, plus_assign, minus_assign, apart, compares, Callee, row, operator, hidden, Expr, iterator as iterator_held, move, call, own_call, first, container, reference, Operands, none, with, Kind, by_value, by_reference, a_container, an_iterator, Function, Typed}
-use Rattle.sl_syntax.specs.View.{vector_row, begin_row}
+use Rattle.std.specs.Prelude.{◌≡◌, ℕ, Bool, false, List, [], ◌∷◌, ◌++◌, Option, Some, None, slice_get}
+use Rattle.sl_syntax.specs.Typed.{Operator, star, arrow_first, arrow_second, up, down, plus, minus, plus_assign, minus_assign, apart, compares}
+use Rattle.sl_syntax.specs.Typed.{Callee, row, operator, hidden, Expr, iterator as iterator_held, move, call, own_call, first, container, reference}
+use Rattle.sl_syntax.specs.Typed.{Operands, none, with, Kind, by_value, by_reference, a_container, an_iterator, Function, Typed}
 use Rattle.sl_model.specs.Values.{Value, nothing, number, iterator, pair, scalar_at, container_at, element_at}
 use Rattle.sl_model.specs.State.{Frame}
-
--- what shape a value has
-pub data Shape : Type 0 where
-  no_value : Shape
-  a_number : Shape
-  -- an iterator
-  a_stamp : Shape
-  a_pair : Shape
-  -- the place of an element
-  an_element : Shape
+use Rattle.sl_model.specs.Rows.{Row, row_numbered}
+pub use Rattle.sl_model.specs.Values.{Shape, no_value, a_number, a_stamp, a_pair, an_element}
 
 -- what an expression gives: a value of a shape, or a variable by its number
 pub data Gift : Type 0 where
@@ -114,19 +107,25 @@ shape_of_operator minus_assign = a_stamp
 shape_of_operator apart = a_number
 shape_of_operator (compares c) = a_number
 
--- the shape of what a row gives
-abbrev pub shape_of_row : ℕ → Shape
-shape_of_row n = if n == vector_row then no_value else if n == begin_row then a_stamp else no_value
+-- the shape of what a row gives, if it is there
+abbrev pub shape_of_row : Option Row → Shape
+shape_of_row None = no_value
+shape_of_row (Some r) = r.shape
+
+-- a row, if it is there, makes a container
+abbrev pub row_makes : Option Row → Bool
+row_makes None = false
+row_makes (Some r) = r.makes_one
 
 -- the shape of what a call of the library gives
 abbrev pub lib_shape : Callee → Shape
-lib_shape (row n) = shape_of_row n
+lib_shape (row n) = shape_of_row (row_numbered n)
 lib_shape (operator o) = shape_of_operator o
 lib_shape (hidden o) = shape_of_operator o
 
 -- a call of the library makes a container
 abbrev pub lib_makes : Callee → Bool
-lib_makes (row n) = n == vector_row
+lib_makes (row n) = row_makes (row_numbered n)
 lib_makes (operator o) = false
 lib_makes (hidden o) = false
 

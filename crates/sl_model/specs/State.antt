@@ -49,7 +49,10 @@ scalar_value s at = elim (slice_get s.scalars at) [ None ↦ None | Some x ↦ x
 
 -- a scalar takes a number
 abbrev pub set_scalar_at : ℕ → ℤ → State → State
-set_scalar_at at z s = elim (slice_get s.scalars at) [ None ↦ s | Some x ↦ record s { scalars = slice_set s.scalars at (record x { value = Some z }) } ]
+set_scalar_at at z s = elim (slice_get s.scalars at) [
+  | None ↦ s
+  | Some x ↦ record s { scalars = slice_set s.scalars at (record x { value = Some z }) }
+]
 
 -- an iterator takes a stamp
 abbrev pub set_iterator_at : ℕ → ℕ → State → State

@@ -1,7 +1,9 @@
--- The text of a refusal, and that of a report, in bytes: a line for each warning and a last line with their count, or the one line of a text that passed.
+-- The text of a refusal, and that of a report, in bytes: a line for each warning and a last line with their count, or the one
+-- line of a text that passed.
 -- No standard says any of it; all of it is chosen here. A warning's line is `NAME:L:C: KIND in CALL: WHO`, and behind it for an
 -- invalid iterator the places at which it may have been invalidated, in the order of their sites.
-use Rattle.std.specs.Prelude.{ℕ, ◌==◌, nat_eq, Bool, List, [], ◌∷◌, ◌++◌, length, Option, Some, None, slice_get, slice_index_or, codes, decimal, if◌then◌else◌}
+use Rattle.std.specs.Prelude.{ℕ, ◌==◌, nat_eq, Bool, List, [], ◌∷◌, ◌++◌, length, Option, Some, None, slice_get, slice_index_or, codes, decimal}
+use Rattle.std.specs.Prelude.{if◌then◌else◌}
 use Rattle.std.specs.Cmp.Lexicographic.{pointwise}
 use Rattle.std.specs.List.{flat_map}
 use Rattle.sl_base.specs.declared.failures.TheConstants.{INVALID_ITERATOR}
@@ -79,4 +81,5 @@ report_text file sites (w ∷ ws) = flat_map (warning_line file sites) (w ∷ ws
 
 -- the line of a text that is refused at a place, with the words that say why
 abbrev pub refusal_line : List ℕ → Place → List ℕ → List ℕ
-refusal_line file place why = file ++ (codes ":" ++ (decimal place.line ++ (codes ":" ++ (decimal place.col ++ (codes ": refused: " ++ (why ++ 10 ∷ []))))))
+refusal_line file place why =
+    file ++ (codes ":" ++ (decimal place.line ++ (codes ":" ++ (decimal place.col ++ (codes ": refused: " ++ (why ++ 10 ∷ []))))))

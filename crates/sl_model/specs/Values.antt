@@ -18,6 +18,16 @@ pub data Value : Type 0 where
   -- a number of the element at an index of a container
   element_at : ℕ → ℕ → Part → Value
 
+-- what shape a value has
+pub data Shape : Type 0 where
+  no_value : Shape
+  a_number : Shape
+  -- an iterator
+  a_stamp : Shape
+  a_pair : Shape
+  -- the place of an element
+  an_element : Shape
+
 -- a call's site, its object's location and its other operands
 pub record Args : Type 0 where
   pub site : ℕ

@@ -1,9 +1,5 @@
-pub mod NameLaws
+-- ## Views and heights of trees
 pub mod Views
-pub mod Fuel
-pub mod RepeatLaws
-pub mod ListLaws
-pub mod CallLaws
-pub mod ExprLaws
+-- ## Statements and programs
 pub mod StatementLaws
 pub mod ParseLaws

@@ -1,7 +1,2 @@
-pub mod Nests
-pub mod Names
-pub mod Reader
-pub mod StatementViews
-pub mod EffectViews
-pub mod DeclarationViews
-pub mod FunctionViews
+-- What the parser promises, `parse` says in the words of sl_syntax. Here stands only what its private contracts say.
+pub mod Means

@@ -1,15 +1,14 @@
 //! The type of a container.
-ghost use Rattle.sl_grammar.specs.Steps.{Reads};
-ghost use Rattle.sl_grammar.specs.Declarations.{elements_by};
-ghost use Rattle.sl_parser.specs.Reader as spec;
+ghost use Rattle.sl_grammar.specs.Means.Steps.{Reads};
+ghost use Rattle.sl_grammar.specs.Means.Declarations.{elements_by};
+ghost use Rattle.sl_parser.specs.Means.Reader as spec;
 
-use crate::tokens::Tokens;
 use sl_base::{Form, Mark, Scalar};
-use sl_grammar::Fault;
-use sl_syntax::{ContainerType, Kind};
+use sl_grammar::{Fault, Tokens};
+use sl_syntax::{ContainerType, TokenKind};
 
 /// The type of a container of this form, at its first token.
-#[tactic(auto, unfolding(crate::specs::Reader::container_type))]
+#[tactic(auto, unfolding(crate::specs::Means::Reader::container_type))]
 pub fn container_type(tokens: &mut Tokens<'_>, form: Form) -> Result<ContainerType, Fault>
     ensures { Reads (λ x. x) (spec.container_type form tokens.old) result tokens.new }
 {
@@ -35,12 +34,12 @@ fn elements(tokens: &mut Tokens<'_>, values: bool) -> Result<(), Fault>
 }
 
 // `int`
-#[tactic(auto, unfolding(crate::specs::Reader::int))]
+#[tactic(auto, unfolding(crate::specs::Means::Reader::int))]
 fn int(tokens: &mut Tokens<'_>) -> Result<(), Fault>
     ensures { Reads (λ x. x) (spec.int tokens.old) result tokens.new }
 {
     match tokens.kind() {
-        Kind::Scalar(Scalar::Int) => {
+        TokenKind::Scalar(Scalar::Int) => {
             tokens.skip();
             Ok(())
         }

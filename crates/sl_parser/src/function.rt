@@ -1,106 +1,85 @@
 //! Functions.
-ghost use Rattle.std.specs.Prelude.{◌≡◌, ◌≤◌, map, length, IfOk};
-ghost use Rattle.sl_base.specs.declared.limits.TheConstants.{TREE_DEPTH};
-ghost use Rattle.sl_syntax.specs.TreeView.{function_of};
-ghost use Rattle.sl_grammar.specs.Statements as steps;
-ghost use Rattle.sl_grammar.specs.Steps.{Reads};
-ghost use Rattle.sl_parser.specs.FunctionViews.{tall_function, tall_functions};
-ghost use Rattle.sl_parser.specs.Reader as spec;
+ghost use Rattle.std.specs.Prelude.{◌≡◌, length};
+ghost use Rattle.sl_grammar.specs.Means.Statements as steps;
+ghost use Rattle.sl_grammar.specs.Means.Steps.{Reads};
+ghost use Rattle.sl_parser.specs.Means.FunctionViews.{tall_function, tall_functions};
+ghost use Rattle.sl_parser.specs.Means.Reader as spec;
 
 use crate::params::params;
 use crate::statement::braced;
-use crate::tokens::Tokens;
 use sl_base::Mark;
 use sl_base::limits::TREE_DEPTH;
-use sl_grammar::Fault;
-use sl_syntax::{Function, Kind, ResultType};
+use sl_grammar::{Fault, Tokens};
+use sl_syntax::{Function, ResultType, TokenKind};
 use std::alloc::Global;
 
-/// The functions up to the last token, at least one, and the height of the highest.
-#[tactic(auto, unfolding(crate::specs::Reader::program))]
-pub fn functions(alloc: Global, tokens: &mut Tokens<'_>) -> Result<(Vec<Function>, usize), Fault>
-    ensures reads { Reads tall_functions (spec.program tokens.old) result tokens.new }
-    ensures low { IfOk result (λ x. x.1 ≤ TREE_DEPTH) }
+/// The functions up to the last token, at least one.
+#[tactic(auto, using(sl_expressions::proofs::Heights::one_alone), unfolding(crate::specs::Means::Reader::program))]
+pub fn functions(alloc: Global, tokens: &mut Tokens<'_>) -> Result<Vec<Function>, Fault>
+    ensures { Reads tall_functions (spec.program tokens.old) result tokens.new }
 {
-    let (first, height) = function(alloc, tokens)?;
+    let first = function(alloc, tokens)?;
     let mut list = Vec::new(alloc);
     list.push(first)?;
-    others(alloc, tokens, list, height)
+    others(alloc, tokens, list)
 }
 
 // The functions behind those that are there.
-#[tactic(auto, unfolding(crate::specs::Reader::repeat))]
+#[tactic(auto, unfolding(crate::specs::Means::Reader::repeat))]
 fn others(
     alloc: Global,
     tokens: &mut Tokens<'_>,
     mut list: Vec<Function>,
-    mut height: usize,
-) -> Result<(Vec<Function>, usize), Fault>
-    requires { height ≤ TREE_DEPTH }
-    ensures reads { Reads tall_functions (spec.repeat steps.is_more spec.function (length tokens.old) (map function_of list.items, height) tokens.old) result tokens.new }
-    ensures low { IfOk result (λ x. x.1 ≤ TREE_DEPTH) }
+) -> Result<Vec<Function>, Fault>
+    ensures { Reads tall_functions
+        (spec.repeat steps.is_more spec.function (length tokens.old) (tall_functions list) tokens.old)
+        result tokens.new }
 {
     for _turn in 0..tokens.left() {
-        if is_end(tokens.kind()) {
-            return Ok((list, height));
+        if tokens.sees_end() {
+            return Ok(list);
         }
-        let (next, other) = function(alloc, tokens)?;
+        let next = function(alloc, tokens)?;
         list.push(next)?;
-        height = height.max(other);
     }
-    if is_end(tokens.kind()) {
-        return Ok((list, height));
+    if tokens.sees_end() {
+        return Ok(list);
     }
     Err(tokens.refuse())
 }
 
-// No word is left.
-fn is_end(kind: Kind) -> bool
-    ensures { result ≡ steps.is_end kind }
-{
-    match kind {
-        Kind::End => true,
-        _ => false,
-    }
-}
-
-#[tactic(auto, unfolding(crate::specs::Reader::function))]
-fn function(alloc: Global, tokens: &mut Tokens<'_>) -> Result<(Function, usize), Fault>
-    ensures reads { Reads tall_function (spec.function tokens.old) result tokens.new }
-    ensures low { IfOk result (λ x. x.1 ≤ TREE_DEPTH) }
+#[tactic(auto, unfolding(crate::specs::Means::Reader::function))]
+fn function(alloc: Global, tokens: &mut Tokens<'_>) -> Result<Function, Fault>
+    ensures { Reads tall_function (spec.function tokens.old) result tokens.new }
 {
     match tokens.kind() {
-        Kind::Void => function_behind(alloc, tokens, ResultType::Void),
-        Kind::Scalar(scalar) => function_behind(alloc, tokens, ResultType::Scalar(scalar)),
+        TokenKind::Void => function_behind(alloc, tokens, ResultType::Void),
+        TokenKind::Scalar(scalar) => function_behind(alloc, tokens, ResultType::Scalar(scalar)),
         _ => Err(tokens.refuse()),
     }
 }
 
 // A function, whose first word is this type.
-#[tactic(auto, unfolding(crate::specs::Reader::function_behind))]
+#[tactic(auto, unfolding(crate::specs::Means::Reader::function_behind))]
 fn function_behind(
     alloc: Global,
     tokens: &mut Tokens<'_>,
     gives: ResultType,
-) -> Result<(Function, usize), Fault>
-    ensures reads { Reads tall_function (spec.function_behind gives tokens.old) result tokens.new }
-    ensures low { IfOk result (λ x. x.1 ≤ TREE_DEPTH) }
+) -> Result<Function, Fault>
+    ensures { Reads tall_function (spec.function_behind gives tokens.old) result tokens.new }
 {
     let place = tokens.place();
     tokens.skip();
     let name = tokens.identifier()?;
     tokens.mark(Mark::LeftParenthesis)?;
-    let (params, height) = params(alloc, tokens)?;
+    let params = params(alloc, tokens)?;
     tokens.mark(Mark::RightParenthesis)?;
-    let (body, other) = braced(alloc, tokens, TREE_DEPTH - 2)?;
-    Ok((
-        Function {
-            place,
-            result: gives,
-            name,
-            params,
-            body,
-        },
-        height.max(other) + 1,
-    ))
+    let body = braced(alloc, tokens, TREE_DEPTH - 2)?;
+    Ok(Function {
+        place,
+        result: gives,
+        name,
+        params,
+        body,
+    })
 }

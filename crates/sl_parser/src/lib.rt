@@ -3,14 +3,11 @@
 
 mod container;
 mod declaration;
-mod effect;
 mod error;
-mod expression;
 mod function;
 mod params;
 mod program;
 mod statement;
-mod tokens;
 
 pub use error::ParseErr;
 pub use program::parse;

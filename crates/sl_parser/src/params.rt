@@ -1,148 +1,122 @@
 //! Parameters.
-ghost use Rattle.std.specs.Prelude.{◌≡◌, ◌≤◌, length, IfOk};
+ghost use Rattle.std.specs.Prelude.{◌≡◌, length};
 ghost use Rattle.sl_base.specs.declared.mark.Mark.TheVariants as m;
-ghost use Rattle.sl_grammar.specs.Steps.{Reads, is_mark, kind_at};
-ghost use Rattle.sl_grammar.specs.Declarations.{comma_param, container_by};
-ghost use Rattle.sl_parser.specs.DeclarationViews.{tall_params};
-ghost use Rattle.sl_parser.specs.Reader as spec;
+ghost use Rattle.sl_grammar.specs.Means.Steps.{Reads, is_mark, kind_at};
+ghost use Rattle.sl_grammar.specs.Means.Declarations.{comma_param, container_by};
+ghost use Rattle.sl_parser.specs.Means.DeclarationViews.{tall_param, tall_params};
+ghost use Rattle.sl_parser.specs.Means.Reader as spec;
 
 use crate::container::container_type;
-use crate::tokens::Tokens;
 use sl_base::{Form, Mark, Place, Scalar};
-use sl_grammar::Fault;
-use sl_syntax::{ContainerType, Kind, Param};
+use sl_grammar::{Fault, Tokens};
+use sl_syntax::{ContainerType, Param, TokenKind};
 use std::alloc::Global;
 
-/// The parameters before a `)`, and their greatest height.
-#[tactic(auto, unfolding(crate::specs::Reader::params))]
-pub fn params(alloc: Global, tokens: &mut Tokens<'_>) -> Result<(Vec<Param>, usize), Fault>
-    ensures reads { Reads tall_params (spec.params tokens.old) result tokens.new }
-    ensures low { IfOk result (λ x. x.1 ≤ 2) }
+/// The parameters before a `)`.
+#[tactic(auto, using(sl_expressions::proofs::Heights::one_alone), unfolding(crate::specs::Means::Reader::params))]
+pub fn params(alloc: Global, tokens: &mut Tokens<'_>) -> Result<Vec<Param>, Fault>
+    ensures { Reads tall_params (spec.params tokens.old) result tokens.new }
 {
     let mut list = Vec::new(alloc);
     if tokens.sees(Mark::RightParenthesis) {
-        return Ok((list, 0));
+        return Ok(list);
     }
-    let (first, height) = param(tokens)?;
+    let first = param(tokens)?;
     list.push(first)?;
-    others(tokens, list, height)
+    others(tokens, list)
 }
 
-// The parameters behind those that are there, and the greatest height of all.
-fn others(
-    tokens: &mut Tokens<'_>,
-    mut list: Vec<Param>,
-    mut height: usize,
-) -> Result<(Vec<Param>, usize), Fault>
-    requires low { height ≤ 2 }
-    ensures reads { Reads tall_params (spec.repeat (is_mark m.Comma) comma_param (length tokens.old) (list.items, height) tokens.old) result tokens.new }
-    ensures low { IfOk result (λ x. x.1 ≤ 2) }
+// The parameters behind those that are there.
+fn others(tokens: &mut Tokens<'_>, mut list: Vec<Param>) -> Result<Vec<Param>, Fault>
+    ensures { Reads tall_params
+        (spec.repeat (is_mark m.Comma) comma_param (length tokens.old) (tall_params list) tokens.old)
+        result tokens.new }
 {
     for _turn in 0..tokens.left() {
         if !tokens.sees(Mark::Comma) {
-            return Ok((list, height));
+            return Ok(list);
         }
-        let (next, other) = other(tokens)?;
+        let next = other(tokens)?;
         list.push(next)?;
-        height = height.max(other);
     }
     if tokens.sees(Mark::Comma) {
         return Err(tokens.refuse());
     }
-    Ok((list, height))
+    Ok(list)
 }
 
 // A comma, and a parameter.
-fn other(tokens: &mut Tokens<'_>) -> Result<(Param, usize), Fault>
-    ensures reads { Reads (λ x. x) (comma_param tokens.old) result tokens.new }
-    ensures low { IfOk result (λ x. x.1 ≤ 2) }
+fn other(tokens: &mut Tokens<'_>) -> Result<Param, Fault>
+    ensures { Reads tall_param (comma_param tokens.old) result tokens.new }
 {
     tokens.mark(Mark::Comma)?;
     param(tokens)
 }
 
-// A parameter, and its height.
-#[tactic(auto, unfolding(crate::specs::Reader::param))]
-fn param(tokens: &mut Tokens<'_>) -> Result<(Param, usize), Fault>
-    ensures reads { Reads (λ x. x) (spec.param tokens.old) result tokens.new }
-    ensures low { IfOk result (λ x. x.1 ≤ 2) }
+#[tactic(auto, unfolding(crate::specs::Means::Reader::param))]
+fn param(tokens: &mut Tokens<'_>) -> Result<Param, Fault>
+    ensures { Reads tall_param (spec.param tokens.old) result tokens.new }
 {
     match tokens.kind() {
-        Kind::Scalar(scalar) => {
+        TokenKind::Scalar(scalar) => {
             let place = tokens.place();
             tokens.skip();
             scalar_param(tokens, place, scalar)
         }
-        Kind::Container(form) => container_param(tokens, form),
-        Kind::Const => const_param(tokens),
+        TokenKind::Container(form) => container_param(tokens, form),
+        TokenKind::Const => const_param(tokens),
         _ => Err(tokens.refuse()),
     }
 }
 
 // What stands behind the type of a number: a name, with `&` before it where the parameter is a reference.
-#[tactic(auto, unfolding(crate::specs::Reader::scalar_param))]
-fn scalar_param(
-    tokens: &mut Tokens<'_>,
-    place: Place,
-    scalar: Scalar,
-) -> Result<(Param, usize), Fault>
-    ensures reads { Reads (λ x. x) (spec.scalar_param place scalar tokens.old) result tokens.new }
-    ensures low { IfOk result (λ x. x.1 ≤ 2) }
+#[tactic(auto, unfolding(crate::specs::Means::Reader::scalar_param))]
+fn scalar_param(tokens: &mut Tokens<'_>, place: Place, scalar: Scalar) -> Result<Param, Fault>
+    ensures { Reads tall_param (spec.scalar_param place scalar tokens.old) result tokens.new }
 {
     if tokens.sees(Mark::And) {
         tokens.skip();
         let name = tokens.identifier()?;
-        return Ok((
-            Param::Reference {
-                place,
-                scalar,
-                name,
-            },
-            1,
-        ));
-    }
-    let name = tokens.identifier()?;
-    Ok((
-        Param::Value {
+        return Ok(Param::Reference {
             place,
             scalar,
             name,
-        },
-        1,
-    ))
+        });
+    }
+    let name = tokens.identifier()?;
+    Ok(Param::Value {
+        place,
+        scalar,
+        name,
+    })
 }
 
 // A container that may be changed.
-#[tactic(auto, unfolding(crate::specs::Reader::container_param))]
-fn container_param(tokens: &mut Tokens<'_>, form: Form) -> Result<(Param, usize), Fault>
-    ensures reads { Reads (λ x. x) (spec.container_param form tokens.old) result tokens.new }
-    ensures low { IfOk result (λ x. x.1 ≤ 2) }
+#[tactic(auto, unfolding(crate::specs::Means::Reader::container_param))]
+fn container_param(tokens: &mut Tokens<'_>, form: Form) -> Result<Param, Fault>
+    ensures { Reads tall_param (spec.container_param form tokens.old) result tokens.new }
 {
     let container = container_type(tokens, form)?;
     tokens.mark(Mark::And)?;
     let name = tokens.identifier()?;
-    Ok((Param::Container { container, name }, 2))
+    Ok(Param::Container { container, name })
 }
 
 // A container that may not be changed.
-#[tactic(auto, unfolding(crate::specs::Reader::const_param))]
-fn const_param(tokens: &mut Tokens<'_>) -> Result<(Param, usize), Fault>
-    ensures reads { Reads (λ x. x) (spec.const_param tokens.old) result tokens.new }
-    ensures low { IfOk result (λ x. x.1 ≤ 2) }
+#[tactic(auto, unfolding(crate::specs::Means::Reader::const_param))]
+fn const_param(tokens: &mut Tokens<'_>) -> Result<Param, Fault>
+    ensures { Reads tall_param (spec.const_param tokens.old) result tokens.new }
 {
     let place = tokens.place();
     tokens.skip();
     let container = container(tokens)?;
     tokens.mark(Mark::And)?;
     let name = tokens.identifier()?;
-    Ok((
-        Param::ConstContainer {
-            place,
-            container,
-            name,
-        },
-        2,
-    ))
+    Ok(Param::ConstContainer {
+        place,
+        container,
+        name,
+    })
 }
 
 // The type of a container of any form.
@@ -150,7 +124,7 @@ fn container(tokens: &mut Tokens<'_>) -> Result<ContainerType, Fault>
     ensures { Reads (λ x. x) (container_by (kind_at tokens.old) tokens.old) result tokens.new }
 {
     match tokens.kind() {
-        Kind::Container(form) => container_type(tokens, form),
+        TokenKind::Container(form) => container_type(tokens, form),
         _ => Err(tokens.refuse()),
     }
 }

@@ -1,5 +1,6 @@
 -- Where words stop beginning what is whole.
-use Rattle.std.proofs.Common.{◌≡◌, ℕ, ◌+◌, ◌<◌, ◌≤◌, ◌⊎◌, inl, inr, List, [], ◌∷◌, ◌++◌, length, take, drop, sym, ap, ◌∙◌, subst, append_assoc, arith, length-append}
+use Rattle.std.proofs.Common.{◌≡◌, ℕ, ◌+◌, ◌<◌, ◌≤◌, ◌⊎◌, inl, inr, List, [], ◌∷◌, ◌++◌, length, take, drop, sym, ap, ◌∙◌, subst, append_assoc, arith}
+use Rattle.std.proofs.Common.{length-append}
 use Rattle.std.proofs.lemmas.Bool.{cases_lt}
 use Rattle.std.proofs.lemmas.List.{take-append-drop, take-append-le, length-take-le}
 use Rattle.std.proofs.Math.Seq.{take-append-add}
@@ -52,7 +53,8 @@ behind_front P Q front ws k joined parted stops = record {
   behind = λ h begins.
       let n : length front + k + 1 ≡ length front + (k + 1) = omega arith in
       let e : take (length front + k + 1) (front ++ ws) ++ begins.0 ≡ front ++ (take (k + 1) ws ++ begins.0) =
-      ap (λ m. take m (front ++ ws) ++ begins.0) n ∙ ap (λ l. l ++ begins.0) (take-append-add front ws (k + 1)) ∙ append_assoc front (take (k + 1) ws) begins.0 in
+      ap (λ m. take m (front ++ ws) ++ begins.0) n ∙ ap (λ l. l ++ begins.0) (take-append-add front ws (k + 1))
+      ∙ append_assoc front (take (k + 1) ws) begins.0 in
       stops.behind (omega (arith, length-append front ws)) (begins.0, parted (take (k + 1) ws ++ begins.0) (subst P e begins.1));
   ends = λ e whole. stops.ends (omega (arith, length-append front ws)) (parted ws whole);
 }

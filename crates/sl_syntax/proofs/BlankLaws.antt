@@ -1,5 +1,6 @@
 -- A blank tree has the words of the tree, and is written by any tokens of those words that all stand at the one place.
-use Rattle.std.proofs.Common.{◌≡◌, refl, ap, subst, sym, ◌∙◌, Bool, true, false, List, [], ◌∷◌, ◌++◌, map, flat_map, Option, Some, None, option_map, codes}
+use Rattle.std.proofs.Common.{◌≡◌, refl, ap, subst, sym, ◌∙◌, Bool, true, false, List, [], ◌∷◌, ◌++◌, map, flat_map, Option, Some, None, option_map}
+use Rattle.std.proofs.Common.{codes}
 use Rattle.std.proofs.lemmas.List.{map-append, append-nil}
 use Rattle.sl_base.specs.declared.mark.Mark.TheVariants as m
 use Rattle.sl_base.specs.declared.place.Place.{Place}
@@ -12,10 +13,15 @@ use Rattle.sl_syntax.specs.declared.tree.function.Param.TheVariants as r
 use Rattle.sl_syntax.specs.declared.tree.identifier.Identifier.{Identifier}
 use Rattle.sl_syntax.specs.Tree as t
 use Rattle.sl_syntax.specs.Tree.{Expr, Exprs, Initializer, Declaration, Out, Effect, Cond, First, Stmt, Item, Items, Function, Program}
-use Rattle.sl_syntax.specs.Blank.{nowhere, blank_token, blank_identifier, blank_container, blank_expr, blank_exprs, blank_initializer, blank_declaration, blank_read, blank_out, blank_effect, blank_cond, blank_first, blank_stmt, blank_item, blank_items, blank_param, blank_function, blank}
+use Rattle.sl_syntax.specs.Blank.{nowhere, blank_token, blank_identifier, blank_container, blank_expr, blank_exprs, blank_initializer}
+use Rattle.sl_syntax.specs.Blank.{blank_declaration, blank_read, blank_out, blank_effect, blank_cond, blank_first, blank_stmt, blank_item}
+use Rattle.sl_syntax.specs.Blank.{blank_items, blank_param, blank_function, blank}
 use Rattle.sl_syntax.specs.Placed.{Spells, Placed}
 use Rattle.sl_syntax.specs.Shaped.{Each}
-use Rattle.sl_syntax.specs.Written.{Written, at, plain, mark, named, from_place, form_word, is_map, elements_written, result_word, container_written, written, list_written, rest_written, initializer_written, declaration_written, out_written, read_written, effect_written, cond_written, first_written, option_written, tested, stmt_written, item_written, items_written, param_written, params_written, function_written, program_written, words_of, words}
+use Rattle.sl_syntax.specs.Written.{Written, at, plain, mark, named, from_place, form_word, is_map, elements_written, result_word, container_written}
+use Rattle.sl_syntax.specs.Written.{written, list_written, rest_written, initializer_written, declaration_written, out_written, read_written}
+use Rattle.sl_syntax.specs.Written.{effect_written, cond_written, first_written, option_written, tested, stmt_written, item_written, items_written}
+use Rattle.sl_syntax.specs.Written.{param_written, params_written, function_written, program_written, words_of, words}
 
 -- the same word, each place that is told of it the one place
 abbrev pub blank_written : Written → Written
@@ -81,7 +87,8 @@ blank-out_written (t.end_line place) = refl
 blank-out_written (t.value x) = blank-written x
 
 read_from : (xs : List Identifier)
-    → flat_map (λ x. mark m.ShiftRight ∷ named x ∷ []) (map blank_identifier xs) ≡ map blank_written (flat_map (λ x. mark m.ShiftRight ∷ named x ∷ []) xs)
+    → flat_map (λ x. mark m.ShiftRight ∷ named x ∷ []) (map blank_identifier xs)
+    ≡ map blank_written (flat_map (λ x. mark m.ShiftRight ∷ named x ∷ []) xs)
 read_from [] = refl
 read_from (x ∷ xs) = rw (read_from xs) refl
 
@@ -129,7 +136,8 @@ mutual
   blank-stmt_written (t.choice_else place c x y) = ap (λ (l : List Written). at nowhere (w.Key (codes "if")) ∷ l)
       (blank-tested c _ (stmt_written x ++ plain (w.Key (codes "else")) ∷ stmt_written y)
       (rw (map-append blank_written, blank-stmt_written x, blank-stmt_written y) refl))
-  blank-stmt_written (t.while place c x) = ap (λ (l : List Written). at nowhere (w.Key (codes "while")) ∷ l) (blank-tested c _ _ (blank-stmt_written x))
+  blank-stmt_written (t.while place c x) =
+      ap (λ (l : List Written). at nowhere (w.Key (codes "while")) ∷ l) (blank-tested c _ _ (blank-stmt_written x))
   blank-stmt_written (t.for place first c step x) =
       simp (
         map-append blank_written,
@@ -204,7 +212,8 @@ spells-blank (x ∷ xs) more = ((refl, all_nowhere x.told), spells-blank xs more
 -- The blank of a program is written by its words, each at the one place.
 pub blank-placed : (p : Program) (more : List Token) → Spells (program_written (blank p)) (map blank_token (words p) ++ more) more
 blank-placed p more =
-    subst (λ (xs : List Written). Spells xs (map blank_token (words p) ++ more) more) (sym (blank-program_written p)) (spells-blank (program_written p) more)
+    subst (λ (xs : List Written). Spells xs (map blank_token (words p) ++ more) more) (sym (blank-program_written p))
+    (spells-blank (program_written p) more)
 
 pub blank-placed_alone : (p : Program) → Placed (blank p) (map blank_token (words p))
 blank-placed_alone p = subst (λ (tokens : List Token). Placed (blank p) tokens) (append-nil (map blank_token (words p))) (blank-placed p [])

@@ -6,9 +6,13 @@ use Rattle.sl_syntax.specs.declared.tree.function.Param.{Param}
 use Rattle.sl_syntax.specs.declared.tree.function.Param.TheVariants as r
 use Rattle.sl_syntax.specs.Tree as t
 use Rattle.sl_syntax.specs.Tree.{Expr, Exprs, Initializer, Declaration, Out, Effect, Cond, First, Stmt, Item, Items, Function, Program}
-use Rattle.sl_syntax.specs.Blank.{blank_identifier, blank_expr, blank_exprs, blank_initializer, blank_declaration, blank_read, blank_out, blank_effect, blank_cond, blank_first, blank_stmt, blank_item, blank_items, blank_param, blank_function, blank}
-use Rattle.sl_syntax.specs.Depth.{height, list_height, rest_height, highest, option_height, initializer_height, declaration_height, out_height, effect_height, cond_height, first_height, stmt_height, item_height, items_height, param_height, function_height, depth}
-use Rattle.sl_syntax.specs.Shaped.{level, IsExpr, AreExprs, IfThere, Each, AreSome, IsSomeList, IsInitializer, IsDeclaration, IsRead, IsOut, IsEffect, IsCond, IsFirst, ends_open, IsStmt, IsItem, AreItems, IsFunction, Shaped}
+use Rattle.sl_syntax.specs.Blank.{blank_identifier, blank_expr, blank_exprs, blank_initializer, blank_declaration, blank_read, blank_out}
+use Rattle.sl_syntax.specs.Blank.{blank_effect, blank_cond, blank_first, blank_stmt, blank_item, blank_items, blank_param, blank_function, blank}
+use Rattle.sl_syntax.specs.Depth.{height, list_height, rest_height, highest, option_height, initializer_height, declaration_height, out_height}
+use Rattle.sl_syntax.specs.Depth.{effect_height, cond_height, first_height, stmt_height, item_height, items_height, param_height, function_height}
+use Rattle.sl_syntax.specs.Depth.{depth}
+use Rattle.sl_syntax.specs.Shaped.{level, IsExpr, AreExprs, IfThere, Each, AreSome, IsSomeList, IsInitializer, IsDeclaration, IsRead, IsOut, IsEffect}
+use Rattle.sl_syntax.specs.Shaped.{IsCond, IsFirst, ends_open, IsStmt, IsItem, AreItems, IsFunction, Shaped}
 
 mutual
   pub blank-height : (x : Expr) → height (blank_expr x) ≡ height x

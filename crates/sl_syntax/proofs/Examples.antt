@@ -5,7 +5,8 @@ use Rattle.sl_base.specs.declared.scalar.Scalar.TheVariants as t
 use Rattle.sl_base.specs.declared.place.Place.{Place}
 use Rattle.sl_syntax.specs.declared.typed.Stmt.TheVariants.{Vector, PushBack, Begin, Dereference}
 use Rattle.sl_syntax.specs.declared.typed.Typed.{Typed as TypedCode}
-use Rattle.sl_syntax.specs.Typed.{row, operator, star, literal, held, iterator, call, element, none, with, evaluates, set_scalar, set_iterator, makes, block, declares, does, no_more, followed, by_value, Typed}
+use Rattle.sl_syntax.specs.Typed.{row, operator, star, literal, held, iterator, call, element, none, with, evaluates, set_scalar, set_iterator, makes}
+use Rattle.sl_syntax.specs.Typed.{block, declares, does, no_more, followed, by_value, Typed}
 use Rattle.sl_syntax.specs.View.{typed_of, constants_of}
 
 abbrev pub at : ℕ → ℕ → Place
@@ -37,7 +38,8 @@ empty_is = refl
 -- }
 abbrev pub two_vectors : TypedCode
 two_vectors = record {
-  stmts = Vector (at 2 3) ∷ Vector (at 3 3) ∷ Begin (at 4 15) 1 1 ∷ PushBack (at 5 5) 1 1 0 7 ∷ PushBack (at 6 5) 0 0 1 5 ∷ Dereference (at 7 11) 0 2 ∷ [];
+  stmts = Vector (at 2 3) ∷ Vector (at 3 3) ∷ Begin (at 4 15) 1 1 ∷ PushBack (at 5 5) 1 1 0 7 ∷ PushBack (at 6 5) 0 0 1 5 ∷ Dereference (at 7 11) 0 2
+      ∷ [];
   close = at 8 1;
   sites = at 5 5 ∷ at 6 5 ∷ at 8 1 ∷ [];
   names = codes "v" ∷ codes "w" ∷ codes "it" ∷ codes "x" ∷ [];
@@ -53,9 +55,16 @@ two_vectors_as_data = record {
         followed (declares (makes f.Vector (record { callee = row 0; place = at 2 3; site = 0; object = None; names = [] }) none)) (
         followed (declares (makes f.Vector (record { callee = row 0; place = at 3 3; site = 0; object = None; names = [] }) none)) (
         followed (declares (set_iterator (call (record { callee = row 7; place = at 4 15; site = 0; object = Some 1; names = Some 1 ∷ [] }) none))) (
-        followed (does (evaluates (call (record { callee = row 15; place = at 5 5; site = 0; object = Some 1; names = Some 1 ∷ [] }) (with (literal t.Int (pos 7)) none)))) (
-        followed (does (evaluates (call (record { callee = row 15; place = at 6 5; site = 1; object = Some 0; names = Some 0 ∷ [] }) (with (literal t.Int (pos 5)) none)))) (
-        followed (declares (set_scalar t.Int (held (element (record { callee = operator star; place = at 7 11; site = 0; object = None; names = None ∷ Some 2 ∷ [] }) (with (iterator 0) none)))))
+        followed (does
+        (evaluates (call (record { callee = row 15; place = at 5 5; site = 0; object = Some 1; names = Some 1 ∷ [] })
+        (with (literal t.Int (pos 7)) none)))) (
+        followed (does
+        (evaluates (call (record { callee = row 15; place = at 6 5; site = 1; object = Some 0; names = Some 0 ∷ [] })
+        (with (literal t.Int (pos 5)) none)))) (
+        followed (declares
+        (set_scalar t.Int
+        (held (element (record { callee = operator star; place = at 7 11; site = 0; object = None; names = None ∷ Some 2 ∷ [] })
+        (with (iterator 0) none)))))
         no_more))))));
   } ∷ [];
   main = 0;

@@ -15,7 +15,8 @@ use Rattle.sl_syntax.specs.declared.tree.identifier.Identifier.{Identifier}
 use Rattle.sl_syntax.specs.Tree.{Expr}
 use Rattle.sl_syntax.specs.TreeView.{expr_of, exprs_of}
 use Rattle.sl_syntax.specs.Written.{words_of, written, list_written, rest_written, binary_mark, prefix_mark, postfix_mark, selector_mark}
-use Rattle.sl_syntax.proofs.TreeViews.{expr_of-Call, expr_of-LibraryCall, expr_of-Parentheses, expr_of-Prefix, expr_of-Binary, expr_of-Postfix, expr_of-Index, expr_of-MemberCall, expr_of-Member}
+use Rattle.sl_syntax.proofs.TreeViews.{expr_of-Call, expr_of-LibraryCall, expr_of-Parentheses, expr_of-Prefix, expr_of-Binary, expr_of-Postfix}
+use Rattle.sl_syntax.proofs.TreeViews.{expr_of-Index, expr_of-MemberCall, expr_of-Member}
 use Rattle.sl_syntax.proofs.WrittenLaws.{words_of-append, separated}
 
 abbrev pub expr_words_of : ExprCode → List Word
@@ -37,7 +38,8 @@ pub words-Parentheses : (p : Place) (x : Box ExprCode Global)
     → expr_words_of (e.Parentheses p x) ≡ w.Mark m.LeftParenthesis ∷ (expr_words_of x.value ++ w.Mark m.RightParenthesis ∷ [])
 words-Parentheses p x = as_data (e.Parentheses p x) _ (expr_of-Parentheses p x) ∙ rw words_of-append refl
 
-pub words-Prefix : (op : PrefixOperator) (p : Place) (x : Box ExprCode Global) → expr_words_of (e.Prefix op p x) ≡ w.Mark (prefix_mark op) ∷ expr_words_of x.value
+pub words-Prefix : (op : PrefixOperator) (p : Place) (x : Box ExprCode Global)
+    → expr_words_of (e.Prefix op p x) ≡ w.Mark (prefix_mark op) ∷ expr_words_of x.value
 words-Prefix op p x = as_data (e.Prefix op p x) _ (expr_of-Prefix op p x)
 
 pub words-Binary : (x : Box ExprCode Global) (op : BinaryOperator) (p : Place) (y : Box ExprCode Global)
@@ -80,4 +82,5 @@ rest_words (x ∷ xs) = ap (λ (l : List Word). w.Mark m.Comma ∷ l)
 
 pub list_words : (xs : List ExprCode) → words_of (list_written (exprs_of xs)) ≡ separated expr_words_of xs
 list_words [] = refl
-list_words (x ∷ xs) = words_of-append (written (expr_of x)) (rest_written (exprs_of xs)) ∙ ap (λ (l : List Word). expr_words_of x ++ l) (rest_words xs)
+list_words (x ∷ xs) =
+    words_of-append (written (expr_of x)) (rest_written (exprs_of xs)) ∙ ap (λ (l : List Word). expr_words_of x ++ l) (rest_words xs)

@@ -48,7 +48,8 @@ unread = main_of 17 (single (t.while (at 6)
 
 abbrev unread_words : List Word
 unread_words = main_words (w.Key (codes "while") ∷ w.Mark m.LeftParenthesis ∷ w.Mark m.Not ∷ w.Mark m.LeftParenthesis ∷ w.Lib (codes "cin")
-    ∷ w.Mark m.ShiftRight ∷ w.Name (codes "x") ∷ w.Mark m.RightParenthesis ∷ w.Mark m.RightParenthesis ∷ w.Key (codes "break") ∷ w.Mark m.Semicolon ∷ [])
+    ∷ w.Mark m.ShiftRight ∷ w.Name (codes "x") ∷ w.Mark m.RightParenthesis ∷ w.Mark m.RightParenthesis ∷ w.Key (codes "break") ∷ w.Mark m.Semicolon
+    ∷ [])
 
 unread_is : IsExample unread unread_words 5
 unread_is = record { says = refl; deep = refl; placed = search rules; shaped = search (rules, arith) }

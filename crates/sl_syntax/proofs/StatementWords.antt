@@ -16,7 +16,8 @@ use Rattle.sl_syntax.specs.declared.tree.statement.Stmt.TheVariants as s
 use Rattle.sl_syntax.specs.Tree as t
 use Rattle.sl_syntax.specs.Tree.{Stmt, Cond}
 use Rattle.sl_syntax.specs.TreeView.{cond_of, first_of, effect_of, stmt_of, item_of, items_of}
-use Rattle.sl_syntax.specs.Written.{Written, words_of, mark, tested, option_written, first_written, cond_written, effect_written, element_word, stmt_written, item_written, items_written}
+use Rattle.sl_syntax.specs.Written.{Written, words_of, mark, tested, option_written, first_written, cond_written, effect_written, element_word}
+use Rattle.sl_syntax.specs.Written.{stmt_written, item_written, items_written}
 use Rattle.sl_syntax.proofs.TreeViews.{stmt_of-Block, stmt_of-If, stmt_of-If_else, stmt_of-While, stmt_of-For, stmt_of-RangeFor}
 use Rattle.sl_syntax.proofs.WrittenLaws.{words_of-append, words_of-from_place}
 
@@ -35,18 +36,21 @@ words_of-tested c rest = simp (words_of-append, append_assoc)
 pub words-Block : (b : BlockCode) → stmt_words_of (s.Block b) ≡ words_of (stmt_written (t.block b.place (items_of b.items.items) b.close))
 words-Block b = as_data (s.Block b) _ (stmt_of-Block b)
 
-pub words-If : (p : Place) (c : CondCode) (a : Box StmtCode Global) → stmt_words_of (s.If p c a None) ≡ w.Key (codes "if") ∷ (tested_words c ++ stmt_words_of a.value)
+pub words-If : (p : Place) (c : CondCode) (a : Box StmtCode Global)
+    → stmt_words_of (s.If p c a None) ≡ w.Key (codes "if") ∷ (tested_words c ++ stmt_words_of a.value)
 words-If p c a = as_data (s.If p c a None) _ (stmt_of-If p c a)
     ∙ ap (λ (l : List Word). w.Key (codes "if") ∷ l) (words_of-tested (cond_of c) (stmt_written (stmt_of a.value)))
 
 pub words-If_else : (p : Place) (c : CondCode) (a b : Box StmtCode Global)
-    → stmt_words_of (s.If p c a (Some b)) ≡ w.Key (codes "if") ∷ (tested_words c ++ (stmt_words_of a.value ++ w.Key (codes "else") ∷ stmt_words_of b.value))
+    → stmt_words_of (s.If p c a (Some b))
+    ≡ w.Key (codes "if") ∷ (tested_words c ++ (stmt_words_of a.value ++ w.Key (codes "else") ∷ stmt_words_of b.value))
 words-If_else p c a b =
     as_data (s.If p c a (Some b)) _ (stmt_of-If_else p c a b)
     ∙ ap (λ (l : List Word). w.Key (codes "if") ∷ l) (words_of-tested (cond_of c) _
     ∙ ap (λ (l : List Word). tested_words c ++ l) (words_of-append (stmt_written (stmt_of a.value)) _))
 
-pub words-While : (p : Place) (c : CondCode) (a : Box StmtCode Global) → stmt_words_of (s.While p c a) ≡ w.Key (codes "while") ∷ (tested_words c ++ stmt_words_of a.value)
+pub words-While : (p : Place) (c : CondCode) (a : Box StmtCode Global)
+    → stmt_words_of (s.While p c a) ≡ w.Key (codes "while") ∷ (tested_words c ++ stmt_words_of a.value)
 words-While p c a = as_data (s.While p c a) _ (stmt_of-While p c a)
     ∙ ap (λ (l : List Word). w.Key (codes "while") ∷ l) (words_of-tested (cond_of c) (stmt_written (stmt_of a.value)))
 
@@ -66,11 +70,14 @@ pub words-RangeFor : (p : Place) (is_auto : Bool) (x v : Identifier) (a : Box St
 words-RangeFor p is_auto x v a = as_data (s.RangeFor p is_auto x v a) _ (stmt_of-RangeFor p is_auto x v a)
 
 pub words-Effect : (p : Place) (x : EffectCode) → stmt_words_of (s.Effect p x) ≡ words_of (effect_written (effect_of x)) ++ w.Mark m.Semicolon ∷ []
-words-Effect p x = words_of-from_place p (effect_written (effect_of x) ++ mark m.Semicolon ∷ []) ∙ words_of-append (effect_written (effect_of x)) (mark m.Semicolon ∷ [])
+words-Effect p x =
+    words_of-from_place p (effect_written (effect_of x) ++ mark m.Semicolon ∷ [])
+    ∙ words_of-append (effect_written (effect_of x)) (mark m.Semicolon ∷ [])
 
 pub ruleset stmt_words = (words-Block, words-If, words-If_else, words-While, words-For, words-RangeFor, words_of-append)
 
 pub items_words : (xs : List ItemCode) → words_of (items_written (items_of xs)) ≡ flat_map (λ x. words_of (item_written (item_of x))) xs
 items_words [] = refl
 items_words (x ∷ xs) =
-    words_of-append (item_written (item_of x)) (items_written (items_of xs)) ∙ ap (λ (l : List Word). words_of (item_written (item_of x)) ++ l) (items_words xs)
+    words_of-append (item_written (item_of x)) (items_written (items_of xs))
+    ∙ ap (λ (l : List Word). words_of (item_written (item_of x)) ++ l) (items_words xs)

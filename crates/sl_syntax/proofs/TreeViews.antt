@@ -8,12 +8,14 @@ use Rattle.sl_syntax.specs.declared.operator.PrefixOperator.{PrefixOperator}
 use Rattle.sl_syntax.specs.declared.operator.Selector.{Selector}
 use Rattle.sl_syntax.specs.declared.tree.effect.Cond.{Cond as CondCode}
 use Rattle.sl_syntax.specs.declared.tree.effect.Effect.{Effect as EffectCode}
-use Rattle.sl_syntax.specs.declared.tree.expr.Expr.{Expr as ExprCode, Row_of-Expr, end_of-Expr, more_of-Expr, items-the_row-Expr, the_lemmas as expr_lemmas}
+use Rattle.sl_syntax.specs.declared.tree.expr.Expr.{Expr as ExprCode, Row_of-Expr, end_of-Expr, more_of-Expr, items-the_row-Expr}
+use Rattle.sl_syntax.specs.declared.tree.expr.Expr.{the_lemmas as expr_lemmas}
 use Rattle.sl_syntax.specs.declared.tree.expr.Expr.TheVariants as e
 use Rattle.sl_syntax.specs.declared.tree.identifier.Identifier.{Identifier}
 use Rattle.sl_syntax.specs.declared.tree.statement.Block.{Block as BlockCode}
 use Rattle.sl_syntax.specs.declared.tree.statement.First.{First as FirstCode}
-use Rattle.sl_syntax.specs.declared.tree.statement.Stmt.{Stmt as StmtCode, Row_of-Item, end_of-Item, more_of-Item, items-the_row-Item, the_lemmas as stmt_lemmas}
+use Rattle.sl_syntax.specs.declared.tree.statement.Stmt.{Stmt as StmtCode, Row_of-Item, end_of-Item, more_of-Item, items-the_row-Item}
+use Rattle.sl_syntax.specs.declared.tree.statement.Stmt.{the_lemmas as stmt_lemmas}
 use Rattle.sl_syntax.specs.declared.tree.statement.Stmt.TheVariants as s
 use Rattle.sl_syntax.specs.Tree as t
 use Rattle.sl_syntax.specs.TreeView.{expr_of, exprs_of, row_view, cond_of, first_of, effect_of, stmt_of, item_of, items_of, items_view}
@@ -41,14 +43,16 @@ expr_of-Binary x op p y = search (rules, expr_lemmas)
 pub expr_of-Postfix : (x : Box ExprCode Global) (op : PostfixOperator) (p : Place) → expr_of (e.Postfix x op p) ≡ t.postfix (expr_of x.value) op p
 expr_of-Postfix x op p = search (rules, expr_lemmas)
 
-pub expr_of-Index : (x : Box ExprCode Global) (p : Place) (y : Box ExprCode Global) → expr_of (e.Index x p y) ≡ t.index (expr_of x.value) p (expr_of y.value)
+pub expr_of-Index : (x : Box ExprCode Global) (p : Place) (y : Box ExprCode Global)
+    → expr_of (e.Index x p y) ≡ t.index (expr_of x.value) p (expr_of y.value)
 expr_of-Index x p y = search (rules, expr_lemmas)
 
 pub expr_of-MemberCall : (x : Box ExprCode Global) (f : Identifier) (v : Vec ExprCode Global)
     → expr_of (e.MemberCall x f v) ≡ t.member_call (expr_of x.value) f (exprs_of v.items)
 expr_of-MemberCall x f v = search (rules, expr_lemmas, row_view-items)
 
-pub expr_of-Member : (x : Box ExprCode Global) (s : Selector) (p : Place) (f : Identifier) → expr_of (e.Member x s p f) ≡ t.member (expr_of x.value) s p f
+pub expr_of-Member : (x : Box ExprCode Global) (s : Selector) (p : Place) (f : Identifier)
+    → expr_of (e.Member x s p f) ≡ t.member (expr_of x.value) s p f
 expr_of-Member x s p f = search (rules, expr_lemmas)
 
 items_view-items : (n : _) (row : Row_of-Item n) → items_view row ≡ items_of (items-the_row-Item n row)

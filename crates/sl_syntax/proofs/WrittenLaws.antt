@@ -33,7 +33,8 @@ all_written f [] = refl
 all_written f (x ∷ xs) = ap (flat_map (λ y. w.Mark m.Comma ∷ f y)) (drop-length xs)
 
 -- nothing is left to write
-pub none_left_separated : {X : Type 0} (f : X → List Word) (xs : List X) (k : ℕ) (out whole : List Word) → k ≡ length xs → out ++ separated_from f k xs ≡ whole
+pub none_left_separated : {X : Type 0} (f : X → List Word) (xs : List X) (k : ℕ) (out whole : List Word) → k ≡ length xs
+    → out ++ separated_from f k xs ≡ whole
     → out ≡ whole
 none_left_separated f xs k out whole e h =
     let rest : separated_from f k xs ≡ [] = rw e (all_written f xs) in
@@ -43,11 +44,13 @@ pub words_of-flat_map : {X : Type 0} (f : X → List Written) (xs : List X) → 
 words_of-flat_map f [] = refl
 words_of-flat_map f (x ∷ xs) = words_of-append (f x) (flat_map f xs) ∙ ap (λ (l : List Word). words_of (f x) ++ l) (words_of-flat_map f xs)
 
-pub words_of-flat_map-map : {X Y : Type 0} (f : Y → List Written) (g : X → Y) (xs : List X) → words_of (flat_map f (map g xs)) ≡ flat_map (λ x. words_of (f (g x))) xs
+pub words_of-flat_map-map : {X Y : Type 0} (f : Y → List Written) (g : X → Y) (xs : List X)
+    → words_of (flat_map f (map g xs)) ≡ flat_map (λ x. words_of (f (g x))) xs
 words_of-flat_map-map f g [] = refl
 words_of-flat_map-map f g (x ∷ xs) =
     words_of-append (f (g x)) (flat_map f (map g xs)) ∙ ap (λ (l : List Word). words_of (f (g x)) ++ l) (words_of-flat_map-map f g xs)
 
 -- nothing is left to write
-pub none_left : {X : Type 0} (f : X → List Word) (xs : List X) (k : ℕ) (out whole : List Word) → length xs ≤ k → out ++ flat_map f (drop k xs) ≡ whole → out ≡ whole
+pub none_left : {X : Type 0} (f : X → List Word) (xs : List X) (k : ℕ) (out whole : List Word) → length xs ≤ k → out ++ flat_map f (drop k xs) ≡ whole
+    → out ≡ whole
 none_left f xs k out whole le h = sym (append-nil out) ∙ ap (λ l. out ++ flat_map f l) (sym (drop_all k xs le)) ∙ h

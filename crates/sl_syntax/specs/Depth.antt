@@ -82,7 +82,8 @@ abbrev mutual
   stmt_height (t.choice place c x) = max (cond_height c) (stmt_height x) + 1
   stmt_height (t.choice_else place c x y) = max (cond_height c) (max (stmt_height x) (stmt_height y)) + 1
   stmt_height (t.while place c x) = max (cond_height c) (stmt_height x) + 1
-  stmt_height (t.for place first c step x) = max (option_height first_height first) (max (option_height cond_height c) (max (option_height effect_height step) (stmt_height x))) + 1
+  stmt_height (t.for place first c step x) =
+      max (option_height first_height first) (max (option_height cond_height c) (max (option_height effect_height step) (stmt_height x))) + 1
   stmt_height (t.range_for place is_auto x v body) = stmt_height body + 1
   stmt_height (t.break place) = 1
   stmt_height (t.continue place) = 1

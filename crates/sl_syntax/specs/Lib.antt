@@ -2,7 +2,7 @@ pub mod Typed
 pub mod View
 pub mod Tree
 pub mod TreeView
-pub mod Kinds
+pub mod TokenKinds
 pub mod Written
 pub mod Depth
 pub mod Shaped

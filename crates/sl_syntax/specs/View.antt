@@ -7,7 +7,8 @@ use Rattle.sl_base.specs.declared.place.Place.{Place}
 use Rattle.sl_syntax.specs.declared.typed.Stmt.{Stmt as StmtCode}
 use Rattle.sl_syntax.specs.declared.typed.Stmt.TheVariants.{Vector, PushBack, Begin, Dereference}
 use Rattle.sl_syntax.specs.declared.typed.Typed.{Typed as TypedCode}
-use Rattle.sl_syntax.specs.Typed.{Callee, row, operator, star, Head, literal, held, iterator, call, element, none, with, evaluates, set_scalar, set_iterator, makes, Stmt, block, declares, does, Stmts, no_more, followed, by_value, Function, Typed}
+use Rattle.sl_syntax.specs.Typed.{Callee, row, operator, star, Head, literal, held, iterator, call, element, none, with, evaluates, set_scalar}
+use Rattle.sl_syntax.specs.Typed.{set_iterator, makes, Stmt, block, declares, does, Stmts, no_more, followed, by_value, Function, Typed}
 
 -- the numbers of the rows that are there
 abbrev pub vector_row : ℕ
@@ -29,9 +30,11 @@ member_call number place site object name = record { callee = row number; place 
 
 abbrev pub stmt_of : StmtCode → Stmt
 stmt_of (Vector place) = declares (makes f.Vector (free_call (row vector_row) place []) none)
-stmt_of (PushBack place v name site number) = does (evaluates (call (member_call push_back_row place site v name) (with (literal t.Int (pos number)) none)))
+stmt_of (PushBack place v name site number) =
+    does (evaluates (call (member_call push_back_row place site v name) (with (literal t.Int (pos number)) none)))
 stmt_of (Begin place v name) = declares (set_iterator (call (member_call begin_row place 0 v name) none))
-stmt_of (Dereference place it name) = declares (set_scalar t.Int (held (element (free_call (operator star) place (None ∷ Some name ∷ [])) (with (iterator it) none))))
+stmt_of (Dereference place it name) =
+    declares (set_scalar t.Int (held (element (free_call (operator star) place (None ∷ Some name ∷ [])) (with (iterator it) none))))
 
 abbrev pub stmts_of : List StmtCode → Stmts
 stmts_of [] = no_more

@@ -229,13 +229,15 @@ abbrev mutual
   pub stmt_written : Stmt → List Written
   stmt_written (t.block opens items closes) = at opens (w.Mark m.LeftBrace) ∷ (items_written items ++ at closes (w.Mark m.RightBrace) ∷ [])
   stmt_written (t.choice place c x) = at place (w.Key (codes "if")) ∷ tested c (stmt_written x)
-  stmt_written (t.choice_else place c x y) = at place (w.Key (codes "if")) ∷ tested c (stmt_written x ++ plain (w.Key (codes "else")) ∷ stmt_written y)
+  stmt_written (t.choice_else place c x y) =
+      at place (w.Key (codes "if")) ∷ tested c (stmt_written x ++ plain (w.Key (codes "else")) ∷ stmt_written y)
   stmt_written (t.while place c x) = at place (w.Key (codes "while")) ∷ tested c (stmt_written x)
   stmt_written (t.for place first c step x) =
       at place (w.Key (codes "for")) ∷ mark m.LeftParenthesis ∷ (option_written first_written first ++ mark m.Semicolon
       ∷ (option_written cond_written c ++ mark m.Semicolon ∷ (option_written effect_written step ++ mark m.RightParenthesis ∷ stmt_written x)))
   stmt_written (t.range_for place is_auto x v body) =
-      at place (w.Key (codes "for")) ∷ mark m.LeftParenthesis ∷ plain (element_word is_auto) ∷ named x ∷ mark m.Colon ∷ named v ∷ mark m.RightParenthesis ∷ stmt_written body
+      at place (w.Key (codes "for")) ∷ mark m.LeftParenthesis ∷ plain (element_word is_auto) ∷ named x ∷ mark m.Colon ∷ named v
+      ∷ mark m.RightParenthesis ∷ stmt_written body
   stmt_written (t.break place) = at place (w.Key (codes "break")) ∷ mark m.Semicolon ∷ []
   stmt_written (t.continue place) = at place (w.Key (codes "continue")) ∷ mark m.Semicolon ∷ []
   stmt_written (t.gives_back place v) = at place (w.Key (codes "return")) ∷ (option_written written v ++ mark m.Semicolon ∷ [])

@@ -1,17 +1,17 @@
 // Trees of texts.
 #![tactic(auto)]
 
-mod kind;
 mod operator;
+mod token_kind;
 mod tree;
 pub mod typed;
 mod write;
 
-pub use kind::Kind;
 pub use operator::{
     Access, Arithmetic, Assignment, BinaryOperator, Comparison, PostfixOperator, PrefixOperator,
     Selector,
 };
+pub use token_kind::TokenKind;
 pub use tree::{
     Block, Cond, ContainerType, Declaration, Effect, Expr, First, Function, Identifier,
     Initializer, Item, Out, Param, Print, Program, Read, ResultType, Stmt,

@@ -1,4 +1,5 @@
-//! The tree of a program: a type for each rule of the grammar, a variant for each alternative, a field for each part in its order.
+//! The tree of a program: a type for each rule of the grammar, a variant for each alternative, a field for each part in
+//! its order.
 
 mod declaration;
 mod effect;

@@ -31,9 +31,9 @@ pub enum Stmt {
     },
 }
 
-/// A typed text: the statements of `main`, the place of its closing brace, the places of the sites by their number, and the
-/// names of the variables. A site is a call of `push_back`, and behind all of these the closing brace, where it ends a
-/// vector.
+/// A typed text: the statements of `main`, the place of its closing brace, the places of the sites by their number, and
+/// the names of the variables. A site is a call of `push_back`, and behind all of these the closing brace, where it
+/// ends a vector.
 #[derive(Drop)]
 pub struct Typed {
     pub stmts: Items<Stmt>,

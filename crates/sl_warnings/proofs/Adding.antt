@@ -21,7 +21,8 @@ module _ (w v : Warning) (vs : List Warning) where
   added-greater h = rw (h, added) refl
 
 -- where one with the same place, kind and argument is there
-pub added-at : (w : Warning) (ws : List Warning) (i : ℕ) (d : Warning) → IsAscending ws → i < length ws → warning_cmp (get_or ws i d) w ≡ Equal → added w ws ≡ with_killers_at ws i w.killers
+pub added-at : (w : Warning) (ws : List Warning) (i : ℕ) (d : Warning) → IsAscending ws → i < length ws → warning_cmp (get_or ws i d) w ≡ Equal
+    → added w ws ≡ with_killers_at ws i w.killers
 added-at w [] i d asc lt e = absurd (omega arith)
 added-at w (v ∷ vs) zero d asc lt e = added-equal w v vs e
 added-at w (v ∷ vs) (suc i) d asc lt e =
@@ -30,7 +31,8 @@ added-at w (v ∷ vs) (suc i) d asc lt e =
     ∙ ap (λ l. v ∷ l) (added-at w vs i d (sorted_tail warning_cmp v vs asc) (omega arith) e)
 
 -- where it is new
-pub added-between : (w : Warning) (ws : List Warning) (i : ℕ) (d : Warning) → i ≤ length ws → ((j : ℕ) → j < i → warning_cmp (get_or ws j d) w ≡ Less)
+pub added-between : (w : Warning) (ws : List Warning) (i : ℕ) (d : Warning) → i ≤ length ws
+    → ((j : ℕ) → j < i → warning_cmp (get_or ws j d) w ≡ Less)
     → (i < length ws → warning_cmp (get_or ws i d) w ≡ Greater) → added w ws ≡ insert ws i w
 added-between w [] zero d le below above = refl
 added-between w [] (suc i) d le below above = absurd (omega arith)
@@ -45,7 +47,9 @@ by_order P Less less equal greater = less refl
 by_order P Equal less equal greater = equal refl
 by_order P Greater less equal greater = greater refl
 
-after_added : (u w : Warning) (vs : List Warning) → warning_cmp u w ≡ Less → AllByRecursion (λ y. warning_cmp u y ≡ Less) vs → AllByRecursion (λ y. warning_cmp u y ≡ Less) (added w vs)
+-- what comes before each of a report, and before one warning more, comes before each of the two together
+after_added : (u w : Warning) (vs : List Warning) → warning_cmp u w ≡ Less → AllByRecursion (λ y. warning_cmp u y ≡ Less) vs
+    → AllByRecursion (λ y. warning_cmp u y ≡ Less) (added w vs)
 after_added u w [] first rest = (first, tt)
 after_added u w (v ∷ vs) first rest =
     let P = AllByRecursion (λ y. warning_cmp u y ≡ Less) in
@@ -54,11 +58,15 @@ after_added u w (v ∷ vs) first rest =
     (λ h. subst P (sym (added-equal w v vs h)) (rest.0, rest.1))
     (λ h. subst P (sym (added-greater w v vs h)) (first, rest))
 
-after_through : (w v : Warning) (vs : List Warning) → warning_cmp w v ≡ Less → AllByRecursion (λ y. warning_cmp v y ≡ Less) vs → AllByRecursion (λ y. warning_cmp w y ≡ Less) vs
+-- what comes before a warning comes before each behind that one
+after_through : (w v : Warning) (vs : List Warning) → warning_cmp w v ≡ Less → AllByRecursion (λ y. warning_cmp v y ≡ Less) vs
+    → AllByRecursion (λ y. warning_cmp w y ≡ Less) vs
 after_through w v [] h rest = tt
 after_through w v (u ∷ us) h rest = (warning_cmp_total.trans w v u h rest.0, after_through w v us h rest.1)
 
-after_joined : (v : Warning) (more : List ℕ) (vs : List Warning) → AllByRecursion (λ y. warning_cmp v y ≡ Less) vs → AllByRecursion (λ y. warning_cmp (with_killers v more) y ≡ Less) vs
+-- further killers change no place in the order
+after_joined : (v : Warning) (more : List ℕ) (vs : List Warning) → AllByRecursion (λ y. warning_cmp v y ≡ Less) vs
+    → AllByRecursion (λ y. warning_cmp (with_killers v more) y ≡ Less) vs
 after_joined v more vs h = h
 
 -- the report stays in order
@@ -70,12 +78,14 @@ added-ascending w (v ∷ vs) asc = by_order (IsAscending (added w (v ∷ vs))) (
     (λ h. subst IsAscending (sym (added-equal w v vs h)) (after_joined v w.killers vs asc.0, asc.1))
     (λ h. subst IsAscending (sym (added-greater w v vs h)) ((greater_first v w h, after_through w v vs (greater_first v w h) asc.0), asc))
 
+-- what holds of the first and of each other one holds of all
 all-cons : (P : Warning → Type 0) (w : Warning) (ws : List Warning) → P w → All P ws → All P (w ∷ ws)
 all-cons P w ws h rest zero d lt = h
 all-cons P w ws h rest (suc k) d lt = rest k d (omega arith)
 
 -- what holds of each warning of a report and of one more, and whatever the killers, holds of each warning after it
-pub each-added : (P : Warning → Type 0) → ((v : Warning) (more : List ℕ) → P v → P (with_killers v more)) → (w : Warning) (ws : List Warning) → P w → All P ws → All P (added w ws)
+pub each-added : (P : Warning → Type 0) → ((v : Warning) (more : List ℕ) → P v → P (with_killers v more)) → (w : Warning) (ws : List Warning) → P w
+    → All P ws → All P (added w ws)
 each-added P joins w [] h all = all-cons P w [] h all
 each-added P joins w (v ∷ vs) h all =
     let first : P v = all 0 v (omega arith) in

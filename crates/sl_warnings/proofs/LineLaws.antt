@@ -1,5 +1,6 @@
 -- The parts of a report's text.
-use Rattle.std.proofs.Common.{arith, append_assoc, ◌≡◌, ◌≢◌, ◌≤◌, ◌<◌, ◌+◌, ℕ, zero, suc, Some, None, ◌∙◌, List, [], ◌∷◌, ◌++◌, length, get_or, take, ◌-◌, drop, refl, ap, sym}
+use Rattle.std.proofs.Common.{arith, append_assoc, ◌≡◌, ◌≢◌, ◌≤◌, ◌<◌, ◌+◌, ℕ, zero, suc, Some, None, ◌∙◌, List, [], ◌∷◌, ◌++◌, length, get_or, take}
+use Rattle.std.proofs.Common.{◌-◌, drop, refl, ap, sym}
 use Rattle.std.specs.Prelude.{codes, flat_map, slice_get}
 use Rattle.std.proofs.Math.Seq.{take_all}
 use Rattle.sl_base.specs.declared.place.Place.{Place}
@@ -8,7 +9,8 @@ use Rattle.sl_model.specs.Texts.{site_text, further_sites, sites_text, warning_l
 
 -- the text of sites, of which there is a first one
 pub sites_text-first : (sites : List Place) (killers : List ℕ) (first : ℕ) → 1 ≤ length killers → first ≡ get_or killers 0 first
-    → sites_text sites killers ≡ codes ", invalidated at " ++ (site_text sites first ++ further_sites sites (take (length killers - 1) (drop 1 killers)))
+    → sites_text sites killers ≡ codes ", invalidated at "
+    ++ (site_text sites first ++ further_sites sites (take (length killers - 1) (drop 1 killers)))
 sites_text-first sites [] first h e = absurd (omega arith)
 sites_text-first sites (k ∷ ks) first h e =
     let all : take (suc (length ks) - 1) ks ≡ ks = take_all (suc (length ks) - 1) ks (omega arith) in
@@ -21,10 +23,12 @@ report_text-some file sites [] h = absurd (h refl)
 report_text-some file sites (w ∷ ws) h = refl
 
 -- the parts of a warning's line in one row
-pub regrouped : (out file a line b col c kind d call e who killers end : List ℕ) → ((((((((out ++ (file ++ (a ++ (line ++ (b ++ (col ++ c)))))) ++ kind) ++ d) ++ call) ++ e) ++ who) ++ killers) ++ end)
+pub regrouped : (out file a line b col c kind d call e who killers end : List ℕ)
+    → ((((((((out ++ (file ++ (a ++ (line ++ (b ++ (col ++ c)))))) ++ kind) ++ d) ++ call) ++ e) ++ who) ++ killers) ++ end)
     ≡ out ++ (file ++ (a ++ (line ++ (b ++ (col ++ (c ++ (kind ++ (d ++ (call ++ (e ++ (who ++ (killers ++ end))))))))))))
 regrouped out file a line b col c kind d call e who killers end = simp append_assoc
 
+-- the warnings from an index on begin with the one there
 drop-there : (ws : List Warning) (i : ℕ) (w : Warning) → slice_get ws i ≡ Some w → drop i ws ≡ w ∷ drop (i + 1) ws
 drop-there [] i w h = absurd cc
 drop-there (v ∷ vs) zero w h = let same : v ≡ w = cc in ap (λ x. x ∷ vs) same

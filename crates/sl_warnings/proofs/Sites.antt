@@ -1,5 +1,6 @@
 -- Sites in ascending order, and the sites of a set.
-use Rattle.std.proofs.Common.{arith, ◌≡◌, ◌≢◌, ℕ, zero, suc, ◌+◌, ◌-◌, ◌<◌, ◌≤◌, ◌||◌, ◌==◌, Bool, true, false, cond, List, [], ◌∷◌, ◌++◌, append_assoc, filter, refl, sym, ap, subst, ◌∙◌, ⊎_elim}
+use Rattle.std.proofs.Common.{arith, ◌≡◌, ◌≢◌, ℕ, zero, suc, ◌+◌, ◌-◌, ◌<◌, ◌≤◌, ◌||◌, ◌==◌, Bool, true, false, cond, List, [], ◌∷◌, ◌++◌}
+use Rattle.std.proofs.Common.{append_assoc, filter, refl, sym, ap, subst, ◌∙◌, ⊎_elim}
 use Rattle.std.specs.Prelude.{Contains, if◌then◌else◌}
 use Rattle.std.specs.Ordering.{nat_cmp}
 use Rattle.std.specs.Cmp.{nat_cmp_is, ranked}
@@ -16,12 +17,15 @@ use Rattle.sl_warnings.specs.Reports.{inserted, joined}
 use Rattle.sl_warnings.specs.Views.{sites_in}
 use Rattle.sl_warnings.proofs.Adding.{by_order}
 
+-- a site goes behind a lesser one
 inserted-less : (site s : ℕ) (ss : List ℕ) → s < site → inserted site (s ∷ ss) ≡ s ∷ inserted site ss
 inserted-less site s ss h = rw (sym (nat_cmp_is s site Less h), inserted) refl
 
+-- a site that is there is put in no second time
 inserted-equal : (site s : ℕ) (ss : List ℕ) → s ≡ site → inserted site (s ∷ ss) ≡ s ∷ ss
 inserted-equal site s ss h = rw (sym (nat_cmp_is s site Equal h), inserted) refl
 
+-- a site goes before a greater one
 inserted-greater : (site s : ℕ) (ss : List ℕ) → site < s → inserted site (s ∷ ss) ≡ site ∷ s ∷ ss
 inserted-greater site s ss h = rw (sym (nat_cmp_is s site Greater h), inserted) refl
 
@@ -44,14 +48,17 @@ inserted-first p y i (suc n) h =
 more : ℕ → (ℕ → Bool) → ℕ → Bool
 more y p s = (s == y) || p s
 
+-- a test that is passed by one number more is passed by that number
 more-same : (y : ℕ) (p : ℕ → Bool) (s : ℕ) → s ≡ y → more y p s ≡ true
 unfolding more
 more-same y p s e = rw (eq-eqb s y e) refl
 
+-- and else by those that passed it
 more-other : (y : ℕ) (p : ℕ → Bool) (s : ℕ) → s ≢ y → more y p s ≡ p s
 unfolding more
 more-other y p s ne = rw (ne_eqb s y ne) refl
 
+-- a site before all others of a run of numbers
 inserted-here : (p : ℕ → Bool) (y n : ℕ) → inserted y (filter p (numbers y (suc n))) ≡ y ∷ filter p (numbers (y + 1) n)
 inserted-here p y n =
     let rest = filter p (numbers (y + 1) n) in
@@ -78,6 +85,7 @@ record Gains (p q r : ℕ → Bool) (i end : ℕ) : Type 0 where
   below : (s : ℕ) → s < i → r s ≡ p s
   above : (s : ℕ) → i ≤ s → s < end → r s ≡ (p s || q s)
 
+-- a site that the second set has is gained
 gains-has : (p q r : ℕ → Bool) (i end : ℕ) → i < end → q i ≡ true → Gains p q r i end → Gains (more i p) q r (i + 1) end
 gains-has p q r i end lt is g = record {
   below = λ s h. ⊎_elim
@@ -87,6 +95,7 @@ gains-has p q r i end lt is g = record {
   above = λ s low high. rw (more-other i p s (omega arith)) (g.above s (omega arith) high);
 }
 
+-- where the second set lacks the next site, nothing is gained there
 gains-lacks : (p q r : ℕ → Bool) (i end : ℕ) → i < end → q i ≡ false → Gains p q r i end → Gains p q r (i + 1) end
 gains-lacks p q r i end lt no_site g = record {
   below = λ s h. ⊎_elim
@@ -96,12 +105,14 @@ gains-lacks p q r i end lt no_site g = record {
   above = λ s low high. g.above s (omega arith) high;
 }
 
+-- by the two answers of a test
 by_answer : (b : Bool) (P : Bool → Type 0) → (b ≡ true → P true) → (b ≡ false → P false) → P b
 by_answer true P f g = f refl
 by_answer false P f g = g refl
 
 -- the numbers that pass either of two tests
-joined-filter : (q r : ℕ → Bool) (end n i : ℕ) (p : ℕ → Bool) → i + n ≡ end → Gains p q r i end → joined (filter p (numbers 0 end)) (filter q (numbers i n)) ≡ filter r (numbers 0 end)
+joined-filter : (q r : ℕ → Bool) (end n i : ℕ) (p : ℕ → Bool) → i + n ≡ end → Gains p q r i end
+    → joined (filter p (numbers 0 end)) (filter q (numbers i n)) ≡ filter r (numbers 0 end)
 joined-filter q r end zero i p e g = filter-alike p r 0 end (λ s low high. sym (g.below s (omega arith)))
 joined-filter q r end (suc n) i p e g =
     let tail = filter q (numbers (i + 1) n) in
@@ -117,12 +128,15 @@ unfolding sites_in
 sites_in-either k a b h =
     sym (joined-filter (has b) (has k) SITES SITES 0 (has a) refl (record { below = λ s lt. absurd (omega arith); above = λ s low high. h s }))
 
+-- what a list has, it has with one item more in front
 pub Contains-cons : (x y : ℕ) (xs : List ℕ) → Contains xs y → Contains (x ∷ xs) y
 Contains-cons x y xs h = (suc h.0, let lt = h.1 in omega arith, h.2)
 
+-- a list has its first item
 Contains-head : (x : ℕ) (xs : List ℕ) → Contains (x ∷ xs) x
 Contains-head x xs = (0, omega arith, refl)
 
+-- what the others keep when a site is put in, the list keeps
 inserted_tail : (x y s : ℕ) (xs : List ℕ) → (Contains xs s → Contains (inserted y xs) s) → Contains (x ∷ xs) s → Contains (x ∷ inserted y xs) s
 inserted_tail x y s xs tail (zero, lt, e) = (0, omega arith, e)
 inserted_tail x y s xs tail (suc k, lt, e) = Contains-cons x s (inserted y xs) (tail (k, omega arith, e))
@@ -137,19 +151,23 @@ inserted-old y s (x ∷ xs) h =
     (λ same. subst (λ l. Contains l s) (sym (inserted-equal y x xs (ranked x y Equal (sym same)))) h)
     (λ greater. subst (λ l. Contains l s) (sym (inserted-greater y x xs (ranked x y Greater (sym greater)))) (Contains-cons y s (x ∷ xs) h))
 
+-- a site that was put in is there
 inserted-new : (y : ℕ) (xs : List ℕ) → Contains (inserted y xs) y
 inserted-new y [] = Contains-head y []
 inserted-new y (x ∷ xs) = by_order (Contains (inserted y (x ∷ xs)) y) (nat_cmp x y)
-    (λ less. subst (λ l. Contains l y) (sym (inserted-less y x xs (ranked x y Less (sym less)))) (Contains-cons x y (inserted y xs) (inserted-new y xs)))
+    (λ less. subst (λ l. Contains l y) (sym (inserted-less y x xs (ranked x y Less (sym less))))
+    (Contains-cons x y (inserted y xs) (inserted-new y xs)))
     (λ same.
     let e : x ≡ y = ranked x y Equal (sym same) in
     subst (λ l. Contains l y) (sym (inserted-equal y x xs e)) (subst (λ z. Contains (z ∷ xs) y) (sym e) (Contains-head y xs)))
     (λ greater. subst (λ l. Contains l y) (sym (inserted-greater y x xs (ranked x y Greater (sym greater)))) (Contains-head y (x ∷ xs)))
 
+-- what the first list has, the two have together
 pub joined-first : (s : ℕ) (xs ys : List ℕ) → Contains xs s → Contains (joined xs ys) s
 joined-first s xs [] h = h
 joined-first s xs (y ∷ ys) h = joined-first s (inserted y xs) ys (inserted-old y s xs h)
 
+-- what the second list has, the two have together
 pub joined-second : (s : ℕ) (xs ys : List ℕ) → Contains ys s → Contains (joined xs ys) s
 joined-second s xs [] h = absurd (let lt = h.1 in omega arith)
 joined-second s xs (y ∷ ys) (zero, lt, e) = joined-first s (inserted y xs) ys (subst (Contains (inserted y xs)) e (inserted-new y xs))
@@ -166,6 +184,7 @@ filter-has p s i (suc n) h low high = ⊎_elim
     elim (p i) as (λ b. Contains (cond b (i ∷ tail) tail) s) [ true ↦ Contains-cons i s tail rest | false ↦ rest ])
     (cases_eq i s)
 
+-- a site of a set is among its sites
 pub sites_in-has : (k : Kills) (s : ℕ) → has k s ≡ true → Contains (sites_in k) s
 unfolding sites_in
 sites_in-has k s h = filter-has (has k) s 0 SITES h (omega arith) (has-site k s h)
@@ -175,6 +194,7 @@ in_front : (p : ℕ → Bool) (x s : ℕ) (xs : List ℕ) → p x ≡ true → (
 in_front p x s xs h rest (zero, lt, e) = ap p (sym e) ∙ h
 in_front p x s xs h rest (suc k, lt, e) = rest (k, omega arith, e)
 
+-- what passed a test through a filter passes it
 has-filter : (p : ℕ → Bool) (s i n : ℕ) → Contains (filter p (numbers i n)) s → p s ≡ true
 has-filter p s i zero h = absurd (let lt = h.1 in omega arith)
 has-filter p s i (suc n) h =
@@ -191,20 +211,24 @@ has-sites_in k s h = has-filter (has k) s 0 SITES h
 unfoldable pub sites_from : Kills → ℕ → List ℕ
 sites_from k i = filter (has k) (numbers i (SITES - i))
 
+-- the sites from 0 on are all
 pub sites_from-start : (k : Kills) → sites_from k 0 ≡ sites_in k
 unfolding sites_from sites_in
 sites_from-start k = ap (λ n. filter (has k) (numbers 0 n)) (let e : SITES - 0 ≡ SITES = omega arith in e)
 
+-- the sites from a number on: that one, if it is there, and those from the next on
 pub sites_from-next : (k : Kills) (i : ℕ) → i < SITES → sites_from k i ≡ cond (has k i) (i ∷ sites_from k (i + 1)) (sites_from k (i + 1))
 unfolding sites_from
 sites_from-next k i h = ap (λ n. filter (has k) (numbers i n)) (let e : SITES - i ≡ suc (SITES - (i + 1)) = omega arith in e)
 
+-- there is no site behind the last number
 pub sites_from-end : (k : Kills) (i : ℕ) → SITES ≤ i → sites_from k i ≡ []
 unfolding sites_from
 sites_from-end k i h = ap (λ n. filter (has k) (numbers i n)) (let e : SITES - i ≡ 0 = omega arith in e)
 
 -- one site more, where the set has it
-pub sites_from-step : (k : Kills) (i : ℕ) (before all : List ℕ) → i < SITES → before ++ sites_from k i ≡ all → (before ++ (if has k i then i ∷ [] else [])) ++ sites_from k (i + 1) ≡ all
+pub sites_from-step : (k : Kills) (i : ℕ) (before all : List ℕ) → i < SITES → before ++ sites_from k i ≡ all
+    → (before ++ (if has k i then i ∷ [] else [])) ++ sites_from k (i + 1) ≡ all
 sites_from-step k i before all lt e =
     let rest = sites_from k (i + 1) in
     append_assoc before (if has k i then i ∷ [] else []) rest
@@ -214,6 +238,7 @@ sites_from-step k i before all lt e =
     split true i rest = refl
     split false i rest = refl
 
+-- at the last number the sites so far are all
 pub sites_from-all : (k : Kills) (i : ℕ) (before : List ℕ) → SITES ≤ i → before ++ sites_from k i ≡ sites_in k → before ≡ sites_in k
 sites_from-all k i before h e = sym (append-nil before) ∙ ap (λ l. before ++ l) (sym (sites_from-end k i h)) ∙ e
 
@@ -223,11 +248,13 @@ filter-none p i zero h = refl
 filter-none p i (suc n) h = rw (h i (omega arith), filter-none p (i + 1) n (λ s low. h s (omega arith))) refl
 
 -- the numbers that pass, and one behind all of them
-filter-last : (p q : ℕ → Bool) (x i n : ℕ) → q x ≡ true → ((s : ℕ) → s ≢ x → q s ≡ p s) → ((s : ℕ) → x ≤ s → p s ≡ false) → i ≤ x → x < i + n → filter q (numbers i n) ≡ filter p (numbers i n) ++ x ∷ []
+filter-last : (p q : ℕ → Bool) (x i n : ℕ) → q x ≡ true → ((s : ℕ) → s ≢ x → q s ≡ p s) → ((s : ℕ) → x ≤ s → p s ≡ false) → i ≤ x → x < i + n
+    → filter q (numbers i n) ≡ filter p (numbers i n) ++ x ∷ []
 filter-last p q x i zero same others above low high = absurd (omega arith)
 filter-last p q x i (suc n) same others above low high = ⊎_elim
     (λ (here : i ≡ x).
-    let no_q : filter q (numbers (i + 1) n) ≡ [] = filter-none q (i + 1) n (λ s from. others s (let e : s ≢ x = omega arith in e) ∙ above s (omega arith)) in
+    let no_q : filter q (numbers (i + 1) n) ≡ [] =
+    filter-none q (i + 1) n (λ s from. others s (let e : s ≢ x = omega arith in e) ∙ above s (omega arith)) in
     let no_p : filter p (numbers (i + 1) n) ≡ [] = filter-none p (i + 1) n (λ s from. above s (omega arith)) in
     let passes : q i ≡ true = ap q here ∙ same in
     let fails : p i ≡ false = above i (omega arith) in
@@ -241,7 +268,8 @@ filter-last p q x i (suc n) same others above low high = ⊎_elim
     (cases_eq i x)
 
 -- the sites of a set, and one behind all of them
-pub sites_in-last : (k more : Kills) (x : ℕ) → has more x ≡ true → ((s : ℕ) → s ≢ x → has more s ≡ has k s) → ((s : ℕ) → x ≤ s → has k s ≡ false) → sites_in more ≡ sites_in k ++ x ∷ []
+pub sites_in-last : (k more : Kills) (x : ℕ) → has more x ≡ true → ((s : ℕ) → s ≢ x → has more s ≡ has k s) → ((s : ℕ) → x ≤ s → has k s ≡ false)
+    → sites_in more ≡ sites_in k ++ x ∷ []
 unfolding sites_in
 sites_in-last k more x same others above = filter-last (has k) (has more) x 0 SITES same others above (omega arith) (has-site more x same)
 

@@ -13,13 +13,16 @@ use Rattle.sl_base.specs.declared.place.Place.{Place}
 use Rattle.sl_model.specs.Covers.{Warning}
 use Rattle.sl_warnings.specs.declared.spot.Spot.{Spot}
 use Rattle.sl_warnings.specs.Reports.{warning_cmp, IsAscending}
-use Rattle.sl_warnings.specs.Views.{spot_cmp, spot_of}
+use Rattle.sl_warnings.specs.Means.Kept.{spot_cmp, spot_of}
 
+-- the order of spots is total
 pub spot_cmp_total : IsTotalOrder spot_cmp
 spot_cmp_total =
     then_total (on_total (λ (s : Spot). s.line) nat_cmp_total)
-    (then_total (on_total (λ (s : Spot). s.col) nat_cmp_total) (then_total (on_total (λ (s : Spot). s.kind) nat_cmp_total) (on_total (λ (s : Spot). s.argument) nat_cmp_total)))
+    (then_total (on_total (λ (s : Spot). s.col) nat_cmp_total)
+    (then_total (on_total (λ (s : Spot). s.kind) nat_cmp_total) (on_total (λ (s : Spot). s.argument) nat_cmp_total)))
 
+-- the order of warnings is total
 pub warning_cmp_total : IsTotalOrder warning_cmp
 warning_cmp_total = on_total spot_of spot_cmp_total
 
@@ -33,14 +36,17 @@ like_right v x w e h =
 pub greater_first : (v w : Warning) → warning_cmp v w ≡ Greater → warning_cmp w v ≡ Less
 greater_first v w h = warning_cmp_total.antisymm w v ∙ ap ordering_reverse h
 
+-- two spots that are one are one the other way round
 pub equal_flipped : (s t : Spot) → spot_cmp s t ≡ Equal → spot_cmp t s ≡ Equal
 equal_flipped s t h = spot_cmp_total.antisymm t s ∙ ap ordering_reverse h
 
+-- of two comparisons one after the other that find no difference, the first finds none
 then-first : (r s : Ordering) → ordering_then r s ≡ Equal → r ≡ Equal
 then-first Less s h = absurd cc
 then-first Equal s h = refl
 then-first Greater s h = absurd cc
 
+-- nor does the second
 then-second : (r s : Ordering) → ordering_then r s ≡ Equal → s ≡ Equal
 then-second Less s h = absurd cc
 then-second Equal s h = h
@@ -52,9 +58,11 @@ pub record IsSameSpot (v w : Warning) : Type 0 where
   pub kind : v.kind ≡ w.kind
   pub argument : v.argument ≡ w.argument
 
+-- two places with one line and one column are one
 places : (p q : Place) → p.line ≡ q.line → p.col ≡ q.col → p ≡ q
 places p q e f = λ j. record { line = e j; col = f j }
 
+-- two warnings between which the order finds no difference have one place, kind and argument
 pub same_spot : (v w : Warning) → warning_cmp v w ≡ Equal → IsSameSpot v w
 same_spot v w h =
     let line = ranked v.place.line w.place.line Equal (sym (then-first _ _ h)) in
@@ -67,7 +75,9 @@ same_spot v w h =
       argument = ranked v.argument w.argument Equal (sym (then-second (nat_cmp v.kind w.kind) _ last));
     }
 
-spots_after : (w : Warning) (ws : List Warning) → AllByRecursion (λ v. warning_cmp w v ≡ Less) ws → AllByRecursion (λ s. spot_cmp (spot_of w) s ≡ Less) (map spot_of ws)
+-- what comes before each warning has a spot before each of theirs
+spots_after : (w : Warning) (ws : List Warning) → AllByRecursion (λ v. warning_cmp w v ≡ Less) ws
+    → AllByRecursion (λ s. spot_cmp (spot_of w) s ≡ Less) (map spot_of ws)
 spots_after w [] h = tt
 spots_after w (v ∷ vs) h = (h.0, spots_after w vs h.1)
 
@@ -87,6 +97,7 @@ spots_sorted ss h = λ k d low high.
 unfoldable pub spot_eq : Spot → Spot → Bool
 spot_eq s t = nat_eq s.line t.line && (nat_eq s.col t.col && (nat_eq s.kind t.kind && nat_eq s.argument t.argument))
 
+-- both parts of a conjunction that is true are true
 both-true : (a b : Bool) → (a && b) ≡ true → (a ≡ true) × (b ≡ true)
 both-true true b h = (refl, h)
 both-true false b h = absurd cc

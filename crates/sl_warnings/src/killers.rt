@@ -4,7 +4,6 @@ ghost use Rattle.sl_kind.specs.Kills.{has};
 ghost use Rattle.sl_model.specs.Texts.{place_text, site_text, further_sites, sites_text, killers_text};
 ghost use Rattle.sl_warnings.specs.Views.{sites_in};
 
-use crate::rendering::push;
 use sl_base::failures::INVALID_ITERATOR;
 use sl_base::limits::SITES;
 use sl_base::{Items, Place, Site};
@@ -58,7 +57,7 @@ fn push_sites(
     ensures { OnOk result (out.new ≡ out.old ++ sites_text sites.now killers.now) }
 {
     if let [first, more @ ..] = killers {
-        push(out, b", invalidated at ")?;
+        out.extend_from_slice(b", invalidated at ")?;
         push_site(alloc, out, sites, *first)?;
         push_further(alloc, out, sites, more)?;
     }
@@ -74,7 +73,7 @@ fn push_further(
     ensures { OnOk result (out.new ≡ out.old ++ further_sites sites.now killers.now) }
 {
     for killer in killers {
-        push(out, b", ")?;
+        out.extend_from_slice(b", ")?;
         push_site(alloc, out, sites, *killer)?;
     }
     Ok(())
@@ -100,5 +99,5 @@ fn push_place(alloc: Global, out: &mut Items<u8>, place: Place) -> Result<(), Al
 {
     let line = place.line;
     let col = place.col;
-    push(out, format!(in alloc; "{line}:{col}")?.as_bytes())
+    out.extend_from_slice(format!(in alloc; "{line}:{col}")?.as_bytes())
 }

@@ -6,8 +6,6 @@ mod laws;
 mod rendering;
 mod report;
 mod spot;
-#[cfg(test)]
-mod tests;
 mod warning;
 mod wording;
 

@@ -10,9 +10,9 @@ use crate::wording::{kind_words, push_who};
 use sl_base::{Items, Place};
 use std::alloc::{AllocError, Global};
 
-/// The text of a report on a file of this name, in which the site with number i has the i-th of these places: a line for
-/// each warning and one with their number, or the one line of a text that passed. A site that has no place gives no
-/// bytes, nor does a kind that has no words.
+/// The text of a report on a file of this name, in which the site with number i has the i-th of these places: a line
+/// for each warning and one with their number, or the one line of a text that passed. A site that has no place gives
+/// no bytes, nor does a kind that has no words.
 pub fn render(
     alloc: Global,
     name: &str,
@@ -24,25 +24,12 @@ pub fn render(
     let mut out = Items::new(alloc);
     let count = r.len();
     if count == 0 {
-        push(&mut out, format!(in alloc; "{name}: passed\n")?.as_bytes())?;
+        out.extend_from_slice(format!(in alloc; "{name}: passed\n")?.as_bytes())?;
         return Ok(out);
     }
     push_warnings(alloc, &mut out, name, sites, r)?;
-    push(
-        &mut out,
-        format!(in alloc; "{name}: warnings: {count}\n")?.as_bytes(),
-    )?;
+    out.extend_from_slice(format!(in alloc; "{name}: warnings: {count}\n")?.as_bytes())?;
     Ok(out)
-}
-
-// Puts bytes at the end.
-pub fn push(out: &mut Items<u8>, bytes: &[u8]) -> Result<(), AllocError>
-    ensures { OnOk result (out.new ≡ out.old ++ bytes.now) }
-{
-    for byte in bytes {
-        out.push(*byte)?;
-    }
-    Ok(())
 }
 
 // The lines of the warnings.
@@ -76,13 +63,13 @@ fn push_warning(
     let line = warning.place.line;
     let col = warning.place.col;
     let call = warning.call.as_slice();
-    push(out, format!(in alloc; "{name}:{line}:{col}: ")?.as_bytes())?;
-    push(out, kind_words(warning.kind).as_bytes())?;
-    push(out, b" in ")?;
-    push(out, call)?;
-    push(out, b": ")?;
+    out.extend_from_slice(format!(in alloc; "{name}:{line}:{col}: ")?.as_bytes())?;
+    out.extend_from_slice(kind_words(warning.kind).as_bytes())?;
+    out.extend_from_slice(b" in ")?;
+    out.extend_from_slice(call)?;
+    out.extend_from_slice(b": ")?;
     push_who(alloc, out, call, warning.argument, &warning.name)?;
     push_killers(alloc, out, sites, warning.kind, &warning.killers)?;
-    push(out, b"\n")?;
+    out.extend_from_slice(b"\n")?;
     Ok(())
 }

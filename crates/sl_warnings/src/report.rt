@@ -2,7 +2,8 @@ ghost use Rattle.std.specs.Prelude.{◌≡◌, ◌≢◌, ◌<◌, ◌≤◌, �
 ghost use Rattle.std.specs.Option.{option_map};
 ghost use Rattle.indexmap.specs.IndexMap.{index_map_len, keys};
 ghost use Rattle.sl_warnings.specs.Reports.{IsAscending, added, with_killers_at};
-ghost use Rattle.sl_warnings.specs.Views.{warning_of, sites_in, listed, IsNew};
+ghost use Rattle.sl_warnings.specs.Views.{warning_of, sites_in};
+ghost use Rattle.sl_warnings.specs.Means.Kept.{listed, IsNew};
 
 use crate::spot::Spot;
 use crate::warning::Warning;
@@ -11,15 +12,16 @@ use sl_kind::Kills;
 use std::alloc::{AllocError, Global};
 use std::marker::Model;
 
-/// The warnings by line, column, kind and argument, of which no two have the same four. A contract sees the list of what
-/// they tell.
+/// The warnings by line, column, kind and argument, of which no two have the same four. A contract sees the list of
+/// what they tell.
 #[derive(Drop)]
 pub struct Report {
     warnings: IndexMap<Spot, Warning>,
 }
 
 impl Model for Report {
-    ghost use Rattle.sl_warnings.specs.Views.{Told, listed, IsKept};
+    ghost use Rattle.sl_warnings.specs.Views.{Told};
+    ghost use Rattle.sl_warnings.specs.Means.Kept.{listed, IsKept};
 
     ghost Value = { Told };
 
@@ -38,9 +40,9 @@ impl Report {
         }
     }
 
-    /// Adds a warning: where there is one at the same place, of the same kind and argument, that one gets its killers too
-    /// and is else as it was, and else it goes to its place in the order. All others stay. After AllocError the report is
-    /// as it was.
+    /// Adds a warning: where there is one at the same place, of the same kind and argument, that one gets its killers
+    /// too and is else as it was, and else it goes to its place in the order. All others stay. After AllocError the
+    /// report is as it was.
     pub fn add(&mut self, warning: Warning) -> Result<(), AllocError>
         ensures added { OnOk result (self.new ≡ added (warning_of warning) self.old) }
         ensures kept { OnErr result (self.new ≡ self.old) }
@@ -79,7 +81,8 @@ impl Report {
 fn join_at(warnings: &mut IndexMap<Spot, Warning>, at: usize, killers: &Kills)
     requires { at < index_map_len warnings.old }
     ensures keys { keys warnings.new ≡ keys warnings.old }
-    ensures joined { listed warnings.new.entries ≡ with_killers_at (listed warnings.old.entries) at (sites_in killers.now) }
+    ensures joined { listed warnings.new.entries
+        ≡ with_killers_at (listed warnings.old.entries) at (sites_in killers.now) }
 {
     warnings[at].join(killers);
 }

@@ -18,7 +18,8 @@ pub struct Warning {
 }
 
 impl Warning {
-    ghost use Rattle.sl_warnings.specs.Views.{warning_of, spot_of, sites_in};
+    ghost use Rattle.sl_warnings.specs.Views.{warning_of, sites_in};
+    ghost use Rattle.sl_warnings.specs.Means.Kept.{spot_of};
     ghost use Rattle.sl_warnings.specs.Reports.{with_killers};
 
     // What tells it apart.

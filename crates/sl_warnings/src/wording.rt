@@ -2,7 +2,6 @@
 ghost use Rattle.std.specs.Prelude.{◌≡◌, ◌++◌, OnOk};
 ghost use Rattle.sl_model.specs.Texts.{kind_text, who_text, name_text, name_in_for};
 
-use crate::rendering::push;
 use sl_base::{Items, Name, failures};
 use std::alloc::{AllocError, Global};
 
@@ -38,7 +37,7 @@ pub fn push_who(
 {
     match name {
         Some(name) => push_name(out, call, argument, name.as_slice()),
-        None => push(out, format!(in alloc; "argument {argument}")?.as_bytes()),
+        None => out.extend_from_slice(format!(in alloc; "argument {argument}")?.as_bytes()),
     }
 }
 
@@ -49,7 +48,7 @@ fn push_name(out: &mut Items<u8>, call: &[u8], argument: u8, name: &[u8]) -> Res
     if call == b"for".as_slice() {
         push_in_for(out, argument, name)
     } else {
-        push(out, name)
+        out.extend_from_slice(name)
     }
 }
 
@@ -58,9 +57,9 @@ fn push_in_for(out: &mut Items<u8>, argument: u8, name: &[u8]) -> Result<(), All
     ensures { OnOk result (out.new ≡ out.old ++ name_in_for argument name.now) }
 {
     if argument == 1 {
-        push(out, b"begin of ")?;
+        out.extend_from_slice(b"begin of ")?;
     } else if argument == 2 {
-        push(out, b"end of ")?;
+        out.extend_from_slice(b"end of ")?;
     }
-    push(out, name)
+    out.extend_from_slice(name)
 }

@@ -1,4 +1,23 @@
-ghost use Rattle.std.specs.Prelude.{◌≡◌, ◌+◌, ◌<◌, ◌≤◌, ◌↔◌, ℕ, List, [], ◌++◌, length, take, min, None, MatchOption, IfOk, OnOk, OnErr, IsErr};
+ghost use Rattle.std.specs.Prelude.{
+  ◌≡◌,
+  ◌+◌,
+  ◌<◌,
+  ◌≤◌,
+  ◌↔◌,
+  ℕ,
+  List,
+  [],
+  ◌++◌,
+  length,
+  take,
+  min,
+  None,
+  MatchOption,
+  IfOk,
+  OnOk,
+  OnErr,
+  IsErr,
+};
 ghost use Rattle.std.specs.Io.KnownBytes.{Consumes, IsAtEnd};
 ghost use Rattle.std.specs.Option.{ForSome};
 ghost use Rattle.sl_base.specs.Counts.{one_more, faults_after};
@@ -97,7 +116,16 @@ fn take_front(bytes: &mut Vec<u8>, chunk: usize, buf: &mut [u8]) -> usize
 }
 
 impl Files for MemFiles {
-    ghost use Rattle.sl_base.specs.MemoryViews.{mem_left, mem_names, mem_chunk, mem_fails, mem_calls, mem_faults, mem_blamed, ReadFails};
+    ghost use Rattle.sl_base.specs.MemoryViews.{
+      mem_left,
+      mem_names,
+      mem_chunk,
+      mem_fails,
+      mem_calls,
+      mem_faults,
+      mem_blamed,
+      ReadFails,
+    };
 
     ghost left = { λ m name. left_in m.files.items name };
 
@@ -109,12 +137,14 @@ impl Files for MemFiles {
     fn read(&mut self, name: &str, buf: &mut [u8]) -> Result<usize, Failed>
         requires { 0 < length buf.old }
         ensures bound { IfOk result (λ n. n ≤ length buf.new) }
-        ensures bytes { IfOk result (λ n. Consumes (mem_left self.old name.now) (mem_left self.new name.now) (take n buf.new)) }
+        ensures bytes { IfOk result
+            (λ n. Consumes (mem_left self.old name.now) (mem_left self.new name.now) (take n buf.new)) }
         ensures end { IfOk result (λ n. n ≡ 0 → IsAtEnd (mem_left self.new name.now)) }
         ensures others { OnOk result (OthersKept (mem_left self.old) (mem_left self.new) name.now) }
         ensures kept { OnErr result (AllKept (mem_left self.old) (mem_left self.new)) }
         ensures no_fall { mem_faults self.old ≤ mem_faults self.new }
-        ensures steady { OnOk result (NoFault (mem_faults self.old) (mem_faults self.new) (mem_blamed self.old) (mem_blamed self.new)) }
+        ensures steady { OnOk result
+            (NoFault (mem_faults self.old) (mem_faults self.new) (mem_blamed self.old) (mem_blamed self.new)) }
         ensures risen { OnErr result (Rose (mem_faults self.old) (mem_faults self.new)) }
         ensures blame { OnErr result (mem_blamed self.new name.now) }
 

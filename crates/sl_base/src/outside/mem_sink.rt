@@ -1,4 +1,21 @@
-ghost use Rattle.std.specs.Prelude.{◌≡◌, ◌<◌, ◌≤◌, ◌-◌, ◌↔◌, [], length, min, take, Some, IfOk, OnOk, OnErr, IsErr, vec_len, vec_capacity};
+ghost use Rattle.std.specs.Prelude.{
+  ◌≡◌,
+  ◌<◌,
+  ◌≤◌,
+  ◌-◌,
+  ◌↔◌,
+  [],
+  length,
+  min,
+  take,
+  Some,
+  IfOk,
+  OnOk,
+  OnErr,
+  IsErr,
+  vec_len,
+  vec_capacity,
+};
 ghost use Rattle.std.specs.Io.KnownBytes.{Appends, Keeps};
 ghost use Rattle.sl_base.specs.Counts.{one_more, faults_after};
 ghost use Rattle.sl_base.specs.Outside.{Rose};
@@ -65,7 +82,15 @@ impl MemSink {
 }
 
 impl Sink for MemSink {
-    ghost use Rattle.sl_base.specs.MemoryViews.{sink_bytes, sink_chunk, sink_room, sink_fails, sink_calls, sink_faults, WriteFails};
+    ghost use Rattle.sl_base.specs.MemoryViews.{
+      sink_bytes,
+      sink_chunk,
+      sink_room,
+      sink_fails,
+      sink_calls,
+      sink_faults,
+      WriteFails,
+    };
 
     ghost taken = { λ s. Some (sink_bytes s) };
 
@@ -76,7 +101,8 @@ impl Sink for MemSink {
         requires { 0 < length piece.now }
         ensures bound { IfOk result (λ n. n ≤ length piece.now) }
         ensures some { IfOk result (λ n. 0 < n) }
-        ensures bytes { IfOk result (λ n. Appends (Some (sink_bytes self.old)) (Some (sink_bytes self.new)) (take n piece.now)) }
+        ensures bytes { IfOk result
+            (λ n. Appends (Some (sink_bytes self.old)) (Some (sink_bytes self.new)) (take n piece.now)) }
         ensures kept { OnErr result (Keeps (Some (sink_bytes self.old)) (Some (sink_bytes self.new))) }
         ensures no_fall { sink_faults self.old ≤ sink_faults self.new }
         ensures steady { OnOk result (sink_faults self.new ≡ sink_faults self.old) }
@@ -87,7 +113,9 @@ impl Sink for MemSink {
         ensures counted { sink_faults self.new ≡ faults_after result (sink_faults self.old) }
 
         // What goes on as before.
-        ensures most { IfOk result (λ n. n ≡ min (sink_chunk self.old) (min (length piece.now) (sink_room self.old - length (sink_bytes self.old)))) }
+        ensures most { IfOk result (λ n.
+            n ≡ min (sink_chunk self.old)
+            (min (length piece.now) (sink_room self.old - length (sink_bytes self.old)))) }
         ensures chunk { sink_chunk self.new ≡ sink_chunk self.old }
         ensures room { sink_room self.new ≡ sink_room self.old }
         ensures listed { sink_fails self.new ≡ sink_fails self.old }

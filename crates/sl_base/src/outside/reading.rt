@@ -39,7 +39,8 @@ pub fn read_all<F: Files>(
     ensures part { OnErr result (IsReadInPart limit (F.left files.old name.now) (F.left files.new name.now)) }
     ensures others { OthersKept (F.left files.old) (F.left files.new) name.now }
     ensures no_fall { F.faults files.old ≤ F.faults files.new }
-    ensures steady { OnOk result (NoFault (F.faults files.old) (F.faults files.new) (F.blamed files.old) (F.blamed files.new)) }
+    ensures steady { OnOk result
+        (NoFault (F.faults files.old) (F.faults files.new) (F.blamed files.old) (F.blamed files.new)) }
     ensures steady_memory { IsErrOf result ReadErr.Memory →
         NoFault (F.faults files.old) (F.faults files.new) (F.blamed files.old) (F.blamed files.new) }
     ensures risen { IsErrOf result ReadErr.Failed → Rose (F.faults files.old) (F.faults files.new) }

@@ -82,7 +82,8 @@ impl<R: System + Drop> Files for RealFiles<R> {
         ensures bound { IfOk result (λ n. n ≤ length buf.new) }
         ensures no_fall { self.old.faults ≤ self.new.faults }
         ensures steady { OnOk result
-            (NoFault self.old.faults self.new.faults (IsBlamedWord self.old.words.items self.old.blame) (IsBlamedWord self.new.words.items self.new.blame)) }
+            (NoFault self.old.faults self.new.faults
+            (IsBlamedWord self.old.words.items self.old.blame) (IsBlamedWord self.new.words.items self.new.blame)) }
         ensures risen { OnErr result (Rose self.old.faults self.new.faults) }
         ensures blame { OnErr result (IsBlamedWord self.new.words.items self.new.blame name.now) }
 

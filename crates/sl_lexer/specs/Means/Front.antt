@@ -1,6 +1,7 @@
 -- What begins a rest of the text, as a function of its bytes: the kind and the length of the longest piece, or the rule that is broken
 -- and how far from the front. A means of the proof alone: proofs/FrontLaws ties it to the pieces and the rules of sl_base.
-use Rattle.std.specs.Prelude.{ℕ, zero, suc, ◌+◌, ◌==◌, ◌||◌, ◌&&◌, Bool, false, not, nat_lt, List, [], ◌∷◌, length, take, drop, codes, Option, Some, None, option_map, Result, Ok, Err, is_some, if◌then◌else◌}
+use Rattle.std.specs.Prelude.{ℕ, zero, suc, ◌+◌, ◌==◌, ◌||◌, ◌&&◌, Bool, false, not, nat_lt, List, [], ◌∷◌, length, take, drop, codes, Option, Some}
+use Rattle.std.specs.Prelude.{None, option_map, Result, Ok, Err, is_some, if◌then◌else◌}
 use Rattle.std.specs.List.{prefix_len}
 use Rattle.std.specs.Str.{bytes_eq}
 use Rattle.sl_base.specs.declared.limits.TheConstants.{NAME_BYTES, LARGEST_NUMBER}
@@ -10,7 +11,8 @@ use Rattle.sl_base.specs.Directives.{closes_directive}
 use Rattle.sl_base.specs.Headers.{is_header}
 use Rattle.sl_base.specs.Marks.{mark_of}
 use Rattle.sl_base.specs.Places.{is_line_feed}
-use Rattle.sl_base.specs.Pieces.{PieceKind, blank_piece, comment_piece, directive_piece, name_piece, lib_piece, number_piece, text_piece, mark_piece, std_colons, decimal, TokenRule, bad_byte, bad_number, open_comment, open_text, bad_directive}
+use Rattle.sl_base.specs.Pieces.{PieceKind, blank_piece, comment_piece, directive_piece, name_piece, lib_piece, number_piece, text_piece, mark_piece}
+use Rattle.sl_base.specs.Pieces.{std_colons, decimal, TokenRule, bad_byte, bad_number, open_comment, open_text, bad_directive}
 use Rattle.sl_base.specs.Quoted.{escape_of, text_end, unescaped, between}
 use Rattle.sl_lexer.specs.declared.byte.First.{First}
 use Rattle.sl_lexer.specs.declared.byte.First.TheVariants.{Blank, Letter, Digit, Quote, Apostrophe, Hash, Other}

@@ -6,7 +6,9 @@ use Rattle.sl_base.specs.declared.form.Form.TheVariants as f
 use Rattle.sl_syntax.specs.declared.operator.Access.TheVariants as a
 use Rattle.sl_syntax.specs.declared.operator.Arithmetic.TheVariants as o
 use Rattle.sl_syntax.specs.declared.operator.Comparison.TheVariants as c
-use Rattle.sl_syntax.specs.Typed.{literal, held, arithmetic, comparison, own_call, container, reference, scalar, none, with, test, text, number, reads, prints, evaluates, assigns, updates, set_scalar, block, declares, choice, gives_back, does, by_value, by_reference, a_container, Typed}
+use Rattle.sl_syntax.specs.Typed.{literal, held, arithmetic, comparison, own_call, container, reference, scalar, none, with, test, text, number}
+use Rattle.sl_syntax.specs.Typed.{reads, prints, evaluates, assigns, updates, set_scalar, block, declares, choice, gives_back, does, by_value}
+use Rattle.sl_syntax.specs.Typed.{by_reference, a_container, Typed}
 use Rattle.sl_model.specs.Ends.{Done, Trapped, OutOfSteps, Language}
 use Rattle.sl_model.specs.Run.{run}
 use Rattle.sl_model.proofs.Examples.Short.{at, all, vector, push, start, deref, main_of, text_of, finish, trap}
@@ -27,8 +29,10 @@ recursion = text_of (
       result = Some (by_value t.Int);
       close = at 4 1;
       body = block None (all (
-          choice (test (comparison c.LessEqual (at 2 9) (held (scalar 0 (at 2 7))) (literal t.Int (pos 1)))) (gives_back (Some (literal t.Int (pos 1)))) ∷
-          gives_back (Some (arithmetic o.Multiply t.Int (at 3 12) (held (scalar 0 (at 3 10))) (own_call 0 (at 3 14) (with (arithmetic o.Subtract t.Int
+          choice (test (comparison c.LessEqual (at 2 9) (held (scalar 0 (at 2 7))) (literal t.Int (pos 1))))
+          (gives_back (Some (literal t.Int (pos 1)))) ∷
+          gives_back (Some (arithmetic o.Multiply t.Int (at 3 12) (held (scalar 0 (at 3 10)))
+          (own_call 0 (at 3 14) (with (arithmetic o.Subtract t.Int
           (at 3 21) (held (scalar 0 (at 3 19))) (literal t.Int (pos 1))) none)))) ∷
           []));
     } ∷
@@ -66,8 +70,10 @@ too_deep = text_of (
       result = Some (by_value t.Int);
       close = at 4 1;
       body = block None (all (
-          choice (test (comparison c.Equal (at 2 9) (held (scalar 0 (at 2 7))) (literal t.Int (pos 0)))) (gives_back (Some (literal t.Int (pos 0)))) ∷
-          gives_back (Some (arithmetic o.Add t.Int (at 3 22) (own_call 0 (at 3 10) (with (arithmetic o.Subtract t.Int (at 3 17) (held (scalar 0 (at 3 15)))
+          choice (test (comparison c.Equal (at 2 9) (held (scalar 0 (at 2 7))) (literal t.Int (pos 0))))
+          (gives_back (Some (literal t.Int (pos 0)))) ∷
+          gives_back (Some (arithmetic o.Add t.Int (at 3 22)
+          (own_call 0 (at 3 10) (with (arithmetic o.Subtract t.Int (at 3 17) (held (scalar 0 (at 3 15)))
           (literal t.Int (pos 1))) none)) (literal t.Int (pos 1)))) ∷
           []));
     } ∷

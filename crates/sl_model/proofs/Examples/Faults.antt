@@ -4,7 +4,9 @@ use Rattle.std.specs.Fmt.{digits}
 use Rattle.sl_base.specs.declared.scalar.Scalar.TheVariants as t
 use Rattle.sl_syntax.specs.declared.operator.Arithmetic.TheVariants as o
 use Rattle.sl_syntax.specs.declared.operator.Comparison.TheVariants as c
-use Rattle.sl_syntax.specs.Typed.{rise, fall, prefix, literal, held, convert, arithmetic, comparison, increment, own_call, reference, scalar, none, with, test, number, reads, prints, evaluates, assigns, updates, unset_scalar, set_scalar, block, declares, choice, while, gives_back, does, by_value, by_reference, Stmt, Typed}
+use Rattle.sl_syntax.specs.Typed.{rise, fall, prefix, literal, held, convert, arithmetic, comparison, increment, own_call, reference, scalar, none}
+use Rattle.sl_syntax.specs.Typed.{with, test, number, reads, prints, evaluates, assigns, updates, unset_scalar, set_scalar, block, declares, choice}
+use Rattle.sl_syntax.specs.Typed.{while, gives_back, does, by_value, by_reference, Stmt, Typed}
 use Rattle.sl_model.specs.Ends.{Done, OutOfSteps, Language}
 use Rattle.sl_model.specs.Run.{run}
 use Rattle.sl_model.proofs.Examples.Short.{at, all, vector, push, start, deref, main_of, text_of, alone, finish}
@@ -12,7 +14,8 @@ use Rattle.sl_model.proofs.Examples.Short.{at, all, vector, push, start, deref, 
 -- the loop's body of `no_value`
 abbrev no_value_turn : Stmt
 no_value_turn = block None (all (
-    choice (test (comparison c.Equal (at 3 11) (held (scalar 0 (at 3 9))) (literal t.Int (pos 3)))) (gives_back (Some (held (scalar 0 (at 3 24))))) ∷
+    choice (test (comparison c.Equal (at 3 11) (held (scalar 0 (at 3 9))) (literal t.Int (pos 3))))
+    (gives_back (Some (held (scalar 0 (at 3 24))))) ∷
     does (evaluates (increment fall prefix t.Int (at 4 5) (scalar 0 (at 4 7)))) ∷
     []))
 

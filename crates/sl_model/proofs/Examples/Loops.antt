@@ -4,7 +4,10 @@ use Rattle.std.specs.Fmt.{digits}
 use Rattle.sl_base.specs.declared.scalar.Scalar.TheVariants as t
 use Rattle.sl_syntax.specs.declared.operator.Arithmetic.TheVariants as o
 use Rattle.sl_syntax.specs.declared.operator.Comparison.TheVariants as c
-use Rattle.sl_syntax.specs.Typed.{row, rise, fall, prefix, postfix, literal, held, arithmetic, comparison, increment, call, scalar, none, with, read, test, always, number, prints, evaluates, assigns, updates, moves_to, unset_scalar, set_scalar, no_first, declares_first, does_first, block, declares, choice, while, for, range_for, break, continue, gives_back, does, Stmt, Typed}
+use Rattle.sl_syntax.specs.Typed.{row, rise, fall, prefix, postfix, literal, held, arithmetic, comparison, increment, call, scalar, none, with, read}
+use Rattle.sl_syntax.specs.Typed.{test, always, number, prints, evaluates, assigns, updates, moves_to, unset_scalar, set_scalar, no_first}
+use Rattle.sl_syntax.specs.Typed.{declares_first, does_first, block, declares, choice, while, for, range_for, break, continue, gives_back, does, Stmt}
+use Rattle.sl_syntax.specs.Typed.{Typed}
 use Rattle.sl_model.specs.Ends.{Done, Trapped, OutOfSteps, NoMeaning}
 use Rattle.sl_model.specs.Run.{run}
 use Rattle.sl_model.proofs.Examples.Short.{at, head, all, vector, push, start, deref, main_of, text_of, alone, finish, trap}
@@ -29,7 +32,8 @@ no_test = text_of (
     main_of None (
     declares (set_scalar t.Int (literal t.Int (pos 0))) ∷
     for no_first always None no_test_turn ∷
-    for (does_first (assigns (scalar 0 (at 7 8)) (literal t.Int (pos 10)))) always (Some (evaluates (increment fall postfix t.Int (at 7 19) (scalar 0
+    for (does_first (assigns (scalar 0 (at 7 8)) (literal t.Int (pos 10)))) always
+    (Some (evaluates (increment fall postfix t.Int (at 7 19) (scalar 0
     (at 7 18))))) (choice (test (comparison c.Less (at 7 29) (held (scalar 0 (at 7 27))) (literal t.Int (pos 5)))) (gives_back (Some (held
     (scalar 0 (at 7 41)))))) ∷
     []) (at 8 1) ∷ []) 0 [] []
@@ -52,7 +56,8 @@ nested_inner = block None (all (
 abbrev nested_outer : Stmt
 nested_outer = block None (all (
     choice (test (comparison c.Equal (at 4 11) (held (scalar 1 (at 4 9))) (literal t.Int (pos 1)))) continue ∷
-    for (declares_first (set_scalar t.Int (literal t.Int (pos 0)))) (test (comparison c.Less (at 5 23) (held (scalar 2 (at 5 21))) (literal t.Int (pos 4))))
+    for (declares_first (set_scalar t.Int (literal t.Int (pos 0))))
+    (test (comparison c.Less (at 5 23) (held (scalar 2 (at 5 21))) (literal t.Int (pos 4))))
     (Some (evaluates (increment rise prefix t.Int (at 5 28) (scalar 2 (at 5 30))))) nested_inner ∷
     []))
 
@@ -70,7 +75,8 @@ nested_outer = block None (all (
 abbrev pub nested : Typed
 nested = alone None (
     declares (set_scalar t.Int (literal t.Int (pos 0))) ∷
-    for (declares_first (set_scalar t.Int (literal t.Int (pos 0)))) (test (comparison c.Less (at 3 21) (held (scalar 1 (at 3 19))) (literal t.Int (pos 4))))
+    for (declares_first (set_scalar t.Int (literal t.Int (pos 0))))
+    (test (comparison c.Less (at 3 21) (held (scalar 1 (at 3 19))) (literal t.Int (pos 4))))
     (Some (evaluates (increment rise prefix t.Int (at 3 26) (scalar 1 (at 3 28))))) nested_outer ∷
     gives_back (Some (held (scalar 0 (at 10 10)))) ∷
     []) (at 11 1) [] []
@@ -85,7 +91,8 @@ nested_in_46_steps = refl
 -- the loop's body of `many_steps`
 abbrev many_steps_turn : Stmt
 many_steps_turn = block None (all (
-    does (updates o.Add t.Int t.Int (at 4 7) (scalar 0 (at 4 5)) (arithmetic o.Remainder t.Int (at 4 12) (held (scalar 1 (at 4 10))) (literal t.Int (pos 7)))) ∷
+    does (updates o.Add t.Int t.Int (at 4 7) (scalar 0 (at 4 5))
+    (arithmetic o.Remainder t.Int (at 4 12) (held (scalar 1 (at 4 10))) (literal t.Int (pos 7)))) ∷
     []))
 
 -- int main() {
@@ -125,7 +132,8 @@ grows_in_loop = alone (Some 2) (
     declares (unset_scalar t.Int) ∷
     push (at 4 5) 0 0 0 (pos 0) ∷
     start (at 5 15) 0 0 ∷
-    while (read (0 ∷ [])) (does (evaluates (call (head (row 15) (at 6 27) 1 (Some 0) (Some 0 ∷ Some 1 ∷ [])) (with (held (scalar 0 (at 6 37))) none)))) ∷
+    while (read (0 ∷ [])) (does (evaluates
+    (call (head (row 15) (at 6 27) 1 (Some 0) (Some 0 ∷ Some 1 ∷ [])) (with (held (scalar 0 (at 6 37))) none)))) ∷
     does (prints (number (held (deref (at 7 16) 0 2)) ∷ [])) ∷
     []) (at 8 1) (at 4 5 ∷ at 6 27 ∷ at 8 1 ∷ []) (codes "v" ∷ codes "x" ∷ codes "it" ∷ [])
 
@@ -143,7 +151,8 @@ unfolding digits
 grows_in_loop_with_room = refl
 
 -- the fourth one grows
-grows_in_loop_past_the_room : run grows_in_loop (pos 7 ∷ pos 8 ∷ pos 9 ∷ []) (3 ∷ []) 100 ≡ finish (Trapped (trap (at 7 16) 1 (codes "*") 1 (Some 2) (Some 1))) [] 0
+grows_in_loop_past_the_room : run grows_in_loop (pos 7 ∷ pos 8 ∷ pos 9 ∷ []) (3 ∷ []) 100
+    ≡ finish (Trapped (trap (at 7 16) 1 (codes "*") 1 (Some 2) (Some 1))) [] 0
 grows_in_loop_past_the_room = refl
 
 -- the loop's body of `moved_in_loop`

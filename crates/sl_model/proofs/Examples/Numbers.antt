@@ -4,7 +4,8 @@ use Rattle.std.specs.Fmt.{digits}
 use Rattle.sl_base.specs.declared.scalar.Scalar.TheVariants as t
 use Rattle.sl_syntax.specs.declared.operator.Arithmetic.TheVariants as o
 use Rattle.sl_syntax.specs.declared.operator.Comparison.TheVariants as c
-use Rattle.sl_syntax.specs.Typed.{fall, prefix, literal, held, convert, negate, logical_not, arithmetic, comparison, increment, scalar, test, text, number, reads, prints, assigns, updates, set_scalar, declares, choice, gives_back, does, Typed}
+use Rattle.sl_syntax.specs.Typed.{fall, prefix, literal, held, convert, negate, logical_not, arithmetic, comparison, increment, scalar, test, text}
+use Rattle.sl_syntax.specs.Typed.{number, reads, prints, assigns, updates, set_scalar, declares, choice, gives_back, does, Typed}
 use Rattle.sl_model.specs.Ends.{Done, Language}
 use Rattle.sl_model.specs.Run.{run}
 use Rattle.sl_model.proofs.Examples.Short.{at, main_of, text_of, finish}
@@ -41,8 +42,10 @@ conversions = text_of (
     declares (set_scalar t.Size (convert t.Size (held (scalar 6 (at 9 21))))) ∷
     does (updates o.Add t.Size t.Size (at 10 7) (scalar 7 (at 10 3)) (convert t.Size (literal t.Int (pos 1)))) ∷
     declares (set_scalar t.Int (convert t.Int (held (scalar 7 (at 11 11))))) ∷
-    does (prints (number (held (scalar 1 (at 12 16))) ∷ text (codes " ") ∷ number (held (scalar 2 (at 12 28))) ∷ number (held (scalar 3 (at 12 33))) ∷
-    number (held (scalar 4 (at 12 38))) ∷ number (held (scalar 5 (at 12 43))) ∷ text (codes " ") ∷ number (held (scalar 8 (at 12 55))) ∷ text (codes " ") ∷ [])) ∷
+    does (prints (number (held (scalar 1 (at 12 16))) ∷ text (codes " ") ∷ number (held (scalar 2 (at 12 28))) ∷
+    number (held (scalar 3 (at 12 33))) ∷
+    number (held (scalar 4 (at 12 38))) ∷ number (held (scalar 5 (at 12 43))) ∷ text (codes " ") ∷ number (held (scalar 8 (at 12 55))) ∷
+    text (codes " ") ∷ [])) ∷
     does (prints (number (comparison c.Less (at 13 19) (convert t.Size (held (scalar 0 (at 13 17)))) (held (scalar 1 (at 13 21)))) ∷
     number (comparison c.Less (at 13 30) (convert t.Size (held (scalar 2 (at 13 28)))) (held (scalar 1 (at 13 32)))) ∷
     number (comparison c.Equal (at 13 41) (convert t.Size (held (scalar 0 (at 13 39)))) (held (scalar 1 (at 13 44)))) ∷
@@ -58,7 +61,8 @@ conversions = text_of (
     number (arithmetic o.Subtract t.Size (at 18 23) (held (scalar 1 (at 18 21))) (convert t.Size (literal t.Int (pos 2)))) ∷ [])) ∷
     []) (at 19 1) ∷ []) 0 [] []
 
-conversions_prints : run conversions [] [] 100 ≡ finish (Done (pos 0)) (codes "18446744073709551615 -110-1 -2147483648 00102-1418446744073709551613") 0
+conversions_prints : run conversions [] [] 100
+    ≡ finish (Done (pos 0)) (codes "18446744073709551615 -110-1 -2147483648 00102-1418446744073709551613") 0
 unfolding digits
 conversions_prints = refl
 
@@ -87,7 +91,8 @@ faults = text_of (
     main_of None (
     declares (set_scalar t.Int (literal t.Int (pos 0))) ∷
     does (reads (0 ∷ [])) ∷
-    declares (set_scalar t.Int (arithmetic o.Subtract t.Int (at 4 27) (negate t.Int (at 4 15) (literal t.Int (pos 2147483647))) (literal t.Int (pos 1)))) ∷
+    declares (set_scalar t.Int (arithmetic o.Subtract t.Int (at 4 27) (negate t.Int (at 4 15) (literal t.Int (pos 2147483647)))
+    (literal t.Int (pos 1)))) ∷
     choice (test (comparison c.Equal (at 5 9) (held (scalar 0 (at 5 7))) (literal t.Int (pos 0)))) (gives_back (Some (arithmetic o.Divide t.Int
     (at 5 24) (literal t.Int (pos 7)) (held (scalar 0 (at 5 26)))))) ∷
     choice (test (comparison c.Equal (at 6 9) (held (scalar 0 (at 6 7))) (literal t.Int (pos 1)))) (gives_back (Some (arithmetic o.Remainder t.Int

@@ -4,7 +4,9 @@ use Rattle.std.specs.Fmt.{digits}
 use Rattle.sl_base.specs.declared.scalar.Scalar.TheVariants as t
 use Rattle.sl_syntax.specs.declared.operator.Arithmetic.TheVariants as o
 use Rattle.sl_syntax.specs.declared.operator.Comparison.TheVariants as c
-use Rattle.sl_syntax.specs.Typed.{rise, fall, prefix, postfix, literal, held, logical_not, logical_and, logical_or, arithmetic, comparison, increment, scalar, read, test, text, endline, number, reads, prints, evaluates, updates, unset_scalar, set_scalar, declares_first, declares, choice, choice_else, for, does, Typed}
+use Rattle.sl_syntax.specs.Typed.{rise, fall, prefix, postfix, literal, held, logical_not, logical_and, logical_or, arithmetic, comparison, increment}
+use Rattle.sl_syntax.specs.Typed.{scalar, read, test, text, endline, number, reads, prints, evaluates, updates, unset_scalar, set_scalar}
+use Rattle.sl_syntax.specs.Typed.{declares_first, declares, choice, choice_else, for, does, Typed}
 use Rattle.sl_model.specs.Ends.{Done, Language}
 use Rattle.sl_model.specs.Run.{run}
 use Rattle.sl_model.proofs.Examples.Short.{at, main_of, text_of, alone, finish}
@@ -85,14 +87,17 @@ shortcuts = alone None (
     declares (set_scalar t.Int (literal t.Int (pos 0))) ∷
     does (reads (0 ∷ [])) ∷
     choice (test (logical_and (at 4 14) (comparison c.NotEqual (at 4 9) (held (scalar 0 (at 4 7))) (literal t.Int (pos 0)))
-    (comparison c.Equal (at 4 24) (arithmetic o.Divide t.Int (at 4 20) (literal t.Int (pos 12)) (held (scalar 0 (at 4 22)))) (literal t.Int (pos 4)))))
+    (comparison c.Equal (at 4 24) (arithmetic o.Divide t.Int (at 4 20) (literal t.Int (pos 12)) (held (scalar 0 (at 4 22))))
+    (literal t.Int (pos 4)))))
     (does (prints (text (codes "a") ∷ []))) ∷
     choice (test (logical_or (at 5 14) (comparison c.Equal (at 5 9) (held (scalar 0 (at 5 7))) (literal t.Int (pos 0)))
-    (comparison c.Equal (at 5 24) (arithmetic o.Remainder t.Int (at 5 20) (literal t.Int (pos 12)) (held (scalar 0 (at 5 22)))) (literal t.Int (pos 2)))))
+    (comparison c.Equal (at 5 24) (arithmetic o.Remainder t.Int (at 5 20) (literal t.Int (pos 12)) (held (scalar 0 (at 5 22))))
+    (literal t.Int (pos 2)))))
     (does (prints (text (codes "b") ∷ []))) ∷
     declares (set_scalar t.Bool (logical_not (at 6 12) (held (scalar 0 (at 6 13))))) ∷
     does (prints (number (held (scalar 1 (at 7 16))) ∷
-    number (logical_and (at 7 29) (comparison c.Equal (at 7 24) (held (scalar 0 (at 7 22))) (literal t.Int (pos 3))) (held (scalar 0 (at 7 32)))) ∷ endline ∷ [])) ∷
+    number (logical_and (at 7 29) (comparison c.Equal (at 7 24) (held (scalar 0 (at 7 22))) (literal t.Int (pos 3))) (held (scalar 0 (at 7 32)))) ∷
+    endline ∷ [])) ∷
     []) (at 8 1) [] []
 
 -- no right side is evaluated, so nothing is divided by 0
@@ -123,7 +128,8 @@ steps_of_one = alone None (
     declares (set_scalar t.Int (increment rise prefix t.Int (at 4 11) (scalar 0 (at 4 13)))) ∷
     declares (set_scalar t.Int (increment fall postfix t.Int (at 5 12) (scalar 0 (at 5 11)))) ∷
     declares (set_scalar t.Int (increment fall prefix t.Int (at 6 11) (scalar 0 (at 6 13)))) ∷
-    does (prints (number (held (scalar 1 (at 7 16))) ∷ number (held (scalar 2 (at 7 21))) ∷ number (held (scalar 3 (at 7 26))) ∷ number (held (scalar 4 (at 7 31))) ∷
+    does (prints (number (held (scalar 1 (at 7 16))) ∷ number (held (scalar 2 (at 7 21))) ∷ number (held (scalar 3 (at 7 26))) ∷
+    number (held (scalar 4 (at 7 31))) ∷
     number (held (scalar 0 (at 7 36))) ∷ [])) ∷
     []) (at 8 1) [] []
 
@@ -137,7 +143,8 @@ steps_of_one_prints = refl
 -- where the text is 1000 times a 0
 abbrev pub long : Typed
 long = alone None (
-    for (declares_first (set_scalar t.Int (literal t.Int (pos 0)))) (test (comparison c.Less (at 2 21) (held (scalar 0 (at 2 19))) (literal t.Int (pos 66))))
+    for (declares_first (set_scalar t.Int (literal t.Int (pos 0))))
+    (test (comparison c.Less (at 2 21) (held (scalar 0 (at 2 19))) (literal t.Int (pos 66))))
     (Some (evaluates (increment rise prefix t.Int (at 2 27) (scalar 0 (at 2 29))))) (does (prints (text (replicate 1000 48) ∷ []))) ∷
     []) (at 3 1) [] []
 

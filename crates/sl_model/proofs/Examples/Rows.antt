@@ -1,10 +1,10 @@
 -- Closed calls of the library.
-use Rattle.std.specs.Prelude.{◌≡◌, ◌+◌, refl, ℕ, List, [], ◌∷◌, Option, Some, None, pos, codes}
+use Rattle.std.specs.Prelude.{◌≡◌, ◌+◌, refl, ℕ, false, List, [], ◌∷◌, Option, Some, None, pos, codes}
 use Rattle.sl_base.specs.declared.form.Form.TheVariants as f
 use Rattle.sl_base.specs.declared.limits.TheConstants.{ELEMENTS}
 use Rattle.sl_syntax.specs.Typed.{row, operator, hidden, star, up}
 use Rattle.sl_model.specs.Containers.{Cell, Memory, empty_memory, end_from, locate, killer, key_part}
-use Rattle.sl_model.specs.Values.{Value, nothing, number, iterator, element_at, Args, trapped, thrown, gives, unbuilt}
+use Rattle.sl_model.specs.Values.{Value, nothing, number, iterator, element_at, Args, trapped, thrown, gives, unbuilt, no_value}
 use Rattle.sl_model.specs.Edits.{AllAndEnd}
 use Rattle.sl_model.specs.Situation.{Situation}
 use Rattle.sl_model.specs.Needs.{Dereferenceable, first_failure}
@@ -113,6 +113,8 @@ with_effect effect = record {
   class = AllAndEnd;
   effect = λ s. effect;
   result = λ s m. nothing;
+  shape = no_value;
+  makes_one = false;
 }
 
 -- its call with an iterator, at site 9

@@ -2,7 +2,8 @@
 use Rattle.std.specs.Prelude.{◌≡◌, refl, [], ◌∷◌, Some, None, pos, codes}
 use Rattle.sl_base.specs.declared.scalar.Scalar.TheVariants as t
 use Rattle.sl_base.specs.declared.form.Form.TheVariants as f
-use Rattle.sl_syntax.specs.Typed.{row, operator, star, literal, held, iterator, call, element, none, with, evaluates, set_scalar, set_iterator, makes, block, declares, does, no_more, followed, by_value, Typed}
+use Rattle.sl_syntax.specs.Typed.{row, operator, star, literal, held, iterator, call, element, none, with, evaluates, set_scalar, set_iterator, makes}
+use Rattle.sl_syntax.specs.Typed.{block, declares, does, no_more, followed, by_value, Typed}
 use Rattle.sl_syntax.specs.declared.typed.Stmt.TheVariants.{Vector, PushBack, Begin, Dereference}
 use Rattle.sl_syntax.specs.View.{main_of}
 use Rattle.sl_model.specs.Values.{thrown, faulted, unbuilt}
@@ -41,7 +42,8 @@ growth = record {
         followed (does (evaluates (call (head (row 15) (at 3 5) 0 (Some 0) (Some 0 ∷ [])) (with (literal t.Int (pos 1)) none)))) (
         followed (declares (set_iterator (call (head (row 7) (at 4 15) 0 (Some 0) (Some 0 ∷ [])) none))) (
         followed (does (evaluates (call (head (row 15) (at 5 5) 1 (Some 0) (Some 0 ∷ [])) (with (literal t.Int (pos 2)) none)))) (
-        followed (declares (set_scalar t.Int (held (element (head (operator star) (at 6 11) 0 None (None ∷ Some 1 ∷ [])) (with (iterator 0) none)))))
+        followed (declares (set_scalar t.Int
+        (held (element (head (operator star) (at 6 11) 0 None (None ∷ Some 1 ∷ [])) (with (iterator 0) none)))))
         no_more)))));
   } ∷ [];
   main = 0;

@@ -5,7 +5,9 @@ use Rattle.sl_base.specs.declared.scalar.Scalar.TheVariants as t
 use Rattle.sl_base.specs.declared.form.Form.TheVariants as f
 use Rattle.sl_syntax.specs.declared.operator.Access.TheVariants as a
 use Rattle.sl_syntax.specs.declared.operator.Comparison.TheVariants as c
-use Rattle.sl_syntax.specs.Typed.{Expr, row, literal, held, call, own_call, comparison, increment, rise, prefix, scalar, container, reference, none, with, test, evaluates, assigns, set_scalar, makes, declares_first, block, declares, for, range_for, does, no_more, followed, by_value, by_reference, a_container, Function, Typed}
+use Rattle.sl_syntax.specs.Typed.{Expr, row, literal, held, call, own_call, comparison, increment, rise, prefix, scalar, container, reference, none}
+use Rattle.sl_syntax.specs.Typed.{with, test, evaluates, assigns, set_scalar, makes, declares_first, block, declares, for, range_for, does, no_more}
+use Rattle.sl_syntax.specs.Typed.{followed, by_value, by_reference, a_container, Function, Typed}
 use Rattle.sl_model.specs.Good.{AreApart}
 use Rattle.sl_model.specs.Shapes.{Signature, lib_shape, lib_makes, signature_of}
 use Rattle.sl_model.specs.Scoped.{Counts, InExpr, AsksWell, IsScopedFunction, IsScoped}
@@ -13,8 +15,12 @@ use Rattle.sl_model.proofs.Examples.Short.{at, head}
 use Rattle.sl_model.proofs.Examples.Runs.{growth}
 
 -- a text of one function
-one_function : (p : Typed) (h : Function) → p.functions ≡ h ∷ [] → IsScopedFunction (signature_of lib_shape lib_makes p) h → (i : ℕ) (k : Function) → slice_get p.functions i ≡ Some k → IsScopedFunction (signature_of lib_shape lib_makes p) k
-one_function p h e scoped zero k g = let q : Some h ≡ Some k = sym (ap (λ l. slice_get l 0) e) ∙ g in let r : h ≡ k = cc in subst (λ (x : Function). IsScopedFunction (signature_of lib_shape lib_makes p) x) r scoped
+one_function : (p : Typed) (h : Function) → p.functions ≡ h ∷ [] → IsScopedFunction (signature_of lib_shape lib_makes p) h → (i : ℕ) (k : Function)
+    → slice_get p.functions i ≡ Some k → IsScopedFunction (signature_of lib_shape lib_makes p) k
+one_function p h e scoped zero k g =
+    let q : Some h ≡ Some k = sym (ap (λ l. slice_get l 0) e) ∙ g in
+    let r : h ≡ k = cc in
+    subst (λ (x : Function). IsScopedFunction (signature_of lib_shape lib_makes p) x) r scoped
 one_function p h e scoped (suc i) k g = absurd (let q : None ≡ Some k = sym (ap (λ l. slice_get l (suc i)) e) ∙ g in cc)
 
 growth_is_scoped : IsScoped lib_shape lib_makes growth
@@ -69,8 +75,11 @@ user = record {
       followed (declares (makes f.Vector (head (row 0) (at 4 3) 0 None []) none)) (
       followed (declares (set_scalar t.Int (literal t.Int (pos 1)))) (
       followed (does (evaluates (call_of_take 0 1))) (
-      followed (for (declares_first (set_scalar t.Int (literal t.Int (pos 0)))) (test (comparison c.Less (at 7 21) (held (scalar 1 (at 7 19))) (literal t.Int (pos 3)))) (Some (evaluates (increment rise prefix t.Int (at 7 26) (scalar 1 (at 7 28)))))
-      (block None (followed (does (evaluates (call (head (row 15) (at 7 35) 1 (Some 0) (Some 0 ∷ [])) (with (held (scalar 1 (at 7 45))) none)))) no_more))) (
+      followed (for (declares_first (set_scalar t.Int (literal t.Int (pos 0))))
+      (test (comparison c.Less (at 7 21) (held (scalar 1 (at 7 19))) (literal t.Int (pos 3))))
+      (Some (evaluates (increment rise prefix t.Int (at 7 26) (scalar 1 (at 7 28)))))
+      (block None (followed (does (evaluates (call (head (row 15) (at 7 35) 1 (Some 0) (Some 0 ∷ [])) (with (held (scalar 1 (at 7 45))) none))))
+      no_more))) (
       followed (range_for 0 (at 8 3) 0 (block None (followed (does (assigns (scalar 0 (at 8 21)) (held (scalar 1 (at 8 25))))) no_more)))
       no_more))))));
 }

@@ -4,7 +4,9 @@ use Rattle.std.specs.Fmt.{digits}
 use Rattle.sl_base.specs.declared.scalar.Scalar.TheVariants as t
 use Rattle.sl_syntax.specs.declared.operator.Arithmetic.TheVariants as o
 use Rattle.sl_syntax.specs.declared.operator.Comparison.TheVariants as c
-use Rattle.sl_syntax.specs.Typed.{row, rise, prefix, literal, held, arithmetic, comparison, increment, call, own_call, scalar, none, with, test, number, prints, evaluates, assigns, moves_to, set_scalar, declares_first, block, declares, choice, while, for, break, gives_back, does, by_value, Stmt, Typed}
+use Rattle.sl_syntax.specs.Typed.{row, rise, prefix, literal, held, arithmetic, comparison, increment, call, own_call, scalar, none, with, test}
+use Rattle.sl_syntax.specs.Typed.{number, prints, evaluates, assigns, moves_to, set_scalar, declares_first, block, declares, choice, while, for}
+use Rattle.sl_syntax.specs.Typed.{break, gives_back, does, by_value, Stmt, Typed}
 use Rattle.sl_model.specs.Ends.{Done, Trapped, OutOfSteps}
 use Rattle.sl_model.specs.Run.{run}
 use Rattle.sl_model.proofs.Examples.Short.{at, head, all, vector, push, start, deref, read_from, main_of, text_of, alone, finish, trap}
@@ -48,7 +50,8 @@ shadows = text_of (
     shadows_inner ∷
     does (prints (number (held (scalar 0 (at 12 16))) ∷ [])) ∷
     for (declares_first (set_scalar t.Int (literal t.Int (pos 7)))) (test (comparison c.Less (at 13 21) (held (scalar 1 (at 13 19))) (literal t.Int
-    (pos 9)))) (Some (evaluates (increment rise prefix t.Int (at 13 26) (scalar 1 (at 13 28))))) (does (prints (number (held (scalar 1 (at 13 44))) ∷ []))) ∷
+    (pos 9)))) (Some (evaluates (increment rise prefix t.Int (at 13 26) (scalar 1 (at 13 28)))))
+    (does (prints (number (held (scalar 1 (at 13 44))) ∷ []))) ∷
     declares (set_scalar t.Int (arithmetic o.Add t.Int (at 14 13) (held (scalar 0 (at 14 11))) (literal t.Int (pos 10)))) ∷
     does (prints (number (held (scalar 1 (at 15 16))) ∷ [])) ∷
     []) (at 16 1) ∷ []) 0 [] []
@@ -166,7 +169,8 @@ local_dies = text_of (
     vector (at 8 3) ∷
     push (at 9 5) 2 0 3 (pos 1) ∷
     start (at 10 15) 0 3 ∷
-    does (prints (number (own_call 0 (at 11 16) (with (literal t.Int (pos 7)) none)) ∷ number (own_call 0 (at 11 31) (with (literal t.Int (pos 8)) none)) ∷
+    does (prints (number (own_call 0 (at 11 16) (with (literal t.Int (pos 7)) none)) ∷
+    number (own_call 0 (at 11 31) (with (literal t.Int (pos 8)) none)) ∷
     number (held (deref (at 11 46) 0 4)) ∷ [])) ∷
     []) (at 12 1) ∷ []) 1 (at 3 5 ∷ at 6 1 ∷ at 9 5 ∷ at 12 1 ∷ []) (codes "n" ∷ codes "w" ∷ codes "it" ∷ codes "v" ∷ codes "it" ∷ [])
 

@@ -3,7 +3,8 @@ use Rattle.std.specs.Prelude.{ℕ, List, [], ◌∷◌, ℤ, Option, Some, None}
 use Rattle.sl_base.specs.declared.place.Place.{Place}
 use Rattle.sl_base.specs.declared.form.Form.TheVariants as f
 use Rattle.sl_base.specs.declared.scalar.Scalar.TheVariants as t
-use Rattle.sl_syntax.specs.Typed.{Callee, row, operator, star, Head, Left, literal, held, iterator, call, element, none, with, evaluates, set_scalar, set_iterator, makes, Stmt, block, declares, does, Stmts, no_more, followed, by_value, Function, Typed}
+use Rattle.sl_syntax.specs.Typed.{Callee, row, operator, star, Head, Left, literal, held, iterator, call, element, none, with, evaluates, set_scalar}
+use Rattle.sl_syntax.specs.Typed.{set_iterator, makes, Stmt, block, declares, does, Stmts, no_more, followed, by_value, Function, Typed}
 use Rattle.sl_model.specs.Ends.{End, Finish, Trap}
 
 -- a place

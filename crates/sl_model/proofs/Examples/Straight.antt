@@ -12,7 +12,8 @@ use Rattle.sl_model.proofs.Examples.Short.{at, vector, push, start, read_from, a
 --   int x = *it;
 -- }
 abbrev pub no_element : Typed
-no_element = alone (Some 0) (vector (at 2 3) ∷ start (at 3 15) 0 0 ∷ read_from (at 4 11) 0 1 ∷ []) (at 5 1) (at 5 1 ∷ []) (codes "v" ∷ codes "it" ∷ [])
+no_element =
+    alone (Some 0) (vector (at 2 3) ∷ start (at 3 15) 0 0 ∷ read_from (at 4 11) 0 1 ∷ []) (at 5 1) (at 5 1 ∷ []) (codes "v" ∷ codes "it" ∷ [])
 
 -- the iterator is valid, but it is the end
 no_element_traps : run no_element [] [] 100 ≡ finish (Trapped (trap (at 4 11) 4 (codes "*") 1 (Some 1) None)) [] 0
@@ -39,7 +40,8 @@ no_element_in_no_step = refl
 --   int x = *it;
 -- }
 abbrev pub end_kept : Typed
-end_kept = alone (Some 1) (vector (at 2 3) ∷ start (at 3 15) 0 0 ∷ push (at 4 5) 0 0 0 (pos 1) ∷ read_from (at 5 11) 0 1 ∷ []) (at 6 1) (at 4 5 ∷ at 6 1 ∷ [])
+end_kept = alone (Some 1) (vector (at 2 3) ∷ start (at 3 15) 0 0 ∷ push (at 4 5) 0 0 0 (pos 1) ∷ read_from (at 5 11) 0 1 ∷ []) (at 6 1)
+    (at 4 5 ∷ at 6 1 ∷ [])
     (codes "v" ∷ codes "it" ∷ [])
 
 -- the vector grows, and each iterator is invalidated, the end too
@@ -60,7 +62,8 @@ end_kept_traps_with_room = refl
 -- }
 abbrev pub used_twice : Typed
 used_twice = alone (Some 2)
-    (vector (at 2 3) ∷ push (at 3 5) 0 0 0 (pos 1) ∷ push (at 4 5) 1 0 0 (pos 2) ∷ start (at 5 15) 0 0 ∷ read_from (at 6 11) 0 1 ∷ read_from (at 7 11) 0 1 ∷ [])
+    (vector (at 2 3) ∷ push (at 3 5) 0 0 0 (pos 1) ∷ push (at 4 5) 1 0 0 (pos 2) ∷ start (at 5 15) 0 0 ∷ read_from (at 6 11) 0 1 ∷
+    read_from (at 7 11) 0 1 ∷ [])
     (at 8 1) (at 3 5 ∷ at 4 5 ∷ at 8 1 ∷ []) (codes "v" ∷ codes "it" ∷ [])
 
 used_twice_is_done : run used_twice [] [] 6 ≡ finish (Done (pos 0)) [] 0
@@ -79,7 +82,8 @@ used_twice_in_five_steps = refl
 -- }
 abbrev pub used_between : Typed
 used_between = alone (Some 2)
-    (vector (at 2 3) ∷ push (at 3 5) 0 0 0 (pos 1) ∷ start (at 4 15) 0 0 ∷ read_from (at 5 11) 0 1 ∷ push (at 6 5) 1 0 0 (pos 2) ∷ read_from (at 7 11) 0 1 ∷ [])
+    (vector (at 2 3) ∷ push (at 3 5) 0 0 0 (pos 1) ∷ start (at 4 15) 0 0 ∷ read_from (at 5 11) 0 1 ∷ push (at 6 5) 1 0 0 (pos 2) ∷
+    read_from (at 7 11) 0 1 ∷ [])
     (at 8 1) (at 3 5 ∷ at 6 5 ∷ at 8 1 ∷ []) (codes "v" ∷ codes "it" ∷ [])
 
 -- the first use is good, and the second one traps
@@ -99,7 +103,8 @@ used_between_with_room = refl
 -- }
 abbrev pub third : Typed
 third = alone (Some 3)
-    (vector (at 2 3) ∷ push (at 3 5) 0 0 0 (pos 1) ∷ push (at 4 5) 1 0 0 (pos 2) ∷ start (at 5 15) 0 0 ∷ push (at 6 5) 2 0 0 (pos 3) ∷ read_from (at 7 11) 0 1 ∷ [])
+    (vector (at 2 3) ∷ push (at 3 5) 0 0 0 (pos 1) ∷ push (at 4 5) 1 0 0 (pos 2) ∷ start (at 5 15) 0 0 ∷ push (at 6 5) 2 0 0 (pos 3) ∷
+    read_from (at 7 11) 0 1 ∷ [])
     (at 8 1) (at 3 5 ∷ at 4 5 ∷ at 6 5 ∷ at 8 1 ∷ []) (codes "v" ∷ codes "it" ∷ [])
 
 -- rooms 0, 1, 2 and, where the schedule is too short, 3: each `push_back` grows
@@ -166,12 +171,16 @@ two_in_eight_steps = refl
 -- }
 abbrev pub sixteen : Typed
 sixteen = alone (Some 3)
-    ((vector (at 2 3) ∷ vector (at 3 3) ∷ vector (at 4 3) ∷ vector (at 5 3) ∷ vector (at 6 3) ∷ vector (at 7 3) ∷ vector (at 8 3) ∷ vector (at 9 3) ∷
-    vector (at 10 3) ∷ vector (at 11 3) ∷ vector (at 12 3) ∷ vector (at 13 3) ∷ vector (at 14 3) ∷ vector (at 15 3) ∷ vector (at 16 3) ∷ vector (at 17 3) ∷ []) ++
-    (push (at 18 5) 0 15 15 (pos 1) ∷ start (at 19 15) 15 15 ∷ push (at 20 5) 1 0 0 (pos 2) ∷ read_from (at 21 11) 0 16 ∷ push (at 22 5) 2 15 15 (pos 3) ∷
+    ((vector (at 2 3) ∷ vector (at 3 3) ∷ vector (at 4 3) ∷ vector (at 5 3) ∷ vector (at 6 3) ∷ vector (at 7 3) ∷ vector (at 8 3) ∷
+    vector (at 9 3) ∷
+    vector (at 10 3) ∷ vector (at 11 3) ∷ vector (at 12 3) ∷ vector (at 13 3) ∷ vector (at 14 3) ∷ vector (at 15 3) ∷ vector (at 16 3) ∷
+    vector (at 17 3) ∷ []) ++
+    (push (at 18 5) 0 15 15 (pos 1) ∷ start (at 19 15) 15 15 ∷ push (at 20 5) 1 0 0 (pos 2) ∷ read_from (at 21 11) 0 16 ∷
+    push (at 22 5) 2 15 15 (pos 3) ∷
     read_from (at 23 11) 0 16 ∷ []))
     (at 24 1) (at 18 5 ∷ at 20 5 ∷ at 22 5 ∷ at 24 1 ∷ [])
-    (codes "a" ∷ codes "b" ∷ codes "c" ∷ codes "d" ∷ codes "e" ∷ codes "f" ∷ codes "g" ∷ codes "h" ∷ codes "i" ∷ codes "j" ∷ codes "k" ∷ codes "l" ∷ codes "m" ∷
+    (codes "a" ∷ codes "b" ∷ codes "c" ∷ codes "d" ∷ codes "e" ∷ codes "f" ∷ codes "g" ∷ codes "h" ∷ codes "i" ∷ codes "j" ∷ codes "k" ∷ codes "l" ∷
+    codes "m" ∷
     codes "n" ∷ codes "o" ∷ codes "p" ∷ codes "it" ∷ [])
 
 -- the growth of a leaves the iterator of p, and that of p doesn't

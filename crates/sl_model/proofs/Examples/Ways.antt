@@ -7,7 +7,9 @@ use Rattle.sl_base.specs.declared.form.Form.TheVariants as f
 use Rattle.sl_syntax.specs.declared.operator.Access.TheVariants as a
 use Rattle.sl_syntax.specs.declared.operator.Arithmetic.TheVariants as o
 use Rattle.sl_syntax.specs.declared.operator.Comparison.TheVariants as c
-use Rattle.sl_syntax.specs.Typed.{row, operator, star, literal, held, arithmetic, comparison, call, own_call, container, scalar, element, none, with, not_read, test, text, number, prints, evaluates, assigns, updates, moves_to, unset_scalar, set_scalar, set_iterator, makes, block, declares, choice, while, break, continue, gives_back, does, by_value, a_container, Stmt, Typed}
+use Rattle.sl_syntax.specs.Typed.{row, operator, star, literal, held, arithmetic, comparison, call, own_call, container, scalar, element, none, with}
+use Rattle.sl_syntax.specs.Typed.{not_read, test, text, number, prints, evaluates, assigns, updates, moves_to, unset_scalar, set_scalar, set_iterator}
+use Rattle.sl_syntax.specs.Typed.{makes, block, declares, choice, while, break, continue, gives_back, does, by_value, a_container, Stmt, Typed}
 use Rattle.sl_model.specs.Ends.{Done, Trapped, OutOfSteps, Language, NoMeaning}
 use Rattle.sl_model.specs.Run.{run}
 use Rattle.sl_model.proofs.Examples.Short.{at, head, all, deref, finish, trap}
@@ -17,7 +19,8 @@ abbrev ways_out_turn : Stmt
 ways_out_turn = block None (all (
     choice (not_read (0 ∷ [])) break ∷
     choice (test (comparison c.Less (at 6 11) (held (scalar 0 (at 6 9))) (literal t.Int (pos 0)))) continue ∷
-    choice (test (comparison c.Equal (at 7 11) (held (scalar 0 (at 7 9))) (literal t.Int (pos 9)))) (gives_back (Some (held (scalar 1 (at 7 24))))) ∷
+    choice (test (comparison c.Equal (at 7 11) (held (scalar 0 (at 7 9))) (literal t.Int (pos 9))))
+    (gives_back (Some (held (scalar 1 (at 7 24))))) ∷
     does (updates o.Add t.Int t.Int (at 8 7) (scalar 1 (at 8 5)) (held (scalar 0 (at 8 10)))) ∷
     []))
 
@@ -194,7 +197,9 @@ past_the_end = record {
     close = at 4 1;
     body = block (Some 0) (all (
         declares (makes f.Vector (head (row 0) (at 2 3) 0 None []) none) ∷
-        declares (set_scalar t.Int (held (element (head (operator star) (at 3 11) 0 None (None ∷ None ∷ [])) (with (call (head (row 7) (at 3 14) 0 (Some 0) (Some 0 ∷ [])) none) none)))) ∷
+        declares (set_scalar t.Int (held
+        (element (head (operator star) (at 3 11) 0 None (None ∷ None ∷ []))
+        (with (call (head (row 7) (at 3 14) 0 (Some 0) (Some 0 ∷ [])) none) none)))) ∷
         []));
   } ∷ [];
   main = 0;

@@ -1,139 +1,138 @@
 //! Blocks and their items.
-ghost use Rattle.std.specs.Prelude.{◌≡◌, ◌≤◌, ◌<◌, ◌+◌, ◌-◌, [], length, IfOk};
+ghost use Rattle.std.specs.Prelude.{◌≡◌, ◌<◌, [], length};
 ghost use Rattle.sl_base.specs.declared.limits.TheConstants.{TREE_DEPTH};
-ghost use Rattle.sl_syntax.specs.declared.kind.Kind.TheVariants as k;
-ghost use Rattle.sl_grammar.specs.Steps.{Reads};
-ghost use Rattle.sl_grammar.specs.Statements.{block, is_item, item_by};
-ghost use Rattle.sl_parser.specs.Reader as spec;
-ghost use Rattle.sl_parser.specs.StatementViews.{Holds, tall_block, tall_item, tall_items, tall_stmt};
+ghost use Rattle.sl_syntax.specs.declared.token_kind.TokenKind.TheVariants as k;
+ghost use Rattle.sl_grammar.specs.Means.Steps.{Reads};
+ghost use Rattle.sl_grammar.specs.Means.Statements.{block, is_item, item_by, stmt};
+ghost use Rattle.sl_parser.specs.Means.Reader as spec;
+ghost use Rattle.sl_parser.specs.Means.StatementViews.{Holds, tall_block, tall_item, tall_items, tall_stmt, within};
 
 use crate::declaration::{auto_declaration, container_declaration, scalar_declaration};
 use crate::statement::within::Within;
-use crate::tokens::Tokens;
 use sl_base::{Form, Mark, Scalar};
-use sl_grammar::Fault;
-use sl_syntax::{Block, Item, Kind, Stmt};
+use sl_grammar::{Fault, Tokens};
+use sl_syntax::{Block, Item, Stmt, TokenKind};
 use std::alloc::Global;
 
-impl<F: Fn(Global, &mut Tokens<'_>, usize) -> Result<(Stmt, usize), Fault>> Within<F> {
+impl<F: Fn(Global, &mut Tokens<'_>, usize) -> Result<Stmt, Fault>> Within<F> {
     /// A block as a statement.
     #[tactic(auto, using(crate::proofs::Views::stmt_views))]
-    pub fn block(&self, tokens: &mut Tokens<'_>) -> Result<(Stmt, usize), Fault>
-        requires reader { Holds self.now.room (F.pre self.now.inner) (F.post self.now.inner) }
-        requires small { self.now.room < TREE_DEPTH }
-        ensures reads { Reads tall_stmt (block (spec.stmt self.now.room) self.now.room tokens.old) result tokens.new }
-        ensures low { IfOk result (λ x. x.1 ≤ self.now.room + 1) }
+    pub fn block(&self, tokens: &mut Tokens<'_>) -> Result<Stmt, Fault>
+        requires reader { Holds self.now.depth_left (F.pre self.now.inner) (F.post self.now.inner) }
+        requires small { self.now.depth_left < TREE_DEPTH }
+        ensures { Reads tall_stmt (within block self.now.depth_left tokens.old) result tokens.new }
     {
-        let (block, height) = self.braced(tokens)?;
-        Ok((Stmt::Block(block), height))
+        let block = self.braced(tokens)?;
+        Ok(Stmt::Block(block))
     }
 
     /// `{..}`
-    #[tactic(auto, unfolding(crate::specs::Reader::braced))]
-    pub fn braced(&self, tokens: &mut Tokens<'_>) -> Result<(Block, usize), Fault>
-        requires reader { Holds self.now.room (F.pre self.now.inner) (F.post self.now.inner) }
-        requires small { self.now.room < TREE_DEPTH }
-        ensures reads { Reads tall_block (spec.braced (spec.stmt self.now.room) self.now.room tokens.old) result tokens.new }
-        ensures low { IfOk result (λ x. x.1 ≤ self.now.room + 1) }
+    #[tactic(auto, using(crate::proofs::Views::of_items), unfolding(crate::specs::Means::Reader::braced))]
+    pub fn braced(&self, tokens: &mut Tokens<'_>) -> Result<Block, Fault>
+        requires reader { Holds self.now.depth_left (F.pre self.now.inner) (F.post self.now.inner) }
+        requires small { self.now.depth_left < TREE_DEPTH }
+        ensures { Reads tall_block (within spec.braced self.now.depth_left tokens.old) result tokens.new }
     {
         let place = tokens.place();
         tokens.mark(Mark::LeftBrace)?;
-        let (items, height) = self.items(tokens)?;
+        let items = self.items(tokens)?;
         let close = tokens.mark(Mark::RightBrace)?;
-        Ok((
-            Block {
-                place,
-                items,
-                close,
-            },
-            height + 1,
-        ))
+        Ok(Block {
+            place,
+            items,
+            close,
+        })
     }
 
-    // The items before a closing brace, and their greatest height.
-    fn items(&self, tokens: &mut Tokens<'_>) -> Result<(Vec<Item>, usize), Fault>
-        requires reader { Holds self.now.room (F.pre self.now.inner) (F.post self.now.inner) }
-        requires small { self.now.room < TREE_DEPTH }
-        ensures reads { Reads tall_items (spec.repeat is_item (spec.item self.now.room (spec.stmt self.now.room)) (length tokens.old) ([], 0) tokens.old) result tokens.new }
-        ensures low { IfOk result (λ x. x.1 ≤ self.now.room) }
+    // The items before a closing brace.
+    fn items(&self, tokens: &mut Tokens<'_>) -> Result<Vec<Item>, Fault>
+        requires reader { Holds self.now.depth_left (F.pre self.now.inner) (F.post self.now.inner) }
+        requires small { self.now.depth_left < TREE_DEPTH }
+        ensures { Reads tall_items
+            (spec.repeat is_item (spec.item self.now.depth_left (stmt self.now.depth_left)) (length tokens.old)
+            ([], 0) tokens.old)
+            result tokens.new }
     {
         let mut list = Vec::new(self.alloc);
-        let mut height = 0;
         for _turn in 0..tokens.left() {
             if tokens.sees(Mark::RightBrace) {
-                return Ok((list, height));
+                return Ok(list);
             }
-            let (tree, other) = self.item(tokens)?;
+            let tree = self.item(tokens)?;
             list.push(tree)?;
-            height = height.max(other);
         }
         if !tokens.sees(Mark::RightBrace) {
             return Err(tokens.refuse());
         }
-        Ok((list, height))
+        Ok(list)
     }
 
     // An item, by its first word.
-    #[tactic(auto, unfolding(crate::specs::Reader::item))]
-    fn item(&self, tokens: &mut Tokens<'_>) -> Result<(Item, usize), Fault>
-        requires reader { Holds self.now.room (F.pre self.now.inner) (F.post self.now.inner) }
-        requires small { self.now.room < TREE_DEPTH }
-        ensures reads { Reads tall_item (spec.item self.now.room (spec.stmt self.now.room) tokens.old) result tokens.new }
-        ensures low { IfOk result (λ x. x.1 ≤ self.now.room) }
+    #[tactic(auto, unfolding(crate::specs::Means::Reader::item))]
+    fn item(&self, tokens: &mut Tokens<'_>) -> Result<Item, Fault>
+        requires reader { Holds self.now.depth_left (F.pre self.now.inner) (F.post self.now.inner) }
+        requires small { self.now.depth_left < TREE_DEPTH }
+        ensures { Reads tall_item
+            (spec.item self.now.depth_left (stmt self.now.depth_left) tokens.old)
+            result tokens.new }
     {
         match tokens.kind() {
-            Kind::Scalar(scalar) => self.scalar_item(tokens, scalar),
-            Kind::Auto => self.auto_item(tokens),
-            Kind::Container(form) => self.container_item(tokens, form),
+            TokenKind::Scalar(scalar) => self.scalar_item(tokens, scalar),
+            TokenKind::Auto => self.auto_item(tokens),
+            TokenKind::Container(form) => self.container_item(tokens, form),
             _ => self.stmt_item(tokens),
         }
     }
 
-    fn stmt_item(&self, tokens: &mut Tokens<'_>) -> Result<(Item, usize), Fault>
-        requires { Holds self.now.room (F.pre self.now.inner) (F.post self.now.inner) }
-        ensures reads { Reads tall_item (item_by self.now.room (spec.stmt self.now.room) k.Other tokens.old) result tokens.new }
-        ensures low { IfOk result (λ x. x.1 ≤ self.now.room) }
+    fn stmt_item(&self, tokens: &mut Tokens<'_>) -> Result<Item, Fault>
+        requires { Holds self.now.depth_left (F.pre self.now.inner) (F.post self.now.inner) }
+        ensures { Reads tall_item
+            (item_by self.now.depth_left (stmt self.now.depth_left) k.Other tokens.old)
+            result tokens.new }
     {
-        let (stmt, height) = self.inner(tokens)?;
-        Ok((Item::Statement(stmt), height))
+        let stmt = self.inner(tokens)?;
+        Ok(Item::Statement(stmt))
     }
 
-    fn scalar_item(&self, tokens: &mut Tokens<'_>, scalar: Scalar) -> Result<(Item, usize), Fault>
-        requires { self.now.room < TREE_DEPTH }
-        ensures reads { Reads tall_item (item_by self.now.room (spec.stmt self.now.room) (k.Scalar scalar) tokens.old) result tokens.new }
-        ensures low { IfOk result (λ x. x.1 ≤ self.now.room) }
+    fn scalar_item(&self, tokens: &mut Tokens<'_>, scalar: Scalar) -> Result<Item, Fault>
+        requires { self.now.depth_left < TREE_DEPTH }
+        ensures { Reads tall_item
+            (item_by self.now.depth_left (stmt self.now.depth_left) (k.Scalar scalar) tokens.old)
+            result tokens.new }
     {
-        if self.room <= 1 {
+        if self.depth_left <= 1 {
             return Err(tokens.refuse());
         }
-        let (tree, height) = scalar_declaration(self.alloc, tokens, self.room - 2, scalar)?;
+        let tree = scalar_declaration(self.alloc, tokens, self.depth_left - 2, scalar)?;
         tokens.mark(Mark::Semicolon)?;
-        Ok((Item::Declaration(tree), height + 1))
+        Ok(Item::Declaration(tree))
     }
 
-    fn auto_item(&self, tokens: &mut Tokens<'_>) -> Result<(Item, usize), Fault>
-        requires { self.now.room < TREE_DEPTH }
-        ensures reads { Reads tall_item (item_by self.now.room (spec.stmt self.now.room) k.Auto tokens.old) result tokens.new }
-        ensures low { IfOk result (λ x. x.1 ≤ self.now.room) }
+    fn auto_item(&self, tokens: &mut Tokens<'_>) -> Result<Item, Fault>
+        requires { self.now.depth_left < TREE_DEPTH }
+        ensures { Reads tall_item
+            (item_by self.now.depth_left (stmt self.now.depth_left) k.Auto tokens.old)
+            result tokens.new }
     {
-        if self.room <= 1 {
+        if self.depth_left <= 1 {
             return Err(tokens.refuse());
         }
-        let (tree, height) = auto_declaration(self.alloc, tokens, self.room - 2)?;
+        let tree = auto_declaration(self.alloc, tokens, self.depth_left - 2)?;
         tokens.mark(Mark::Semicolon)?;
-        Ok((Item::Declaration(tree), height + 1))
+        Ok(Item::Declaration(tree))
     }
 
-    fn container_item(&self, tokens: &mut Tokens<'_>, form: Form) -> Result<(Item, usize), Fault>
-        requires { self.now.room < TREE_DEPTH }
-        ensures reads { Reads tall_item (item_by self.now.room (spec.stmt self.now.room) (k.Container form) tokens.old) result tokens.new }
-        ensures low { IfOk result (λ x. x.1 ≤ self.now.room) }
+    fn container_item(&self, tokens: &mut Tokens<'_>, form: Form) -> Result<Item, Fault>
+        requires { self.now.depth_left < TREE_DEPTH }
+        ensures { Reads tall_item
+            (item_by self.now.depth_left (stmt self.now.depth_left) (k.Container form) tokens.old)
+            result tokens.new }
     {
-        if self.room <= 1 {
+        if self.depth_left <= 1 {
             return Err(tokens.refuse());
         }
-        let (tree, height) = container_declaration(self.alloc, tokens, self.room - 2, form)?;
+        let tree = container_declaration(self.alloc, tokens, self.depth_left - 2, form)?;
         tokens.mark(Mark::Semicolon)?;
-        Ok((Item::Declaration(tree), height + 1))
+        Ok(Item::Declaration(tree))
     }
 }

@@ -1,7 +1,8 @@
 //! The words of declarations.
 ghost use Rattle.std.specs.Prelude.{◌≡◌, ◌++◌, [], ◌∷◌, OnOk};
 ghost use Rattle.sl_syntax.specs.TreeView.{expr_of, exprs_of, initializer_of, declaration_of};
-ghost use Rattle.sl_syntax.specs.Written.{words_of, list_written, value_written, initializer_written, declaration_written};
+ghost use Rattle.sl_syntax.specs.Written.{words_of, list_written, value_written, initializer_written};
+ghost use Rattle.sl_syntax.specs.Written.{declaration_written};
 
 use crate::tree::{Declaration, Expr, Initializer};
 use crate::write::expr::{write_expr, write_list};
@@ -24,7 +25,8 @@ fn write_bracketed_list(
     xs: &[Expr],
     last: Mark,
 ) -> Result<(), AllocError>
-    ensures { OnOk result (out.new ≡ out.old ++ (Word.Mark first ∷ (words_of (list_written (exprs_of xs.now)) ++ Word.Mark last ∷ []))) }
+    ensures { OnOk result
+        (out.new ≡ out.old ++ (Word.Mark first ∷ (words_of (list_written (exprs_of xs.now)) ++ Word.Mark last ∷ []))) }
 {
     write_mark(out, first)?;
     write_list(out, xs)?;

@@ -1,7 +1,8 @@
 //! The words of what is done for its effect, and of what is tested.
 ghost use Rattle.std.specs.Prelude.{◌≡◌, ◌++◌, [], ◌∷◌, map, OnOk};
 ghost use Rattle.sl_syntax.specs.TreeView.{out_of, effect_of, cond_of};
-ghost use Rattle.sl_syntax.specs.Written.{words_of, read_written, print_written, out_written, effect_written, cond_written};
+ghost use Rattle.sl_syntax.specs.Written.{words_of, read_written, print_written, out_written, effect_written};
+ghost use Rattle.sl_syntax.specs.Written.{cond_written};
 
 use crate::tree::{Cond, Effect, Out, Print, Read};
 use crate::write::expr::write_expr;
@@ -38,7 +39,8 @@ fn write_out(alloc: Global, out: &mut Items<Word>, x: &Out) -> Result<(), AllocE
 
 /// Writes what puts items out.
 fn write_print(alloc: Global, out: &mut Items<Word>, print: &Print) -> Result<(), AllocError>
-    ensures { OnOk result (out.new ≡ out.old ++ words_of (print_written print.now.place (map out_of print.now.items.items))) }
+    ensures { OnOk result
+        (out.new ≡ out.old ++ words_of (print_written print.now.place (map out_of print.now.items.items))) }
 {
     out.push(lib(b"cout"))?;
     for x in &print.items {

@@ -90,7 +90,8 @@ fn write_bracketed(
     x: &Expr,
     last: Mark,
 ) -> Result<(), AllocError>
-    ensures { OnOk result (out.new ≡ out.old ++ (Word.Mark first ∷ (words_of (written (expr_of x.now)) ++ Word.Mark last ∷ []))) }
+    ensures { OnOk result
+        (out.new ≡ out.old ++ (Word.Mark first ∷ (words_of (written (expr_of x.now)) ++ Word.Mark last ∷ []))) }
 {
     write_mark(out, first)?;
     write_expr(out, x)?;
@@ -100,7 +101,9 @@ fn write_bracketed(
 /// Writes the word that names a function, and its arguments.
 #[cycle(expression)]
 fn write_call(out: &mut Items<Word>, word: Word, arguments: &[Expr]) -> Result<(), AllocError>
-    ensures { OnOk result (out.new ≡ out.old ++ (word ∷ Word.Mark Mark.LeftParenthesis ∷ (words_of (list_written (exprs_of arguments.now)) ++ Word.Mark Mark.RightParenthesis ∷ []))) }
+    ensures { OnOk result
+        (out.new ≡ out.old ++ (word ∷ Word.Mark Mark.LeftParenthesis
+        ∷ (words_of (list_written (exprs_of arguments.now)) ++ Word.Mark Mark.RightParenthesis ∷ []))) }
 {
     out.push(word)?;
     write_mark(out, Mark::LeftParenthesis)?;

@@ -3,7 +3,8 @@ ghost use Rattle.std.specs.Prelude.{◌≡◌, ◌++◌, [], ◌∷◌, OnOk, op
 ghost use Rattle.sl_syntax.specs.TreeView.{expr_of, effect_of, cond_of, first_of, stmt_of, item_of, items_of};
 ghost use Rattle.sl_syntax.specs.Tree as tree;
 ghost use Rattle.sl_syntax.specs.Written as spec;
-ghost use Rattle.sl_syntax.specs.Written.{words_of, written, effect_written, cond_written, first_written, option_written, tested, stmt_written, item_written, items_written};
+ghost use Rattle.sl_syntax.specs.Written.{words_of, written, effect_written, cond_written, first_written};
+ghost use Rattle.sl_syntax.specs.Written.{option_written, tested, stmt_written, item_written, items_written};
 
 use crate::tree::{Block, Cond, Effect, Expr, First, Identifier, Item, Stmt};
 use crate::write::declaration::{write_declaration, write_value};
@@ -96,7 +97,8 @@ fn write_parts(
     ensures { OnOk result (out.new ≡ out.old ++ (Word.Mark Mark.LeftParenthesis
         ∷ (words_of (option_written first_written (option_map first_of first.now)) ++ Word.Mark Mark.Semicolon
         ∷ (words_of (option_written cond_written (option_map cond_of cond.now)) ++ Word.Mark Mark.Semicolon
-        ∷ (words_of (option_written effect_written (option_map effect_of step.now)) ++ Word.Mark Mark.RightParenthesis ∷ []))))) }
+        ∷ (words_of (option_written effect_written (option_map effect_of step.now))
+        ++ Word.Mark Mark.RightParenthesis ∷ []))))) }
 {
     write_mark(out, Mark::LeftParenthesis)?;
     write_optional_first(alloc, out, first)?;
@@ -132,7 +134,10 @@ fn write_range(
     name: &Identifier,
     container: &Identifier,
 ) -> Result<(), AllocError>
-    ensures { OnOk result (out.new ≡ out.old ++ (Word.Key (codes "for") ∷ Word.Mark Mark.LeftParenthesis ∷ spec.element_word is_auto ∷ Word.Name name.now.name ∷ Word.Mark Mark.Colon ∷ Word.Name container.now.name ∷ Word.Mark Mark.RightParenthesis ∷ [])) }
+    ensures { OnOk result
+        (out.new ≡ out.old ++ (Word.Key (codes "for") ∷ Word.Mark Mark.LeftParenthesis
+        ∷ spec.element_word is_auto ∷ Word.Name name.now.name ∷ Word.Mark Mark.Colon
+        ∷ Word.Name container.now.name ∷ Word.Mark Mark.RightParenthesis ∷ [])) }
 {
     out.push(key(b"for"))?;
     write_mark(out, Mark::LeftParenthesis)?;
@@ -210,7 +215,9 @@ fn write_stmt(alloc: Global, out: &mut Items<Word>, x: &Stmt) -> Result<(), Allo
 #[cycle(statement)]
 #[tactic(auto, using(crate::proofs::WrittenLaws::appends))]
 pub fn write_block(alloc: Global, out: &mut Items<Word>, block: &Block) -> Result<(), AllocError>
-    ensures { OnOk result (out.new ≡ out.old ++ words_of (stmt_written (tree.block block.now.place (items_of block.now.items.items) block.now.close))) }
+    ensures { OnOk result
+        (out.new ≡ out.old
+        ++ words_of (stmt_written (tree.block block.now.place (items_of block.now.items.items) block.now.close))) }
 {
     write_mark(out, Mark::LeftBrace)?;
     write_items(alloc, out, &block.items)?;

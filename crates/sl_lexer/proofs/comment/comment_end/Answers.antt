@@ -21,7 +21,8 @@ loop-i-preserved c =
     let i = c.loop-i.i in
     let no : ((get_or rest i 0 == 42) && begins (λ c. c == 47) (drop (i + 1) rest)) ≡ false =
     elim c.else-byte-eq42.branch [
-      | else-byte-eq42-via-then-byte-eq42+else-begins w ↦ and_right _ _ (ap (begins (λ c. c == 47)) (sym (take_rest rest (i + 1))) ∙ sym w.begins.ensures ∙ w.if-begins.false)
+      | else-byte-eq42-via-then-byte-eq42+else-begins w ↦ and_right _ _
+          (ap (begins (λ c. c == 47)) (sym (take_rest rest (i + 1))) ∙ sym w.begins.ensures ∙ w.if-begins.false)
       | else-byte-eq42-via-else-byte-eq42 w ↦ and_left _ _ (ne_eqb _ _ w.if-byte-eq42.false)
     ] in
     counts-more (comment_end (drop (i + 1) rest)) i ∙ ap (option_map (λ k. k + i)) (sym (step rest i (omega arith) no)) ∙ c.loop-i.invariant

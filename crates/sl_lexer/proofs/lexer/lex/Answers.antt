@@ -7,7 +7,8 @@ use Rattle.sl_lexer.proofs.lexer.lex.Goals as goal
 use Rattle.sl_lexer.proofs.lexer.lex.Goals.{in-Some+in_ok-push, in_default, In_ok-word, After-drop-tokens-inside}
 use Rattle.sl_lexer.specs.declared.error.LexErr.{LexErr}
 use Rattle.sl_lexer.proofs.CutLaws.{one_tokens, not_both}
-use Rattle.sl_lexer.proofs.LexLaws.{Answers, IsTold, answers_at, next-within, next_blank_piece, next_token, take_more_bytes, place-small, whole_text, told_fault, err_fault, err_tokens, err_only_fault}
+use Rattle.sl_lexer.proofs.LexLaws.{Answers, IsTold, answers_at, next-within, next_blank_piece, next_token, take_more_bytes, place-small, whole_text}
+use Rattle.sl_lexer.proofs.LexLaws.{told_fault, err_fault, err_tokens, err_only_fault}
 
 -- the error of a piece tells the fault
 told : (c : After-drop-tokens-inside) → (e : LexErr) × (c.from_residual.result ≡ Err e) × IsTold c.args.text.now e
@@ -17,7 +18,8 @@ told c =
     let e = c.in_err-word.field-0.0 in
     let p = err_from_is_err_and c.from_residual.result c.from_residual.ensures.1 in
     let opens = c.opens_directive-opens.ensures ∙ ap (λ n. (n == 0) && l.blank_line) c.len.ensures in
-    let answers = subst (λ o. Answers text o l.done (Err e)) opens (answers_at text c.opens_directive-opens.result l.done (Err e) c.in_err-word.ensures) in
+    let answers = subst (λ o. Answers text o l.done (Err e)) opens
+    (answers_at text c.opens_directive-opens.result l.done (Err e) c.in_err-word.ensures) in
     let here = told_fault text l.tokens l.done l.place l.blank_line e l.invariant (omega arith) answers in
     (p.0, p.1, subst (IsTold text) (sym p.2) here)
 
@@ -30,7 +32,8 @@ returns-in_err-word-clause-only_tokens c = let t = told c in rw t.1 (err_tokens 
 pub returns-in_err-word-clause-only_fault : goal.returns-in_err-word-clause-only_fault
 returns-in_err-word-clause-only_fault c = let t = told c in rw t.1 (err_only_fault c.args.text.now t.0 t.2)
 
-next_front : (c : In_ok-word) → (c.loop-done.done < length c.args.text.now) × Answers c.args.text.now ((length c.loop-done.tokens == 0) && c.loop-done.blank_line) c.loop-done.done (Ok c.in_ok-word.field-0)
+next_front : (c : In_ok-word) → (c.loop-done.done < length c.args.text.now)
+    × Answers c.args.text.now ((length c.loop-done.tokens == 0) && c.loop-done.blank_line) c.loop-done.done (Ok c.in_ok-word.field-0)
 next_front c =
     let text = c.args.text.now in
     let l = c.loop-done in
@@ -92,10 +95,12 @@ loop-done-preserved c =
     elim c.match-word.branch [
       | in-Some+in_ok-push w ↦
           rw (w.tokens-is, w.in_ok-push.ensures.pushed)
-          (next_token text l.tokens l.done l.place l.blank_line f l.invariant n.0 n.1 place blank_line after c.blank_line_after-blank_line.ensures w.in-Some.word w.in-Some.is)
+          (next_token text l.tokens l.done l.place l.blank_line f l.invariant n.0 n.1 place blank_line after c.blank_line_after-blank_line.ensures
+          w.in-Some.word w.in-Some.is)
       | in_default w ↦
           rw w.tokens-is
-          (next_blank_piece text l.tokens l.done l.place l.blank_line f l.invariant n.0 n.1 place blank_line after c.blank_line_after-blank_line.ensures w.in_default.is)
+          (next_blank_piece text l.tokens l.done l.place l.blank_line f l.invariant n.0 n.1 place blank_line after
+          c.blank_line_after-blank_line.ensures w.in_default.is)
     ]
 
 pub returns-clause-only_tokens : goal.returns-clause-only_tokens

@@ -20,7 +20,8 @@ abbrev IsTaken : List ℕ → LexErr → List ℕ → Type 0
 IsTaken name e behind = Ok name ≡ cond (ltb NAME_BYTES (prefix_len is_name_byte behind)) (Err e) (Ok (take (prefix_len is_name_byte behind) behind))
 
 named : (from : ℕ) (rest : List ℕ) (name : List ℕ) (e : LexErr) → IsTaken name e (drop 5 rest)
-    → Ok (record { word = Some (Lib name); len = 5 + length name }) ≡ answer_of from rest (judged lib_piece (5 + prefix_len is_name_byte (drop 5 rest)) rest)
+    → Ok (record { word = Some (Lib name); len = 5 + length name }) ≡ answer_of from rest
+    (judged lib_piece (5 + prefix_len is_name_byte (drop 5 rest)) rest)
 named from rest name e told =
     let behind = drop 5 rest in
     let n = prefix_len is_name_byte behind in
@@ -33,4 +34,5 @@ named from rest name e told =
 pub returns : goal.returns
 returns c =
     let rest = c.args.rest.now in
-    rw c.as_slice.ensures.value (named c.args.from rest c.in_ok-name.name _ (subst (IsTaken c.in_ok-name.name _) (take_rest rest 5) c.in_ok-name.ensures))
+    rw c.as_slice.ensures.value
+    (named c.args.from rest c.in_ok-name.name _ (subst (IsTaken c.in_ok-name.name _) (take_rest rest 5) c.in_ok-name.ensures))

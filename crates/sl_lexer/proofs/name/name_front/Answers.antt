@@ -14,7 +14,8 @@ use Rattle.sl_lexer.proofs.WordLaws.{taken}
 use Rattle.sl_lexer.proofs.name.name_front.Goals as goal
 
 named : (from : ℕ) (rest : List ℕ) (name : List ℕ) (w : Word) (e : LexErr)
-    → Ok name ≡ cond (ltb NAME_BYTES (prefix_len is_name_byte rest)) (Err e) (Ok (take (prefix_len is_name_byte rest) rest)) → Some w ≡ word_of name_piece name
+    → Ok name ≡ cond (ltb NAME_BYTES (prefix_len is_name_byte rest)) (Err e) (Ok (take (prefix_len is_name_byte rest) rest))
+    → Some w ≡ word_of name_piece name
     → Ok (record { word = Some w; len = length name }) ≡ answer_of from rest (judged name_piece (prefix_len is_name_byte rest) rest)
 named from rest name w e told said =
     let n = prefix_len is_name_byte rest in
@@ -24,4 +25,5 @@ named from rest name w e told said =
     rw t.0 (ap by_len (ap length t.1 ∙ length-prefix_len is_name_byte rest) ∙ ap by_word (said ∙ ap (word_of name_piece) t.1))
 
 pub returns : goal.returns
-returns c = rw c.as_slice-len.ensures.value (named c.args.from c.args.rest.now c.in_ok-name.name c.word_of.result _ c.in_ok-name.ensures c.word_of.ensures)
+returns c = rw c.as_slice-len.ensures.value
+    (named c.args.from c.args.rest.now c.in_ok-name.name c.word_of.result _ c.in_ok-name.ensures c.word_of.ensures)

@@ -18,10 +18,12 @@ returns-in_err-bytes c =
     let p = err_from_is_err_and c.from_residual.result c.from_residual.ensures.1 in
     let e = c.in_err-bytes.field-0.0 in
     let rest = c.args.rest.now in
-    let told = subst (λ bytes. IsUnescaped c.args.from (unescaped false bytes) (Err e)) (asked (goal.at.returns-in_err-bytes c).In-Some) c.in_err-bytes.ensures in
+    let told = subst (λ bytes. IsUnescaped c.args.from (unescaped false bytes) (Err e)) (asked (goal.at.returns-in_err-bytes c).In-Some)
+    c.in_err-bytes.ensures in
     rw (c.in-Some.is, p.1, p.2) (text-err c.args.from rest c.in-Some.len e told)
 
 pub returns : goal.returns
 returns c =
-    let told = subst (λ bytes. IsUnescaped c.args.from (unescaped false bytes) (Ok c.in_ok-bytes.bytes)) (asked (goal.at.returns c).In-Some) c.in_ok-bytes.ensures in
+    let told = subst (λ bytes. IsUnescaped c.args.from (unescaped false bytes) (Ok c.in_ok-bytes.bytes)) (asked (goal.at.returns c).In-Some)
+    c.in_ok-bytes.ensures in
     rw c.in-Some.is (text-ok c.args.from c.args.rest.now c.in-Some.len c.in_ok-bytes.bytes told)

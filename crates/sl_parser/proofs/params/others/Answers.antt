@@ -1,27 +1,26 @@
-use Rattle.std.proofs.Common.{refl, sym, ◌∙◌, arith}
+use Rattle.std.proofs.Common.{refl, sym, ◌∙◌}
 use Rattle.std.proofs.lemmas.Result.{err_from_is_err_and}
-use Rattle.sl_parser.proofs.RepeatLaws.{loop-stops, loop-fault, loop-turn, loop-spent}
+use Rattle.sl_expressions.proofs.Heights.{highest_behind}
+use Rattle.sl_expressions.proofs.RepeatLaws.{loop-stops, loop-fault, loop-turn, loop-spent}
 use Rattle.sl_parser.proofs.params.others.Goals as goal
 
-pub returns-then-not-sees-clause-reads : goal.returns-then-not-sees-clause-reads
-returns-then-not-sees-clause-reads c = loop-stops _ _ _ _ _ _ _ c.loop-turn.invariant.1 (sym c.if-not-sees.ensures)
+pub returns-then-not-sees : goal.returns-then-not-sees
+returns-then-not-sees c = loop-stops _ _ _ _ _ _ _ c.loop-turn.invariant (sym c.if-not-sees.ensures)
 
-pub returns-in_err-next-clause-reads : goal.returns-in_err-next-clause-reads
-returns-in_err-next-clause-reads c =
+pub returns-in_err-next : goal.returns-in_err-next
+returns-in_err-next c =
     let p = err_from_is_err_and c.from_residual.result c.from_residual.ensures.1 in
-    rw (p.1, p.2) (λ some. loop-fault _ _ _ _ _ _ _ _ c.loop-turn-test.true c.loop-turn.invariant.1
-    (sym c.sees.ensures ∙ c.if-not-sees.false) (c.in_err-next.ensures.reads some))
+    rw (p.1, p.2) (λ some. loop-fault _ _ _ _ _ _ _ _ c.loop-turn-test.true c.loop-turn.invariant
+    (sym c.sees.ensures ∙ c.if-not-sees.false) (c.in_err-next.ensures some))
 
 pub loop-turn-preserved : goal.loop-turn-preserved
-loop-turn-preserved c = (
-  omega (arith, c.max-height.ensures, c.loop-turn.invariant.0, c.in_ok-next.ensures.low),
-  loop-turn _ _ _ _ _ _ _ _ _ _ c.loop-turn-test.true c.loop-turn.invariant.1 (sym c.sees.ensures ∙ c.if-not-sees.false) c.in_ok-next.ensures.reads
-      (rw (c.in_ok-push.ensures.items, c.max-height.ensures) refl),
-)
+loop-turn-preserved c =
+    loop-turn _ _ _ _ _ _ _ _ _ _ c.loop-turn-test.true c.loop-turn.invariant (sym c.sees.ensures ∙ c.if-not-sees.false) c.in_ok-next.ensures
+    (rw (c.in_ok-push.ensures.items, highest_behind) refl)
 
-pub returns-then-sees-clause-reads : goal.returns-then-sees-clause-reads
-returns-then-sees-clause-reads c some =
-    rw c.refuse.ensures (loop-spent _ _ _ _ _ _ _ c.loop-turn-test.false c.loop-turn.invariant.1 (sym c.if-sees.ensures))
+pub returns-then-sees : goal.returns-then-sees
+returns-then-sees c some =
+    rw c.refuse.ensures (loop-spent _ _ _ _ _ _ _ c.loop-turn-test.false c.loop-turn.invariant (sym c.if-sees.ensures))
 
-pub returns-clause-reads : goal.returns-clause-reads
-returns-clause-reads c = loop-stops _ _ _ _ _ _ _ c.loop-turn.invariant.1 (sym c.if-sees.ensures)
+pub returns : goal.returns
+returns c = loop-stops _ _ _ _ _ _ _ c.loop-turn.invariant (sym c.if-sees.ensures)

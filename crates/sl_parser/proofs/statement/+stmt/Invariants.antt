@@ -1,4 +1,4 @@
 use Rattle.sl_parser.proofs.statement.+stmt.Given as goal
 
 abbrev pub decreases-stmt : goal.decreases-stmt
-decreases-stmt l = l.room
+decreases-stmt l = l.depth_left

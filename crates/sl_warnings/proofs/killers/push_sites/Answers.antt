@@ -8,5 +8,5 @@ returns-in_ok-push_further c =
       sites_text-first c.args.sites.now c.args.killers.now c.first-item.result c.in-len1-up.len_at_least c.first-item.is,
       c.in_ok-push_further.ensures,
       c.in_ok-push_site.ensures,
-      c.in_ok-push.ensures,
+      c.in_ok-extend_from_slice.ensures.extended,
     ) (simp append_assoc)

@@ -10,18 +10,19 @@ pub returns : goal.returns
 returns c =
     let w = c.args.warning.now in
     rw (
-      c.in_ok-push-6.ensures,
+      c.in_ok-extend_from_slice-6.ensures.extended,
       c.in_ok-push_killers.ensures,
       c.in_ok-push_who.ensures,
-      c.in_ok-push-5.ensures,
-      c.in_ok-push-4.ensures,
-      c.in_ok-push-3.ensures,
-      c.in_ok-push-2.ensures,
-      c.in_ok-push.ensures,
+      c.in_ok-extend_from_slice-5.ensures.extended,
+      c.in_ok-extend_from_slice-4.ensures.extended,
+      c.in_ok-extend_from_slice-3.ensures.extended,
+      c.in_ok-extend_from_slice-2.ensures.extended,
+      c.in_ok-extend_from_slice.ensures.extended,
       c.as_bytes.ensures.value,
       c.in_ok-format.ensures.ok,
       c.as_bytes-2.ensures.value,
       c.kind_words.ensures,
       c.as_slice-call.ensures.value,
-    ) (regrouped c.args.out.now c.args.name.now (codes ":") (decimal w.place.line) (codes ":") (decimal w.place.col) (codes ": ") (kind_text w.kind) (codes " in ") w.call (codes ": ")
+    ) (regrouped c.args.out.now c.args.name.now (codes ":") (decimal w.place.line) (codes ":") (decimal w.place.col) (codes ": ") (kind_text w.kind)
+    (codes " in ") w.call (codes ": ")
     (who_text w.call w.argument w.name) (killers_text c.args.sites.now w.kind (sites_in w.killers)) (10 ∷ []))

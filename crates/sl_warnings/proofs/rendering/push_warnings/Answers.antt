@@ -9,6 +9,7 @@ pub loop-i-preserved : goal.loop-i-preserved
 loop-i-preserved c = elim c.match-get.branch [
   | in-Some+in_ok-push_warning-in-Some w ↦
       rw (w.out-is, w.in_ok-push_warning-in-Some.ensures)
-      (line-next (warning_line c.args.name.now c.args.sites.now) c.args.r.now c.loop-i.i (warning_of w.in-Some.warning.now) c.loop-i.out _ (sym w.in-Some.ensures.value) c.loop-i.invariant)
+      (line-next (warning_line c.args.name.now c.args.sites.now) c.args.r.now c.loop-i.i (warning_of w.in-Some.warning.now) c.loop-i.out _
+      (sym w.in-Some.ensures.value) c.loop-i.invariant)
   | in-None w ↦ absurd (some-there c.args.r.now c.loop-i.i (omega arith) (sym w.in-None.ensures.value))
 ]

@@ -8,4 +8,5 @@ returns-clause-keys c = keys-with_value_at c.args.warnings.now c.args.at c.join.
 
 pub returns-clause-joined : goal.returns-clause-joined
 returns-clause-joined c =
-    listed-written c.args.warnings.now.entries c.args.at c.index_mut.result.now c.join.new.self (sites_in c.args.killers.now) c.index_mut.ensures.value c.join.ensures
+    listed-written c.args.warnings.now.entries c.args.at c.index_mut.result.now c.join.new.self
+    (sites_in c.args.killers.now) c.index_mut.ensures.value c.join.ensures

@@ -1,5 +1,5 @@
 use Rattle.std.proofs.Common.{ℕ, arith, length-take}
-use Rattle.sl_base.proofs.Told.{OthersKept-trans, OthersKept-all, NoFault-refl, NoFault-trans, OnErr-any, IsReadInPart-next}
+use Rattle.sl_base.proofs.Told.{OthersKept-trans, OthersKept-all, NoFault-trans, OnErr-any, IsReadInPart-next}
 use Rattle.sl_base.proofs.outside.reading.read_all.Goals as goal
 
 pub returns-in-Err-clause-others : goal.returns-in-Err-clause-others
@@ -11,7 +11,8 @@ returns-then-count-eq0-clause-others g c = OthersKept-trans _ _ _ _ c.loop-block
 pub returns-in_err-extend_from_slice-clause-part : goal.returns-in_err-extend_from_slice-clause-part
 returns-in_err-extend_from_slice-clause-part g c =
     OnErr-any c.from_residual.result
-    (IsReadInPart-next _ _ _ _ c.loop-block.held.items _ _ c.loop-block.invariant.consumed c.in-Ok.ensures.bytes (omega (arith, c.in-Ok.ensures.bound, c.read.auto.buf, length-take {A = ℕ})))
+    (IsReadInPart-next _ _ _ _ c.loop-block.held.items _ _ c.loop-block.invariant.consumed c.in-Ok.ensures.bytes
+    (omega (arith, c.in-Ok.ensures.bound, c.read.auto.buf, length-take {A = ℕ})))
 
 pub returns-in_err-extend_from_slice-clause-others : goal.returns-in_err-extend_from_slice-clause-others
 returns-in_err-extend_from_slice-clause-others g c = OthersKept-trans _ _ _ _ c.loop-block.invariant.others c.in-Ok.ensures.others

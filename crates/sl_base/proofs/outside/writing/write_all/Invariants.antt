@@ -4,7 +4,8 @@ use Rattle.sl_base.proofs.outside.writing.write_all.Given as goal
 
 abbrev pub invariant-loop-done : goal.invariant-loop-done
 invariant-loop-done g l =
-    (l.done ≤ length l.bytes) × Appends (g.K.Sink.taken l.initial.out) (g.K.Sink.taken l.out) (take l.done l.bytes) × (g.K.Sink.faults l.out ≡ g.K.Sink.faults l.initial.out)
+    (l.done ≤ length l.bytes) × Appends (g.K.Sink.taken l.initial.out) (g.K.Sink.taken l.out) (take l.done l.bytes)
+    × (g.K.Sink.faults l.out ≡ g.K.Sink.faults l.initial.out)
 
 abbrev pub decreases-loop-done : goal.decreases-loop-done
 decreases-loop-done g l = length l.bytes - l.done

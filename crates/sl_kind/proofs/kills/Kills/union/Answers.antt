@@ -1,4 +1,5 @@
-use Rattle.std.proofs.Common.{◌≡◌, ◌<◌, ◌≤◌, ◌/◌, ◌%◌, get_or, bit_or, length, arith, ⊎_elim, ◌∙◌, sym, length-set, get_or-set_same, get_or-set_other, ◌≢◌, ap, refl}
+use Rattle.std.proofs.Common.{◌≡◌, ◌<◌, ◌≤◌, ◌/◌, ◌%◌, get_or, bit_or, length, arith, ⊎_elim, ◌∙◌, sym, length-set, get_or-set_same, get_or-set_other}
+use Rattle.std.proofs.Common.{◌≢◌, ap, refl}
 use Rattle.std.proofs.lemmas.Bool.{cases_lt, cases_eq}
 use Rattle.std.proofs.lemmas.List.{get_or_past}
 use Rattle.sl_kind.specs.Kills.{has_bit}

@@ -29,7 +29,8 @@ write_expr-returns-in_ok-write_mark-in-MemberCall t c =
     let x = c.in-MemberCall.object in
     let f = c.in-MemberCall.function in
     let v = c.in-MemberCall.arguments in
-    let e : words_of (written (expr_of c.args.x.now)) ≡ expr_words_of x.value ++ w.Mark m.Dot ∷ w.Name f.name ∷ arguments_words v.items = rw c.in-MemberCall.is (words-MemberCall x f v) in
+    let e : words_of (written (expr_of c.args.x.now)) ≡ expr_words_of x.value ++ w.Mark m.Dot ∷ w.Name f.name ∷ arguments_words v.items =
+    rw c.in-MemberCall.is (words-MemberCall x f v) in
     let object = c.in_ok-write_expr-in-MemberCall.ensures in
     let dot = c.in_ok-write_mark-in-MemberCall.ensures in
     rw e

@@ -15,6 +15,7 @@ write_stmt-returns-in-Continue t c =
 pub write_stmt-returns-in_ok-write_effect-in-Effect : goal.write_stmt-returns-in_ok-write_effect-in-Effect
 write_stmt-returns-in_ok-write_effect-in-Effect t c =
     let x = c.in-Effect.effect in
-    let e : words_of (stmt_written (stmt_of c.args.x.now)) ≡ words_of (effect_written (effect_of x)) ++ w.Mark m.Semicolon ∷ [] = rw c.in-Effect.is (words-Effect c.in-Effect.place x) in
+    let e : words_of (stmt_written (stmt_of c.args.x.now)) ≡ words_of (effect_written (effect_of x)) ++ w.Mark m.Semicolon ∷ [] =
+    rw c.in-Effect.is (words-Effect c.in-Effect.place x) in
     let k = c.in_ok-write_effect-in-Effect.ensures in
     rw e (IfOk-equal c.write_mark-in-Effect.result _ _ _ c.write_mark-in-Effect.ensures (rw k (simp append_assoc)))

@@ -4,4 +4,5 @@ use Rattle.sl_syntax.specs.Written.{words_of, items_written}
 use Rattle.sl_syntax.proofs.write.statement.+statement.Given as goal
 
 abbrev pub invariant-write_items-loop-item : goal.invariant-write_items-loop-item
-invariant-write_items-loop-item l = l.out ++ words_of (items_written (items_of (drop l.item-index l.items))) ≡ l.initial.out ++ words_of (items_written (items_of l.items))
+invariant-write_items-loop-item l =
+    l.out ++ words_of (items_written (items_of (drop l.item-index l.items))) ≡ l.initial.out ++ words_of (items_written (items_of l.items))

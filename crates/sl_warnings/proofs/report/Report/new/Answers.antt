@@ -1,5 +1,5 @@
 use Rattle.std.proofs.Common.{sym, subst}
-use Rattle.sl_warnings.specs.Views.{IsKept}
+use Rattle.sl_warnings.specs.Means.Kept.{IsKept}
 use Rattle.sl_warnings.proofs.Entries.{kept-empty}
 use Rattle.sl_warnings.proofs.report.Report.new.Goals as goal
 

@@ -1,5 +1,6 @@
 use Rattle.std.proofs.Common.{inl, inr, sym, ap, ◌∙◌}
-use Rattle.sl_base.proofs.Names.{Consumes-there, IsAtEnd-there, OthersKept-there, blames_file, left_in-there, left_in-told, listed, names_of-there, NoFault-there}
+use Rattle.sl_base.proofs.Names.{Consumes-there, IsAtEnd-there, OthersKept-there, blames_file, left_in-there, left_in-told, listed, names_of-there}
+use Rattle.sl_base.proofs.Names.{NoFault-there}
 use Rattle.sl_base.proofs.outside.mem_files.MemFilesFiles.read.Goals as goal
 
 pub returns-clause-bytes : goal.returns-clause-bytes
@@ -16,7 +17,8 @@ returns-clause-others c =
 
 pub returns-then-contains-clause-blames_alone : goal.returns-then-contains-clause-blames_alone
 returns-then-contains-clause-blames_alone c =
-    blames_file _ _ _ _ _ (ap (λ v. v.items) c.fail-then-contains.ensures.files) c.fail-then-contains.ensures.blame (rw c.deref.ensures.value at c.in-Some.ensures)
+    blames_file _ _ _ _ _ (ap (λ v. v.items) c.fail-then-contains.ensures.files) c.fail-then-contains.ensures.blame
+    (rw c.deref.ensures.value at c.in-Some.ensures)
 
 pub returns-clause-fails : goal.returns-clause-fails
 returns-clause-fails c = (

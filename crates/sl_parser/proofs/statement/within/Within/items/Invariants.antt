@@ -1,11 +1,10 @@
-use Rattle.std.proofs.Common.{◌≡◌, ◌≤◌, ◌-◌, [], map, length}
-use Rattle.sl_syntax.specs.TreeView.{item_of}
-use Rattle.sl_grammar.specs.Statements.{is_item, item, stmt}
-use Rattle.sl_grammar.specs.Steps.{repeat}
+use Rattle.std.proofs.Common.{◌≡◌, ◌-◌, [], length}
+use Rattle.sl_grammar.specs.Means.Statements.{is_item, item, stmt}
+use Rattle.sl_grammar.specs.Means.Steps.{repeat}
+use Rattle.sl_parser.specs.Means.StatementViews.{tall_items}
 use Rattle.sl_parser.proofs.statement.within.Within.items.Given as goal
 
 abbrev pub invariant-loop-turn : goal.invariant-loop-turn
 invariant-loop-turn g l =
-    let read = item l.self.room (stmt l.self.room) in
-    (l.height ≤ l.self.room)
-    × (repeat is_item read (length l.fn.tokens) ([], 0) l.fn.tokens ≡ repeat is_item read (l._turn-end - l._turn) (map item_of l.list.items, l.height) l.tokens)
+    let read = item l.self.depth_left (stmt l.self.depth_left) in
+    repeat is_item read (length l.fn.tokens) ([], 0) l.fn.tokens ≡ repeat is_item read (l._turn-end - l._turn) (tall_items l.list) l.tokens

@@ -1,7 +1,0 @@
-use Rattle.std.proofs.Common.{arith}
-use Rattle.sl_parser.proofs.CallLaws.{call-ok}
-use Rattle.sl_parser.proofs.Views.{expr_of-Call}
-use Rattle.sl_parser.proofs.expression.nested.Nested.call.Goals as goal
-
-pub returns-clause-reads : goal.returns-clause-reads
-returns-clause-reads g c = rw expr_of-Call (call-ok _ _ _ _ _ _ _ (omega arith) c.in_ok-arguments.ensures.reads)

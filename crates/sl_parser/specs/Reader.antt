@@ -1,6 +1,0 @@
--- The readers that the functions of this crate are.
-pub use Rattle.sl_grammar.specs.Steps.{mark, repeat}
-pub use Rattle.sl_grammar.specs.Expressions.{list_behind, list, list_before, arguments, named, library_call, parentheses, prefixed, operand, indexed, dotted, pointed, piece, combined, operation, climb, from_operand, expr}
-pub use Rattle.sl_grammar.specs.Effects.{shifted_name, read, shifted_out, print, assigned, effect, no_read, cond}
-pub use Rattle.sl_grammar.specs.Declarations.{int, container_type, optional_value, scalar_declaration, auto_declaration, braces, constructed, initializer, container_declaration, scalar_param, container_param, const_param, param, params}
-pub use Rattle.sl_grammar.specs.Statements.{item, braced, condition, otherwise, choice, loop, optional_cond, optional_effect, for_behind, range_behind, valued_first, variable_behind, declared_first, for_loop, return_stmt, effect_stmt, word_stmt, stmt, function_behind, function, program}
