@@ -1,0 +1,10 @@
+pub mod Forms
+pub mod Texts
+pub mod Rows
+pub mod ContainerLines
+pub mod MultiLines
+pub mod AlgorithmRows
+pub mod Table
+pub mod Printed
+pub mod Entries
+pub mod RowNumbers
