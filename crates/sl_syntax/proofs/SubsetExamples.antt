@@ -69,7 +69,8 @@ two_vectors_as_data = record {
     body = block (Some 2) (
         followed (declares (makes f.Vector (record { callee = k.Row 0; place = at 2 3; site = None; object = None; names = [] }) none)) (
         followed (declares (makes f.Vector (record { callee = k.Row 0; place = at 3 3; site = None; object = None; names = [] }) none)) (
-        followed (declares (set_iterator (call (record { callee = k.Row 7; place = at 4 15; site = None; object = Some 1; names = Some 1 ∷ [] }) none))) (
+        followed (declares
+        (set_iterator (call (record { callee = k.Row 7; place = at 4 15; site = None; object = Some 1; names = Some 1 ∷ [] }) none))) (
         followed (does
         (evaluates (call (record { callee = k.Row 15; place = at 5 5; site = Some 0; object = Some 1; names = Some 1 ∷ [] })
         (with (literal c.Int (pos 7)) none)))) (

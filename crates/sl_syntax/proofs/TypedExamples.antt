@@ -9,6 +9,7 @@ use Rattle.sl_syntax.specs.declared.operator.Access.TheVariants as a
 use Rattle.sl_syntax.specs.declared.operator.Arithmetic.TheVariants as o
 use Rattle.sl_syntax.specs.declared.operator.Comparison.TheVariants as b
 use Rattle.sl_syntax.specs.declared.typed.Typed.{Typed as TypedCode}
+use Rattle.sl_syntax.specs.declared.typed.callee.Callee.{Callee}
 use Rattle.sl_syntax.specs.declared.typed.callee.Callee.TheVariants as k
 use Rattle.sl_syntax.specs.declared.typed.cond.Cond.TheVariants as conds
 use Rattle.sl_syntax.specs.declared.typed.declaration.Declaration.TheVariants as d
@@ -17,6 +18,7 @@ use Rattle.sl_syntax.specs.declared.typed.element.ElementPart.TheVariants as par
 use Rattle.sl_syntax.specs.declared.typed.element.Taken.TheVariants as taken
 use Rattle.sl_syntax.specs.declared.typed.expr.Expr.TheVariants as e
 use Rattle.sl_syntax.specs.declared.typed.function.Function.{Function as FunctionCode}
+use Rattle.sl_syntax.specs.declared.typed.head.Head.{Head}
 use Rattle.sl_syntax.specs.declared.typed.left.Left.{Left as LeftCode}
 use Rattle.sl_syntax.specs.declared.typed.left.Left.TheVariants as l
 use Rattle.sl_syntax.specs.declared.typed.parameter.ParameterKind.TheVariants as p
@@ -25,7 +27,7 @@ use Rattle.sl_syntax.specs.declared.typed.variable.Variable.{Variable}
 use Rattle.sl_syntax.specs.declared.typed.variable.VariableKind.{VariableKind}
 use Rattle.sl_syntax.specs.declared.typed.variable.VariableKind.TheVariants as v
 use Rattle.sl_syntax.specs.Typed as t
-use Rattle.sl_syntax.specs.Typed.{Callee, Head, Left, Stmt, Stmts, Typed}
+use Rattle.sl_syntax.specs.Typed.{Left, Stmt, Stmts, Typed}
 use Rattle.sl_syntax.specs.TypedView.{typed_of}
 use Rattle.sl_syntax.proofs.TypedViews.{views}
 

@@ -8,17 +8,19 @@ use Rattle.sl_syntax.specs.declared.operator.Comparison.{Comparison}
 use Rattle.sl_syntax.specs.declared.typed.cond.Cond.{Cond as CondCode}
 use Rattle.sl_syntax.specs.declared.typed.declaration.First.{First as FirstCode}
 use Rattle.sl_syntax.specs.declared.typed.effect.Effect.{Effect as EffectCode}
+use Rattle.sl_syntax.specs.declared.typed.element.Taken.{Taken}
 use Rattle.sl_syntax.specs.declared.typed.expr.Expr.{Expr as ExprCode, Row_of-Expr, end_of-Expr, more_of-Expr, items-the_row-Expr}
 use Rattle.sl_syntax.specs.declared.typed.expr.Expr.{the_lemmas as expr_lemmas}
 use Rattle.sl_syntax.specs.declared.typed.expr.Expr.TheVariants as e
+use Rattle.sl_syntax.specs.declared.typed.head.Head.{Head}
 use Rattle.sl_syntax.specs.declared.typed.left.Left.{the_lemmas as left_lemmas}
 use Rattle.sl_syntax.specs.declared.typed.left.Left.TheVariants as l
 use Rattle.sl_syntax.specs.declared.typed.statement.Block.{Block as BlockCode}
 use Rattle.sl_syntax.specs.declared.typed.statement.Stmt.{Stmt as StmtCode, Row_of-Stmt, end_of-Stmt, more_of-Stmt, items-the_row-Stmt}
 use Rattle.sl_syntax.specs.declared.typed.statement.Stmt.{the_lemmas as stmt_lemmas}
 use Rattle.sl_syntax.specs.declared.typed.statement.Stmt.TheVariants as s
+use Rattle.sl_syntax.specs.declared.typed.step.Fix.{Fix}
 use Rattle.sl_syntax.specs.Typed as t
-use Rattle.sl_syntax.specs.Typed.{Head, Fix, Taken}
 use Rattle.sl_syntax.specs.TypedView.{expr_of, left_of, operands_of, row_view, cond_of, first_of, effect_of, stmt_of, stmts_of, stmts_view}
 
 row_view-items : (n : _) (row : Row_of-Expr n) → row_view row ≡ operands_of (items-the_row-Expr n row)

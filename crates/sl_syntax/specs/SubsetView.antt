@@ -8,13 +8,16 @@ use Rattle.sl_base.specs.declared.scalar.Scalar.TheVariants as c
 use Rattle.sl_syntax.specs.declared.subset.Stmt.{Stmt as StmtCode}
 use Rattle.sl_syntax.specs.declared.subset.Stmt.TheVariants.{Vector, PushBack, Begin, Dereference}
 use Rattle.sl_syntax.specs.declared.subset.Text.{Text}
+use Rattle.sl_syntax.specs.declared.typed.callee.Callee.{Callee}
 use Rattle.sl_syntax.specs.declared.typed.callee.Callee.TheVariants as k
+use Rattle.sl_syntax.specs.declared.typed.head.Head.{Head}
 use Rattle.sl_syntax.specs.declared.typed.operator.Operator.TheVariants as o
 use Rattle.sl_syntax.specs.declared.typed.parameter.ParameterKind.TheVariants as p
+use Rattle.sl_syntax.specs.declared.typed.variable.Variable.{Variable}
 use Rattle.sl_syntax.specs.declared.typed.variable.VariableKind.{VariableKind}
 use Rattle.sl_syntax.specs.declared.typed.variable.VariableKind.TheVariants as kinds
-use Rattle.sl_syntax.specs.Typed.{Callee, Variable, Head, literal, held, iterator, call, element, none, with, evaluates, set_scalar, set_iterator}
-use Rattle.sl_syntax.specs.Typed.{makes, Stmt, block, declares, does, Stmts, no_more, followed, Function, Typed}
+use Rattle.sl_syntax.specs.Typed.{literal, held, iterator, call, element, none, with, evaluates, set_scalar, set_iterator, makes, Stmt, block}
+use Rattle.sl_syntax.specs.Typed.{declares, does, Stmts, no_more, followed, Function, Typed}
 
 -- the numbers of the rows that are there
 abbrev pub vector_row : ℕ
