@@ -9,7 +9,6 @@ use Rattle.sl_syntax.specs.declared.operator.Access.TheVariants as a
 use Rattle.sl_syntax.specs.declared.operator.Arithmetic.TheVariants as o
 use Rattle.sl_syntax.specs.declared.operator.Comparison.TheVariants as b
 use Rattle.sl_syntax.specs.declared.typed.Typed.{Typed as TypedCode}
-use Rattle.sl_syntax.specs.declared.typed.callee.Callee.{Callee}
 use Rattle.sl_syntax.specs.declared.typed.callee.Callee.TheVariants as k
 use Rattle.sl_syntax.specs.declared.typed.cond.Cond.TheVariants as conds
 use Rattle.sl_syntax.specs.declared.typed.declaration.Declaration.TheVariants as d

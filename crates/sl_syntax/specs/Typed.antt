@@ -10,11 +10,9 @@ use Rattle.sl_base.specs.declared.place.Place.{Place}
 use Rattle.sl_base.specs.declared.scalar.Scalar.{Scalar}
 use Rattle.sl_syntax.specs.declared.operator.Arithmetic.{Arithmetic}
 use Rattle.sl_syntax.specs.declared.operator.Comparison.{Comparison}
-use Rattle.sl_syntax.specs.declared.typed.callee.Callee.{Callee}
 use Rattle.sl_syntax.specs.declared.typed.element.ElementPart.{ElementPart}
 use Rattle.sl_syntax.specs.declared.typed.element.Taken.{Taken}
 use Rattle.sl_syntax.specs.declared.typed.head.Head.{Head}
-use Rattle.sl_syntax.specs.declared.typed.operator.Operator.{Operator}
 use Rattle.sl_syntax.specs.declared.typed.parameter.ParameterKind.{ParameterKind}
 use Rattle.sl_syntax.specs.declared.typed.step.Fix.{Fix}
 use Rattle.sl_syntax.specs.declared.typed.step.Step.{Step}
