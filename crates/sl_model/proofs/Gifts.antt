@@ -5,13 +5,18 @@ use Rattle.std.specs.Prelude.{ℤ, pos, slice_get}
 use Rattle.std.proofs.lemmas.Option.{slice_get-get_or}
 use Rattle.sl_base.specs.declared.place.Place.{Place}
 use Rattle.sl_model.specs.Numbers.{Answer, value, fault}
-use Rattle.sl_syntax.specs.Typed.{Callee, Head, Fix, prefix, postfix, Left, scalar, element, Function}
+use Rattle.sl_syntax.specs.declared.typed.callee.Callee.{Callee}
+use Rattle.sl_syntax.specs.declared.typed.head.Head.{Head}
+use Rattle.sl_syntax.specs.declared.typed.step.Fix.{Fix}
+use Rattle.sl_syntax.specs.declared.typed.step.Fix.TheVariants.{Prefix, Postfix}
+use Rattle.sl_syntax.specs.Typed.{Left, scalar, reference, element, Function}
 use Rattle.sl_model.specs.Containers.{Memory}
 use Rattle.sl_model.specs.Values.{Value, nothing, number, iterator, pair, scalar_at, container_at, element_at, Args, LibOut, trapped, thrown, faulted}
 use Rattle.sl_model.specs.Values.{gives, unbuilt, Lib}
 use Rattle.sl_model.specs.State.{State, Frame, iter_of, stamp_of, set_iterator_at, scalar_value}
 use Rattle.sl_model.specs.Eval.{Out, Gives, Stops, Outs, AllGive, OneStops, Oracle, then_eval, with_number, then_number, add_value, then_rest}
-use Rattle.sl_model.specs.Eval.{then_call, branch, answered, if_set, read_at, settle_call, use_library, moved_to, chosen, first_of, second_of}
+use Rattle.sl_model.specs.Eval.{then_call, branch, answered, if_set, read_at, settle_call, site_of, use_library, moved_to, chosen, first_of}
+use Rattle.sl_model.specs.Eval.{second_of}
 use Rattle.sl_model.specs.Good.{IsSound, AreApart}
 use Rattle.sl_model.specs.Shapes.{Shape, a_number, a_stamp, a_pair, an_element, Gift, a_value, the_scalar, Signature, HasShape, IsGiven}
 use Rattle.sl_model.specs.Shapes.{shape_of_result, AllSuit, containers_in}
@@ -93,6 +98,7 @@ OwnKeepsGood g own = (f : ℕ) (h : Function) (at : Place) (L : Level) (n : ℕ)
 -- what a left side stands for
 abbrev pub gift_of_left : Left → Gift
 gift_of_left (scalar x at) = the_scalar x
+gift_of_left (reference x at name part) = a_value an_element
 gift_of_left (element h ops) = a_value an_element
 
 -- a stamp that was used stays so
@@ -198,6 +204,7 @@ module _ (L : Level) where
   pub at_read : (n : ℕ) (at : Place) (l : Left) (v : Value) (s : State) → Gave L n (gift_of_left l) v s
       → OutAt L n (a_value a_number) (read_at at v s)
   at_read n at (element hd ops) v s h = at_element n at v s h
+  at_read n at (reference x p name part) v s h = at_element n at v s h
   at_read n at (scalar x p) nothing s h = absurd h.given
   at_read n at (scalar x p) (number z) s h = absurd h.given
   at_read n at (scalar x p) (iterator y) s h = absurd h.given
@@ -208,14 +215,14 @@ module _ (L : Level) where
 
   -- one of two numbers is given
   pub gave_chosen : (n : ℕ) (x : Fix) (y z : ℤ) (s : State) → Now L n s → Gave L n (a_value a_number) (chosen x (number y) (number z)) s
-  gave_chosen n prefix y z s h = gave_number n z s h
-  gave_chosen n postfix y z s h = gave_number n y s h
+  gave_chosen n Prefix y z s h = gave_number n z s h
+  gave_chosen n Postfix y z s h = gave_number n y s h
 
   -- one of two iterators is given
   gave_iterator : (n : ℕ) (x : Fix) (y z : ℕ) (s : State) → y < s.memory.fresh → z < s.memory.fresh → Now L n s
       → Gave L n (a_value a_stamp) (chosen x (iterator y) (iterator z)) s
-  gave_iterator n prefix y z s p q h = record { now = h; given = tt; used = q }
-  gave_iterator n postfix y z s p q h = record { now = h; given = tt; used = p }
+  gave_iterator n Prefix y z s p q h = record { now = h; given = tt; used = q }
+  gave_iterator n Postfix y z s p q h = record { now = h; given = tt; used = p }
 
   -- an iterator variable takes the stamp that a call gave
   pub at_moved : (n : ℕ) (x : Fix) (at old : ℕ) (v : Value) (s : State) → old < s.memory.fresh → Gave L n (a_value a_stamp) v s
@@ -260,7 +267,7 @@ module _ (L : Level) where
 
   -- what a call of the library gives, where it makes no container
   at_settle : (n : ℕ) (shape : Shape) (makes_one : Bool) (hd : Head) (vs : List Value) (o : LibOut) (s : State) → makes_one ≡ false → Now L n s
-      → IsAnswer shape makes_one s.memory hd.site o → OutAt L n (a_value shape) (settle_call hd vs o s)
+      → IsAnswer shape makes_one s.memory (site_of hd) o → OutAt L n (a_value shape) (settle_call hd vs o s)
   at_settle n shape makes_one hd vs (trapped k a) s e h i = now_above L n s h
   at_settle n shape makes_one hd vs thrown s e h i = now_above L n s h
   at_settle n shape makes_one hd vs (faulted w) s e h i = now_above L n s h

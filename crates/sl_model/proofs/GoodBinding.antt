@@ -6,7 +6,9 @@ use Rattle.std.proofs.lemmas.List.{append_assoc, append-nil}
 use Rattle.sl_base.specs.declared.scalar.Scalar.{Scalar}
 use Rattle.sl_base.specs.declared.form.Form.{Form}
 use Rattle.sl_syntax.specs.declared.operator.Access.{Access}
-use Rattle.sl_syntax.specs.Typed.{Kind, by_value, by_reference, a_container, an_iterator, Function}
+use Rattle.sl_syntax.specs.declared.typed.parameter.ParameterKind.{ParameterKind}
+use Rattle.sl_syntax.specs.declared.typed.parameter.ParameterKind.TheVariants as parameter
+use Rattle.sl_syntax.specs.Typed.{Function}
 use Rattle.sl_model.specs.Values.{Value, nothing, number, iterator, pair, scalar_at, container_at, element_at}
 use Rattle.sl_model.specs.State.{Frame, State, new_scalar, new_iterator, new_container}
 use Rattle.sl_model.specs.Calls.{no_frame, bind_one, bind_all, bound}
@@ -112,8 +114,8 @@ module _ (L : Level) (n : ℕ) (scalars_below : AreBelow L.frame.scalars L.scala
 
   -- a reference has the location of a scalar
   bind_scalar : (ty : Scalar) (c : Counts) (xs : List ℕ) (s : State) (x l : ℕ) → slice_get L.frame.scalars x ≡ Some l → Binding L n c xs s
-      → Binding L n (one_scalar c) (xs ++ []) (bind_one (by_reference ty) (scalar_at l) s)
-  bind_scalar ty c xs s x l there h = none_more L n (one_scalar c) xs (bind_one (by_reference ty) (scalar_at l) s) (record {
+      → Binding L n (one_scalar c) (xs ++ []) (bind_one (parameter.Reference ty) (scalar_at l) s)
+  bind_scalar ty c xs s x l there h = none_more L n (one_scalar c) xs (bind_one (parameter.Reference ty) (scalar_at l) s) (record {
     above = record {
       good = record {
         sound = h.above.good.sound;
@@ -162,12 +164,12 @@ module _ (L : Level) (n : ℕ) (scalars_below : AreBelow L.frame.scalars L.scala
       named = named_one_more L.frame xs s.frame.conts x l h.many h.named there
 
   -- what a parameter of a kind leaves
-  abbrev Bound : Kind → Gift → Value → Counts → List ℕ → State → Type 0
+  abbrev Bound : ParameterKind → Gift → Value → Counts → List ℕ → State → Type 0
   Bound k gift v c xs s = Binding L n (with_parameter k c) (xs ++ container_in gift) (bind_one k v s)
 
   -- a parameter by value
   one_by_value : (ty : Scalar) (c : Counts) (xs : List ℕ) (s : State) (v : Value) → IsGiven L.frame (a_value a_number) v → IsUsed n v
-      → Binding L n c xs s → Bound (by_value ty) (a_value a_number) v c xs s
+      → Binding L n c xs s → Bound (parameter.Value ty) (a_value a_number) v c xs s
   one_by_value ty c xs s nothing given used h = absurd given
   one_by_value ty c xs s (number z) given used h = bind_number ty c xs s z h
   one_by_value ty c xs s (iterator y) given used h = absurd given
@@ -178,7 +180,7 @@ module _ (L : Level) (n : ℕ) (scalars_below : AreBelow L.frame.scalars L.scala
 
   -- a parameter by reference
   one_by_reference : (ty : Scalar) (x : ℕ) (c : Counts) (xs : List ℕ) (s : State) (v : Value) → IsGiven L.frame (the_scalar x) v → IsUsed n v
-      → Binding L n c xs s → Bound (by_reference ty) (the_scalar x) v c xs s
+      → Binding L n c xs s → Bound (parameter.Reference ty) (the_scalar x) v c xs s
   one_by_reference ty x c xs s nothing given used h = absurd given
   one_by_reference ty x c xs s (number z) given used h = absurd given
   one_by_reference ty x c xs s (iterator y) given used h = absurd given
@@ -189,7 +191,7 @@ module _ (L : Level) (n : ℕ) (scalars_below : AreBelow L.frame.scalars L.scala
 
   -- a container
   one_container_in : (access : Access) (form : Form) (x : ℕ) (c : Counts) (xs : List ℕ) (s : State) → AreApart (xs ++ x ∷ []) → (v : Value)
-      → IsGiven L.frame (the_container x) v → IsUsed n v → Binding L n c xs s → Bound (a_container access form) (the_container x) v c xs s
+      → IsGiven L.frame (the_container x) v → IsUsed n v → Binding L n c xs s → Bound (parameter.Container access form) (the_container x) v c xs s
   one_container_in access form x c xs s apart nothing given used h = absurd given
   one_container_in access form x c xs s apart (number z) given used h = absurd given
   one_container_in access form x c xs s apart (iterator y) given used h = absurd given
@@ -200,7 +202,7 @@ module _ (L : Level) (n : ℕ) (scalars_below : AreBelow L.frame.scalars L.scala
 
   -- an iterator
   one_iterator_in : (of_const : Bool) (form : Form) (c : Counts) (xs : List ℕ) (s : State) (v : Value) → IsGiven L.frame (a_value a_stamp) v
-      → IsUsed n v → Binding L n c xs s → Bound (an_iterator of_const form) (a_value a_stamp) v c xs s
+      → IsUsed n v → Binding L n c xs s → Bound (parameter.Iterator of_const form) (a_value a_stamp) v c xs s
   one_iterator_in of_const form c xs s nothing given used h = absurd given
   one_iterator_in of_const form c xs s (number z) given used h = absurd given
   one_iterator_in of_const form c xs s (iterator y) given used h = bind_iterator c xs s y used h
@@ -210,40 +212,41 @@ module _ (L : Level) (n : ℕ) (scalars_below : AreBelow L.frame.scalars L.scala
   one_iterator_in of_const form c xs s (element_at i j p) given used h = absurd given
 
   -- a parameter gets what suits it
-  bind_kind : (k : Kind) (gift : Gift) (v : Value) (c : Counts) (xs : List ℕ) (s : State) → Suits k gift → IsGiven L.frame gift v → IsUsed n v
-      → AreApart (xs ++ container_in gift) → Binding L n c xs s → Bound k gift v c xs s
-  bind_kind (by_value ty) (a_value no_value) v c xs s suit given used apart h = absurd suit
-  bind_kind (by_value ty) (a_value a_number) v c xs s suit given used apart h = one_by_value ty c xs s v given used h
-  bind_kind (by_value ty) (a_value a_stamp) v c xs s suit given used apart h = absurd suit
-  bind_kind (by_value ty) (a_value a_pair) v c xs s suit given used apart h = absurd suit
-  bind_kind (by_value ty) (a_value an_element) v c xs s suit given used apart h = absurd suit
-  bind_kind (by_value ty) (the_scalar x) v c xs s suit given used apart h = absurd suit
-  bind_kind (by_value ty) (the_container x) v c xs s suit given used apart h = absurd suit
-  bind_kind (by_reference ty) (a_value no_value) v c xs s suit given used apart h = absurd suit
-  bind_kind (by_reference ty) (a_value a_number) v c xs s suit given used apart h = absurd suit
-  bind_kind (by_reference ty) (a_value a_stamp) v c xs s suit given used apart h = absurd suit
-  bind_kind (by_reference ty) (a_value a_pair) v c xs s suit given used apart h = absurd suit
-  bind_kind (by_reference ty) (a_value an_element) v c xs s suit given used apart h = absurd suit
-  bind_kind (by_reference ty) (the_scalar x) v c xs s suit given used apart h = one_by_reference ty x c xs s v given used h
-  bind_kind (by_reference ty) (the_container x) v c xs s suit given used apart h = absurd suit
-  bind_kind (a_container access form) (a_value no_value) v c xs s suit given used apart h = absurd suit
-  bind_kind (a_container access form) (a_value a_number) v c xs s suit given used apart h = absurd suit
-  bind_kind (a_container access form) (a_value a_stamp) v c xs s suit given used apart h = absurd suit
-  bind_kind (a_container access form) (a_value a_pair) v c xs s suit given used apart h = absurd suit
-  bind_kind (a_container access form) (a_value an_element) v c xs s suit given used apart h = absurd suit
-  bind_kind (a_container access form) (the_scalar x) v c xs s suit given used apart h = absurd suit
-  bind_kind (a_container access form) (the_container x) v c xs s suit given used apart h =
+  bind_kind : (k : ParameterKind) (gift : Gift) (v : Value) (c : Counts) (xs : List ℕ) (s : State) → Suits k gift → IsGiven L.frame gift v
+      → IsUsed n v → AreApart (xs ++ container_in gift) → Binding L n c xs s → Bound k gift v c xs s
+  bind_kind (parameter.Value ty) (a_value no_value) v c xs s suit given used apart h = absurd suit
+  bind_kind (parameter.Value ty) (a_value a_number) v c xs s suit given used apart h = one_by_value ty c xs s v given used h
+  bind_kind (parameter.Value ty) (a_value a_stamp) v c xs s suit given used apart h = absurd suit
+  bind_kind (parameter.Value ty) (a_value a_pair) v c xs s suit given used apart h = absurd suit
+  bind_kind (parameter.Value ty) (a_value an_element) v c xs s suit given used apart h = absurd suit
+  bind_kind (parameter.Value ty) (the_scalar x) v c xs s suit given used apart h = absurd suit
+  bind_kind (parameter.Value ty) (the_container x) v c xs s suit given used apart h = absurd suit
+  bind_kind (parameter.Reference ty) (a_value no_value) v c xs s suit given used apart h = absurd suit
+  bind_kind (parameter.Reference ty) (a_value a_number) v c xs s suit given used apart h = absurd suit
+  bind_kind (parameter.Reference ty) (a_value a_stamp) v c xs s suit given used apart h = absurd suit
+  bind_kind (parameter.Reference ty) (a_value a_pair) v c xs s suit given used apart h = absurd suit
+  bind_kind (parameter.Reference ty) (a_value an_element) v c xs s suit given used apart h = absurd suit
+  bind_kind (parameter.Reference ty) (the_scalar x) v c xs s suit given used apart h = one_by_reference ty x c xs s v given used h
+  bind_kind (parameter.Reference ty) (the_container x) v c xs s suit given used apart h = absurd suit
+  bind_kind (parameter.Container access form) (a_value no_value) v c xs s suit given used apart h = absurd suit
+  bind_kind (parameter.Container access form) (a_value a_number) v c xs s suit given used apart h = absurd suit
+  bind_kind (parameter.Container access form) (a_value a_stamp) v c xs s suit given used apart h = absurd suit
+  bind_kind (parameter.Container access form) (a_value a_pair) v c xs s suit given used apart h = absurd suit
+  bind_kind (parameter.Container access form) (a_value an_element) v c xs s suit given used apart h = absurd suit
+  bind_kind (parameter.Container access form) (the_scalar x) v c xs s suit given used apart h = absurd suit
+  bind_kind (parameter.Container access form) (the_container x) v c xs s suit given used apart h =
       one_container_in access form x c xs s apart v given used h
-  bind_kind (an_iterator of_const form) (a_value no_value) v c xs s suit given used apart h = absurd suit
-  bind_kind (an_iterator of_const form) (a_value a_number) v c xs s suit given used apart h = absurd suit
-  bind_kind (an_iterator of_const form) (a_value a_stamp) v c xs s suit given used apart h = one_iterator_in of_const form c xs s v given used h
-  bind_kind (an_iterator of_const form) (a_value a_pair) v c xs s suit given used apart h = absurd suit
-  bind_kind (an_iterator of_const form) (a_value an_element) v c xs s suit given used apart h = absurd suit
-  bind_kind (an_iterator of_const form) (the_scalar x) v c xs s suit given used apart h = absurd suit
-  bind_kind (an_iterator of_const form) (the_container x) v c xs s suit given used apart h = absurd suit
+  bind_kind (parameter.Iterator of_const form) (a_value no_value) v c xs s suit given used apart h = absurd suit
+  bind_kind (parameter.Iterator of_const form) (a_value a_number) v c xs s suit given used apart h = absurd suit
+  bind_kind (parameter.Iterator of_const form) (a_value a_stamp) v c xs s suit given used apart h =
+      one_iterator_in of_const form c xs s v given used h
+  bind_kind (parameter.Iterator of_const form) (a_value a_pair) v c xs s suit given used apart h = absurd suit
+  bind_kind (parameter.Iterator of_const form) (a_value an_element) v c xs s suit given used apart h = absurd suit
+  bind_kind (parameter.Iterator of_const form) (the_scalar x) v c xs s suit given used apart h = absurd suit
+  bind_kind (parameter.Iterator of_const form) (the_container x) v c xs s suit given used apart h = absurd suit
 
   -- the parameters get what suits them
-  bind_kinds : (ks : List Kind) (gifts : List Gift) (vs : List Value) (c : Counts) (xs : List ℕ) (s : State) → AllSuit ks gifts
+  bind_kinds : (ks : List ParameterKind) (gifts : List Gift) (vs : List Value) (c : Counts) (xs : List ℕ) (s : State) → AllSuit ks gifts
       → AllGiven L.frame gifts vs → AllUsed n vs → AreApart (xs ++ containers_in gifts) → Binding L n c xs s →
       Above L n (bind_all ks vs s) × (counts_of (bind_all ks vs s).frame ≡ with_parameters ks c)
   bind_kinds [] gifts vs c xs s suit given used apart h = (h.above, h.counts)

@@ -3,7 +3,9 @@ use Rattle.std.proofs.Common.{◌≡◌, ℕ, zero, suc, ◌≤◌, ◌==◌, Bo
 use Rattle.std.specs.Prelude.{pos, slice_get}
 use Rattle.std.proofs.lemmas.Bool.{eqb-true}
 use Rattle.sl_base.specs.declared.place.Place.{Place}
-use Rattle.sl_syntax.specs.Typed.{Callee, Kind, Function, Typed}
+use Rattle.sl_syntax.specs.declared.typed.callee.Callee.{Callee}
+use Rattle.sl_syntax.specs.declared.typed.parameter.ParameterKind.{ParameterKind}
+use Rattle.sl_syntax.specs.Typed.{Function, Typed}
 use Rattle.sl_model.specs.Values.{Value, nothing, number, Lib}
 use Rattle.sl_model.specs.Ends.{Language}
 use Rattle.sl_model.specs.State.{State, leave}
@@ -42,7 +44,7 @@ at_fell L n true f before s main h i = at_leave L n (shape_of_result f.result) (
     (subst (λ (x : Shape). HasShape x (number (pos 0))) (sym (main refl)) tt) tt
 at_fell L n false f before s main h i = by_result f.result
   where
-    by_result : (r : Option Kind) → OutAt L n (a_value (shape_of_result r))
+    by_result : (r : Option ParameterKind) → OutAt L n (a_value (shape_of_result r))
         (elim r as (λ _. Out) [ None ↦ Gives nothing (leave 0 before s) | Some k ↦ Stops (Language f.close 4) s ])
     by_result None = at_leave L n no_value nothing before s h i tt tt
     by_result (Some k) = i

@@ -8,13 +8,14 @@ use Rattle.sl_base.specs.declared.place.Place.{Place}
 use Rattle.sl_base.specs.declared.scalar.Scalar.{Scalar}
 use Rattle.sl_syntax.specs.declared.operator.Arithmetic.{Arithmetic}
 use Rattle.sl_model.specs.Numbers.{is_zero, converted, operated}
-use Rattle.sl_syntax.specs.Typed.{Head, Expr, Left, Cond, read, not_read, test, always, Printed, text, endline, number as printed_number, Effect}
-use Rattle.sl_syntax.specs.Typed.{reads, prints, evaluates, assigns, updates, moves_to, Declaration, unset_scalar, set_scalar, set_iterator, makes}
-use Rattle.sl_syntax.specs.Typed.{First, no_first, declares_first, does_first}
+use Rattle.sl_syntax.specs.declared.typed.head.Head.{Head}
+use Rattle.sl_syntax.specs.Typed.{Expr, Left, Cond, read, not_read, test, always, Printed, text, endline, number as printed_number, Effect, reads}
+use Rattle.sl_syntax.specs.Typed.{prints, evaluates, assigns, updates, moves_to, Declaration, unset_scalar, set_scalar, set_iterator, binds_reference}
+use Rattle.sl_syntax.specs.Typed.{makes, First, no_first, declares_first, does_first}
 use Rattle.sl_model.specs.Values.{Value, LibOut, trapped, thrown, faulted, gives, unbuilt}
 use Rattle.sl_model.specs.State.{State, iter_of, set_iterator_at, new_scalar, new_iterator, new_container}
 use Rattle.sl_model.specs.Eval.{Outs, AllGive, OneStops, World, eval, reach, eval_all, then_number, then_call, read_at, write_at, answered}
-use Rattle.sl_model.specs.Eval.{settle_call, use_library, name_place}
+use Rattle.sl_model.specs.Eval.{settle_call, site_of, use_library, name_place}
 use Rattle.sl_model.specs.Exec.{Next, Meaning, flow_of, on_number, on_stamp, tested, printed, print_all, wrote, is_scalar_name, affect, declared}
 use Rattle.sl_model.specs.Exec.{begun, ended}
 use Rattle.sl_model.specs.Shapes.{Shape, a_number, a_stamp, Gift, a_value, Signature, gift_of, gifts_of}
@@ -32,6 +33,7 @@ abbrev pub level_declared : Declaration → Level → Level
 level_declared (unset_scalar ty) L = with_scalar L
 level_declared (set_scalar ty a) L = with_scalar L
 level_declared (set_iterator a) L = with_iterator L
+level_declared (binds_reference hd ops) L = with_iterator L
 level_declared (makes form hd ops) L = with_container L
 
 -- the level after the first part of a `for`
@@ -57,6 +59,7 @@ pub counts_declared : (d : Declaration) (L : Level) → counts_of (level_declare
 counts_declared (unset_scalar ty) L = counts_scalar L
 counts_declared (set_scalar ty a) L = counts_scalar L
 counts_declared (set_iterator a) L = counts_iterator L
+counts_declared (binds_reference hd ops) L = counts_iterator L
 counts_declared (makes form hd ops) L = counts_container L
 
 -- what is in scope after the first part of a `for`
@@ -82,6 +85,13 @@ declared_above (set_scalar ty a) L n s h = record {
   later = h.later;
 }
 declared_above (set_iterator a) L n s h = record {
+  good = h.good;
+  scalars = h.scalars;
+  iters = let r : L.iters + 1 ≤ length s.iters = h.iters in omega arith;
+  conts = h.conts;
+  later = h.later;
+}
+declared_above (binds_reference hd ops) L n s h = record {
   good = h.good;
   scalars = h.scalars;
   iters = let r : L.iters + 1 ≤ length s.iters = h.iters in omega arith;
@@ -192,7 +202,7 @@ module _ (w : World) (g : Signature) (lib_keeps : KeepsGood g.shape g.makes w.li
 
   -- the container that a call made
   at_made : (hd : Head) (vs : List Value) (o : LibOut) (s : State) → g.makes hd.callee ≡ true → Now L n s
-      → IsAnswer (g.shape hd.callee) (g.makes hd.callee) s.memory hd.site o →
+      → IsAnswer (g.shape hd.callee) (g.makes hd.callee) s.memory (site_of hd) o →
       FlowIn shape L n (Now (with_container L) n) (Now L n) (flow_of (settle_call hd vs o s) (λ v t. Next (new_container L.conts t)))
   at_made hd vs (trapped k a) s e h i = now_above L n s h
   at_made hd vs thrown s e h i = now_above L n s h
@@ -215,6 +225,7 @@ module _ (w : World) (g : Signature) (lib_keeps : KeepsGood g.shape g.makes w.li
       (λ z s j. new_scalar-now L n ty (Some z) s j) h
   at_declared (set_iterator a) s i h = flow_of_stamp (Now (with_iterator L) n) (Now L n) a (λ stamp s. Next (new_iterator stamp s)) s i.0 i.1
       (λ x s low j. new_iterator-now L n x s low j) h
+  at_declared (binds_reference hd ops) s i h = absurd i
   at_declared (makes form hd ops) s i h =
       subst (λ k. FlowIn shape L n (Now (with_container L) n) (Now L n)
       (flow_of (then_call (eval_all w ops s) (use_library w.lib hd)) (λ v t. Next (new_container k t)))) (ap (λ (l : Level). l.conts) (sym h.level))

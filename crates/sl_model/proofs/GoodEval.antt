@@ -6,9 +6,12 @@ use Rattle.sl_base.specs.declared.place.Place.{Place}
 use Rattle.sl_base.specs.declared.scalar.Scalar.{Scalar}
 use Rattle.sl_syntax.specs.declared.operator.Arithmetic.TheVariants as o
 use Rattle.sl_model.specs.Numbers.{is_zero, converted, operated, compared, truth}
-use Rattle.sl_syntax.specs.Typed.{Head, Step, Fix, Expr, literal, held, iterator as iterator_held, convert, negate, logical_not, logical_and}
-use Rattle.sl_syntax.specs.Typed.{logical_or, arithmetic, comparison, increment, move, call, own_call, first, second, container, reference, Left}
-use Rattle.sl_syntax.specs.Typed.{scalar, element, Operands, none, with, Function}
+use Rattle.sl_syntax.specs.declared.typed.head.Head.{Head}
+use Rattle.sl_syntax.specs.declared.typed.step.Fix.{Fix}
+use Rattle.sl_syntax.specs.declared.typed.step.Step.{Step}
+use Rattle.sl_syntax.specs.Typed.{Expr, literal, held, iterator as iterator_held, convert, negate, logical_not, logical_and, logical_or, arithmetic}
+use Rattle.sl_syntax.specs.Typed.{comparison, increment, move, call, own_call, first, second, container, handed_scalar, Left, scalar, reference}
+use Rattle.sl_syntax.specs.Typed.{element, Operands, none, with, Function}
 use Rattle.sl_model.specs.Values.{Value, number, iterator}
 use Rattle.sl_model.specs.State.{State, scalar_of, cont_of, iter_of, stamp_of}
 use Rattle.sl_model.specs.Eval.{by_one, Out, Gives, World, then_eval, then_number, branch, answered, read_at, write_at, use_library, increased}
@@ -125,11 +128,12 @@ module _ (w : World) (g : Signature) (lib_keeps : KeepsGood g.shape g.makes w.li
     at_eval (second at a) n s i h = at_then L n (gift_of g a) (a_value a_number) (eval w a s) _ (at_eval a n s i.1 h)
         (λ v s j. at_second L n v s (gave_as L n (gift_of g a) (a_value a_pair) v s i.0 j))
     at_eval (container x) n s i h = record { now = h; given = cont_there L n s x i h; used = tt }
-    at_eval (reference x) n s i h = record { now = h; given = scalar_there L n s x i h; used = tt }
+    at_eval (handed_scalar x) n s i h = record { now = h; given = scalar_there L n s x i h; used = tt }
 
     -- a left side
     pub at_reach : (l : Left) (n : ℕ) (s : State) → InLeft g (counts_of L.frame) l → Now L n s → OutAt L n (gift_of_left l) (reach w l s)
     at_reach (scalar x at) n s i h = record { now = h; given = scalar_there L n s x i h; used = tt }
+    at_reach (reference x at name part) n s i h = absurd i
     at_reach (element hd ops) n s i h = at_call L n (gifts_of g ops) (a_value an_element) (eval_all w ops s) (use_library w.lib hd)
         (at_all ops n s i.1.1 h) (λ vs s j. as_shape an_element hd vs n s i.0 i.1.0.0 j.used j.now)
 

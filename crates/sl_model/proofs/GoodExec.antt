@@ -1,6 +1,7 @@
 -- Each statement that uses what is in scope keeps a state good, and it keeps the level, or a declaration adds what it declares.
 use Rattle.std.proofs.Common.{◌≡◌, ℕ, suc, ◌+◌, ◌<◌, Some, None, length, refl, ap, sym, subst, arith}
 use Rattle.std.specs.Prelude.{unwrap_or}
+use Rattle.sl_syntax.specs.declared.typed.element.Taken.TheVariants as taken
 use Rattle.sl_syntax.specs.Typed.{Stmt, block, declares, choice, choice_else, while, for, range_for, break, continue, gives_back, does, Stmts}
 use Rattle.sl_syntax.specs.Typed.{no_more, followed}
 use Rattle.sl_model.specs.Values.{nothing}
@@ -29,9 +30,9 @@ counts_after (block site all) L = refl
 counts_after (declares d) L = counts_declared d L
 counts_after (choice k a) L = refl
 counts_after (choice_else k a b) L = refl
-counts_after (while k a) L = refl
-counts_after (for head k last a) L = refl
-counts_after (range_for x at name a) L = refl
+counts_after (while l k a) L = refl
+counts_after (for l head k last a) L = refl
+counts_after (range_for l how x at name a) L = refl
 counts_after break L = refl
 counts_after continue L = refl
 counts_after (gives_back a) L = refl
@@ -43,9 +44,9 @@ after_above (block site all) L n s h = h
 after_above (declares d) L n s h = declared_above d L n s h
 after_above (choice k a) L n s h = h
 after_above (choice_else k a b) L n s h = h
-after_above (while k a) L n s h = h
-after_above (for head k last a) L n s h = h
-after_above (range_for x at name a) L n s h = h
+after_above (while l k a) L n s h = h
+after_above (for l head k last a) L n s h = h
+after_above (range_for l how x at name a) L n s h = h
 after_above break L n s h = h
 after_above continue L n s h = h
 after_above (gives_back a) L n s h = h
@@ -61,9 +62,9 @@ part_stays shape L n (block site all) w p h = h
 part_stays shape L n (declares d) w p h = absurd p
 part_stays shape L n (choice k a) w p h = h
 part_stays shape L n (choice_else k a b) w p h = h
-part_stays shape L n (while k a) w p h = h
-part_stays shape L n (for head k last a) w p h = h
-part_stays shape L n (range_for x at name a) w p h = h
+part_stays shape L n (while l k a) w p h = h
+part_stays shape L n (for l head k last a) w p h = h
+part_stays shape L n (range_for l how x at name a) w p h = h
 part_stays shape L n break w p h = h
 part_stays shape L n continue w p h = h
 part_stays shape L n (gives_back a) w p h = h
@@ -108,10 +109,10 @@ module _ (w : World) (g : Signature) (lib_keeps : KeepsGood g.shape g.makes w.li
         (λ v. flow_either shape L n (Now L n) (Now L n) v (exec w a) (exec w b)
         (λ s j. part_stays shape L n a (exec w a s) i.1.0.0 (at_exec a L s i.1.0.1 j))
         (λ s j. part_stays shape L n b (exec w b s) i.1.1.0 (at_exec b L s i.1.1.1 j)))) s h
-    at_exec (while k a) L s i h = flow_tick shape L n (Now L n) (Now L n) (loop (tested w k) (exec w a) Next)
+    at_exec (while number k a) L s i h = flow_tick shape L n (Now L n) (Now L n) (loop (tested w k) (exec w a) Next)
         (λ s j. flow_turns shape L n (suc s.steps) (tested w k) (exec w a) Next (at_tested w g lib_keeps own_keeps shape L n k i.0)
         (λ s l. part_stays shape L n a (exec w a s) i.1.0 (at_exec a L s i.1.1 l)) (λ s l. l) s j) s h
-    at_exec (for head k last a) L s i h =
+    at_exec (for number head k last a) L s i h =
         flow_tick shape L n (Now L n) (Now L n) (λ s. scoped 0 s (and_then (begun w head s) (loop (tested w k) (exec w a) (ended w last))))
         (λ s j. flow_scope shape L n 0 s (and_then (begun w head s) (loop (tested w k) (exec w a) (ended w last))) j
         (head_and_loop L (level_begun head L) (begun w head s) (loop (tested w k) (exec w a) (ended w last)) (begun_above head L n)
@@ -123,7 +124,7 @@ module _ (w : World) (g : Signature) (lib_keeps : KeepsGood g.shape g.makes w.li
         (λ s q. at_ended w g lib_keeps own_keeps shape (level_begun head L) n last s
         (subst (λ (c : Counts). InLast g c last) (sym (counts_begun head L)) i.1.1.0) q)
         s l))) s h
-    at_exec (range_for x at name a) L s i h =
+    at_exec (range_for number taken.Value x at name a) L s i h =
         flow_tick shape L n (Now L n) (Now L n)
         (λ s. scoped 0 s (over_range w at name (length s.iters) (length s.iters + 1) (length s.scalars) (exec w a) (range_start (cont_of s x) s)))
         (λ s j. scope_from 0 s (over_range w at name (length s.iters) (length s.iters + 1) (length s.scalars) (exec w a)
@@ -133,6 +134,7 @@ module _ (w : World) (g : Signature) (lib_keeps : KeepsGood g.shape g.makes w.li
         (λ s l. part_stays shape (level_range L) n a (exec w a s) i.1.1.0
         (at_exec a (level_range L) s (subst (λ (c : Counts). InStmt g shape c a) (sym (counts_range L)) i.1.1.1) l))
         (range_start (cont_of s x) s) (range-now L n x s i.0 j))) s h
+    at_exec (range_for number taken.Reference x at name a) L s i h = absurd i
     at_exec break L s i h = flow_tick shape L n (Now L n) (Now L n) Broke (λ s j. j) s h
     at_exec continue L s i h = flow_tick shape L n (Now L n) (Now L n) Continued (λ s j. j) s h
     at_exec (gives_back None) L s i h =

@@ -6,7 +6,9 @@ use Rattle.sl_base.specs.declared.form.Form.TheVariants as f
 use Rattle.sl_base.specs.declared.place.Place.{Place}
 use Rattle.sl_base.specs.declared.scalar.Scalar.TheVariants as t
 use Rattle.sl_syntax.specs.declared.operator.Comparison.TheVariants as c
-use Rattle.sl_syntax.specs.Typed.{star, up, compares, hidden, Head}
+use Rattle.sl_syntax.specs.declared.typed.callee.Callee.TheVariants as callees
+use Rattle.sl_syntax.specs.declared.typed.head.Head.{Head}
+use Rattle.sl_syntax.specs.declared.typed.operator.Operator.TheVariants as operators
 use Rattle.sl_model.specs.Numbers.{is_zero}
 use Rattle.sl_model.specs.Containers.{Cell, Memory, stamps, cont_at, begin_of, end_of}
 use Rattle.sl_model.specs.Values.{Value}
@@ -95,28 +97,32 @@ module _ (w : World) (g : Signature) (lib_keeps : KeepsGood g.shape g.makes w.li
   pub at_range : (at : Place) (name b e x : ℕ) (body : Meaning) → b < L.iters → e < L.iters → AsksWell g → Stays shape L n body
       → Stays shape L n (over_range w at name b e x body)
   at_range at name b e x body b_low e_low well k s h = flow_turns shape L n (suc s.steps)
-      (λ s go. flow_of (use_library w.lib (asks (compares c.NotEqual) at name) (hidden_at s b ∷ hidden_at s e ∷ []) s)
+      (λ s go. flow_of (use_library w.lib (asks (operators.Compare c.NotEqual) at name) (hidden_at s b ∷ hidden_at s e ∷ []) s)
       (on_number (λ z. go (not (is_zero z)))))
-      (λ s. flow_of (then_eval (use_library w.lib (asks star at name) (hidden_at s b ∷ []) s) (read_at at))
+      (λ s. flow_of (then_eval (use_library w.lib (asks operators.Dereference at name) (hidden_at s b ∷ []) s) (read_at at))
       (on_number (λ z s. body (set_scalar_at x z s))))
-      (λ s. flow_of (use_library w.lib (asks up at name) (hidden_at s b ∷ []) s) (on_stamp (λ stamp s. Next (set_iterator_at b stamp s))))
-      (λ go p s i. flow_value shape L n (Now L n) (Now L n) (a_value (g.shape (hidden (compares c.NotEqual))))
-      (use_library w.lib (asks (compares c.NotEqual) at name) (hidden_at s b ∷ hidden_at s e ∷ []) s) (on_number (λ z. go (not (is_zero z))))
-      (asked (asks (compares c.NotEqual) at name) (hidden_at s b ∷ hidden_at s e ∷ []) s well.tests
+      (λ s. flow_of (use_library w.lib (asks operators.Increment at name) (hidden_at s b ∷ []) s)
+      (on_stamp (λ stamp s. Next (set_iterator_at b stamp s))))
+      (λ go p s i. flow_value shape L n (Now L n) (Now L n) (a_value (g.shape (callees.Hidden (operators.Compare c.NotEqual))))
+      (use_library w.lib (asks (operators.Compare c.NotEqual) at name) (hidden_at s b ∷ hidden_at s e ∷ []) s) (on_number (λ z. go (not (is_zero z))))
+      (asked (asks (operators.Compare c.NotEqual) at name) (hidden_at s b ∷ hidden_at s e ∷ []) s well.tests
       (hidden_used L n b s b_low i, (hidden_used L n e s e_low i, tt)) i)
       (λ v s j. flow_number shape L n (Now L n) (Now L n) (λ z. go (not (is_zero z))) (λ z. p (not (is_zero z))) v s j.now))
       (λ s i. flow_value shape L n (Now L n) (Now L n) (a_value a_number)
-      (then_eval (use_library w.lib (asks star at name) (hidden_at s b ∷ []) s) (read_at at)) (on_number (λ z s. body (set_scalar_at x z s)))
-      (at_then L n (a_value (g.shape (hidden star))) (a_value a_number) (use_library w.lib (asks star at name) (hidden_at s b ∷ []) s) (read_at at)
-      (asked (asks star at name) (hidden_at s b ∷ []) s well.reads_one (hidden_used L n b s b_low i, tt) i)
+      (then_eval (use_library w.lib (asks operators.Dereference at name) (hidden_at s b ∷ []) s) (read_at at))
+      (on_number (λ z s. body (set_scalar_at x z s)))
+      (at_then L n (a_value (g.shape (callees.Hidden operators.Dereference))) (a_value a_number)
+      (use_library w.lib (asks operators.Dereference at name) (hidden_at s b ∷ []) s) (read_at at)
+      (asked (asks operators.Dereference at name) (hidden_at s b ∷ []) s well.reads_one (hidden_used L n b s b_low i, tt) i)
       (λ v s j. at_element L n at v s
-      (gave_as L n (a_value (g.shape (hidden star))) (a_value an_element) v s (ap (λ y. a_value y) well.element_read) j)))
+      (gave_as L n (a_value (g.shape (callees.Hidden operators.Dereference))) (a_value an_element) v s (ap (λ y. a_value y) well.element_read) j)))
       (λ v s j. flow_number shape L n (Now L n) (Now L n) (λ z s. body (set_scalar_at x z s))
       (λ z s l. k (set_scalar_at x z s) (set_scalar-now L n x z s l)) v s j.now))
-      (λ s i. flow_value shape L n (Now L n) (Now L n) (a_value (g.shape (hidden up))) (use_library w.lib (asks up at name) (hidden_at s b ∷ []) s)
+      (λ s i. flow_value shape L n (Now L n) (Now L n) (a_value (g.shape (callees.Hidden operators.Increment)))
+      (use_library w.lib (asks operators.Increment at name) (hidden_at s b ∷ []) s)
       (on_stamp (λ stamp s. Next (set_iterator_at b stamp s)))
-      (asked (asks up at name) (hidden_at s b ∷ []) s well.steps (hidden_used L n b s b_low i, tt) i)
+      (asked (asks operators.Increment at name) (hidden_at s b ∷ []) s well.steps (hidden_used L n b s b_low i, tt) i)
       (λ v s j. flow_stamp shape L n (Now L n) (Now L n) (λ stamp s. Next (set_iterator_at b stamp s))
       (λ stamp s low l. set_iterator-now L n b stamp s low l) v s
-      (gave_as L n (a_value (g.shape (hidden up))) (a_value a_stamp) v s (ap (λ y. a_value y) well.stamp_stepped) j)))
+      (gave_as L n (a_value (g.shape (callees.Hidden operators.Increment))) (a_value a_stamp) v s (ap (λ y. a_value y) well.stamp_stepped) j)))
       s h

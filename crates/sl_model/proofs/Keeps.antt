@@ -3,9 +3,13 @@ use Rattle.std.proofs.Common.{ℕ, Bool, true, false, not, List, ◌∷◌, Opti
 use Rattle.std.specs.Prelude.{ℤ, pos, slice_get, slice_set}
 use Rattle.sl_base.specs.declared.place.Place.{Place}
 use Rattle.sl_model.specs.Numbers.{Answer, value, fault, is_zero, converted, operated, compared, truth}
-use Rattle.sl_syntax.specs.Typed.{Callee, Head, Step, Fix, Expr, literal, held, iterator as iterator_held, convert, negate, logical_not, logical_and}
-use Rattle.sl_syntax.specs.Typed.{logical_or, arithmetic, comparison, increment, move, call, own_call, first, second, container, reference, Left}
-use Rattle.sl_syntax.specs.Typed.{scalar, element, Operands, none, with}
+use Rattle.sl_syntax.specs.declared.typed.callee.Callee.{Callee}
+use Rattle.sl_syntax.specs.declared.typed.head.Head.{Head}
+use Rattle.sl_syntax.specs.declared.typed.step.Fix.{Fix}
+use Rattle.sl_syntax.specs.declared.typed.step.Step.{Step}
+use Rattle.sl_syntax.specs.Typed.{Expr, literal, held, iterator as iterator_held, convert, negate, logical_not, logical_and, logical_or, arithmetic}
+use Rattle.sl_syntax.specs.Typed.{comparison, increment, move, call, own_call, first, second, container, handed_scalar, Left, scalar, reference}
+use Rattle.sl_syntax.specs.Typed.{element, Operands, none, with}
 use Rattle.sl_base.specs.declared.scalar.Scalar.{Scalar}
 use Rattle.sl_syntax.specs.declared.operator.Arithmetic.TheVariants as o
 use Rattle.sl_model.specs.Containers.{Memory, Part, write_element}
@@ -189,11 +193,12 @@ module _ (I : Memory → Type 0) where
       keeps_eval (first at a) s h = keeps_then (eval w a s) _ (keeps_eval a s h) (λ v s i. i)
       keeps_eval (second at a) s h = keeps_then (eval w a s) _ (keeps_eval a s h) (λ v s i. i)
       keeps_eval (container x) s h = h
-      keeps_eval (reference x) s h = h
+      keeps_eval (handed_scalar x) s h = h
 
       -- the place that a left side stands for keeps it
       pub keeps_reach : (l : Left) (s : State) → I s.memory → InOut (reach w l s)
       keeps_reach (scalar x at) s h = h
+      keeps_reach (reference x at name part) s h = h
       keeps_reach (element hd ops) s h = keeps_call (eval_all w ops s) _ (keeps_all ops s h) (λ vs s i. keeps_library hd vs s i)
 
       -- operands keep it

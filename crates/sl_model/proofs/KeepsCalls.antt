@@ -2,7 +2,10 @@
 use Rattle.std.proofs.Common.{◌≡◌, ℕ, zero, suc, ◌==◌, Bool, true, false, List, [], ◌∷◌, Option, Some, None, refl, subst, sym}
 use Rattle.std.specs.Prelude.{ℤ, length, slice_get}
 use Rattle.sl_base.specs.declared.place.Place.{Place}
-use Rattle.sl_syntax.specs.Typed.{Callee, Kind, by_value, by_reference, a_container, an_iterator, Function, Typed}
+use Rattle.sl_syntax.specs.declared.typed.callee.Callee.{Callee}
+use Rattle.sl_syntax.specs.declared.typed.parameter.ParameterKind.{ParameterKind}
+use Rattle.sl_syntax.specs.declared.typed.parameter.ParameterKind.TheVariants as parameter
+use Rattle.sl_syntax.specs.Typed.{Function, Typed}
 use Rattle.sl_model.specs.Containers.{Memory, Part, write_element, end_from}
 use Rattle.sl_model.specs.Values.{Value, nothing, number, iterator, pair, scalar_at, container_at, element_at, Args, Lib}
 use Rattle.sl_model.specs.State.{State, leave}
@@ -15,38 +18,38 @@ use Rattle.sl_model.proofs.KeepsRun.{InFlow, in_exec}
 
 module _ (I : Memory → Type 0) where
   -- a parameter that takes its operand keeps it
-  in_one : (k : Kind) (v : Value) (s : State) → I s.memory → I (bind_one k v s).memory
-  in_one (by_value ty) nothing s h = h
-  in_one (by_value ty) (number z) s h = h
-  in_one (by_value ty) (iterator x) s h = h
-  in_one (by_value ty) (pair x b) s h = h
-  in_one (by_value ty) (scalar_at l) s h = h
-  in_one (by_value ty) (container_at l) s h = h
-  in_one (by_value ty) (element_at i j p) s h = h
-  in_one (by_reference ty) nothing s h = h
-  in_one (by_reference ty) (number z) s h = h
-  in_one (by_reference ty) (iterator x) s h = h
-  in_one (by_reference ty) (pair x b) s h = h
-  in_one (by_reference ty) (scalar_at l) s h = h
-  in_one (by_reference ty) (container_at l) s h = h
-  in_one (by_reference ty) (element_at i j p) s h = h
-  in_one (a_container a f) nothing s h = h
-  in_one (a_container a f) (number z) s h = h
-  in_one (a_container a f) (iterator x) s h = h
-  in_one (a_container a f) (pair x b) s h = h
-  in_one (a_container a f) (scalar_at l) s h = h
-  in_one (a_container a f) (container_at l) s h = h
-  in_one (a_container a f) (element_at i j p) s h = h
-  in_one (an_iterator b f) nothing s h = h
-  in_one (an_iterator b f) (number z) s h = h
-  in_one (an_iterator b f) (iterator x) s h = h
-  in_one (an_iterator b f) (pair x c) s h = h
-  in_one (an_iterator b f) (scalar_at l) s h = h
-  in_one (an_iterator b f) (container_at l) s h = h
-  in_one (an_iterator b f) (element_at i j p) s h = h
+  in_one : (k : ParameterKind) (v : Value) (s : State) → I s.memory → I (bind_one k v s).memory
+  in_one (parameter.Value ty) nothing s h = h
+  in_one (parameter.Value ty) (number z) s h = h
+  in_one (parameter.Value ty) (iterator x) s h = h
+  in_one (parameter.Value ty) (pair x b) s h = h
+  in_one (parameter.Value ty) (scalar_at l) s h = h
+  in_one (parameter.Value ty) (container_at l) s h = h
+  in_one (parameter.Value ty) (element_at i j p) s h = h
+  in_one (parameter.Reference ty) nothing s h = h
+  in_one (parameter.Reference ty) (number z) s h = h
+  in_one (parameter.Reference ty) (iterator x) s h = h
+  in_one (parameter.Reference ty) (pair x b) s h = h
+  in_one (parameter.Reference ty) (scalar_at l) s h = h
+  in_one (parameter.Reference ty) (container_at l) s h = h
+  in_one (parameter.Reference ty) (element_at i j p) s h = h
+  in_one (parameter.Container a f) nothing s h = h
+  in_one (parameter.Container a f) (number z) s h = h
+  in_one (parameter.Container a f) (iterator x) s h = h
+  in_one (parameter.Container a f) (pair x b) s h = h
+  in_one (parameter.Container a f) (scalar_at l) s h = h
+  in_one (parameter.Container a f) (container_at l) s h = h
+  in_one (parameter.Container a f) (element_at i j p) s h = h
+  in_one (parameter.Iterator b f) nothing s h = h
+  in_one (parameter.Iterator b f) (number z) s h = h
+  in_one (parameter.Iterator b f) (iterator x) s h = h
+  in_one (parameter.Iterator b f) (pair x c) s h = h
+  in_one (parameter.Iterator b f) (scalar_at l) s h = h
+  in_one (parameter.Iterator b f) (container_at l) s h = h
+  in_one (parameter.Iterator b f) (element_at i j p) s h = h
 
   -- parameters that take their operands keep it
-  in_bind : (ks : List Kind) (vs : List Value) (s : State) → I s.memory → I (bind_all ks vs s).memory
+  in_bind : (ks : List ParameterKind) (vs : List Value) (s : State) → I s.memory → I (bind_all ks vs s).memory
   in_bind [] vs s h = h
   in_bind (k ∷ ks) [] s h = h
   in_bind (k ∷ ks) (v ∷ vs) s h = in_bind ks vs (bind_one k v s) (in_one k v s h)

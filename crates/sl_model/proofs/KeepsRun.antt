@@ -6,14 +6,18 @@ use Rattle.sl_base.specs.declared.place.Place.{Place}
 use Rattle.sl_base.specs.declared.scalar.Scalar.{Scalar}
 use Rattle.sl_syntax.specs.declared.operator.Arithmetic.{Arithmetic}
 use Rattle.sl_model.specs.Numbers.{is_zero, converted, operated}
-use Rattle.sl_syntax.specs.Typed.{Callee, Head, Expr, Left, Cond, read, not_read, test, always, Printed, text, endline, number as printed_number}
-use Rattle.sl_syntax.specs.Typed.{Effect, reads, prints, evaluates, assigns, updates, moves_to, Declaration, unset_scalar, set_scalar, set_iterator}
+use Rattle.sl_syntax.specs.declared.typed.callee.Callee.{Callee}
+use Rattle.sl_syntax.specs.declared.typed.element.Taken.TheVariants as taken
+use Rattle.sl_syntax.specs.declared.typed.head.Head.{Head}
+use Rattle.sl_syntax.specs.declared.typed.operator.Operator.TheVariants as operators
+use Rattle.sl_syntax.specs.Typed.{Expr, Left, Cond, read, not_read, test, always, Printed, text, endline, number as printed_number, Effect, reads}
+use Rattle.sl_syntax.specs.Typed.{prints, evaluates, assigns, updates, moves_to, Declaration, unset_scalar, set_scalar, set_iterator, binds_reference}
 use Rattle.sl_syntax.specs.Typed.{makes, First, no_first, declares_first, does_first, Stmt, block, declares, choice, choice_else, while, for}
-use Rattle.sl_syntax.specs.Typed.{range_for, break, continue, gives_back, does, Stmts, no_more, followed, star, up, compares}
+use Rattle.sl_syntax.specs.Typed.{range_for, break, continue, gives_back, does, Stmts, no_more, followed}
 use Rattle.sl_model.specs.Containers.{Memory, Part, write_element, end_from}
 use Rattle.sl_model.specs.Values.{Value, nothing, number, iterator, pair, scalar_at, container_at, element_at, Args}
 use Rattle.sl_model.specs.State.{State, scalar_of, iter_of, cont_of, set_scalar_at, set_iterator_at, new_scalar, new_iterator, new_container}
-use Rattle.sl_model.specs.Ends.{OutOfSteps}
+use Rattle.sl_model.specs.Ends.{OutOfSteps, NoMeaning}
 use Rattle.sl_model.specs.Eval.{Out, Gives, Stops, World, eval, reach, eval_all, then_eval, then_number, then_call, read_at, write_at, use_library}
 use Rattle.sl_model.specs.Eval.{answered, name_place}
 use Rattle.sl_model.specs.Exec.{Flow, Next, Broke, Continued, Returned, Over, Meaning, tick, and_then, flow_of, on_number, on_stamp, either_way}
@@ -194,6 +198,7 @@ module _ (I : Memory → Type 0) where
         in_value a (on_number (λ z s. Next (new_scalar ty (Some z) s))) (in_number (λ z s. Next (new_scalar ty (Some z) s)) (λ z s i. i)) s h
     in_declared (set_iterator a) s h =
         in_value a (on_stamp (λ stamp s. Next (new_iterator stamp s))) (in_stamp (λ stamp s. Next (new_iterator stamp s)) (λ x s i. i)) s h
+    in_declared (binds_reference hd ops) s h = h
     in_declared (makes form hd ops) s h =
         in_flow_of (then_call (eval_all w ops s) (use_library w.lib hd)) (λ v t. Next (new_container (length s.memory.conts) t))
         (keeps_call I (eval_all w ops s) (use_library w.lib hd) (keeps_all I w lib_keeps own_keeps write_keeps ops s h)
@@ -225,21 +230,23 @@ module _ (I : Memory → Type 0) where
     -- a range-for keeps it
     in_range : (at : Place) (name b e x : ℕ) (body : Meaning) → Keeps body → Keeps (over_range w at name b e x body)
     in_range at name b e x body k s h = in_turns (suc s.steps)
-        (λ s go. flow_of (use_library w.lib (asks (compares c.NotEqual) at name) (hidden_at s b ∷ hidden_at s e ∷ []) s)
+        (λ s go. flow_of (use_library w.lib (asks (operators.Compare c.NotEqual) at name) (hidden_at s b ∷ hidden_at s e ∷ []) s)
         (on_number (λ z. go (not (is_zero z)))))
-        (λ s. flow_of (then_eval (use_library w.lib (asks star at name) (hidden_at s b ∷ []) s) (read_at at))
+        (λ s. flow_of (then_eval (use_library w.lib (asks operators.Dereference at name) (hidden_at s b ∷ []) s) (read_at at))
         (on_number (λ z s. body (set_scalar_at x z s))))
-        (λ s. flow_of (use_library w.lib (asks up at name) (hidden_at s b ∷ []) s) (on_stamp (λ stamp s. Next (set_iterator_at b stamp s))))
-        (λ go p s i. in_flow_of (use_library w.lib (asks (compares c.NotEqual) at name) (hidden_at s b ∷ hidden_at s e ∷ []) s)
-        (on_number (λ z. go (not (is_zero z)))) (asked (asks (compares c.NotEqual) at name) (hidden_at s b ∷ hidden_at s e ∷ []) s i)
+        (λ s. flow_of (use_library w.lib (asks operators.Increment at name) (hidden_at s b ∷ []) s)
+        (on_stamp (λ stamp s. Next (set_iterator_at b stamp s))))
+        (λ go p s i. in_flow_of (use_library w.lib (asks (operators.Compare c.NotEqual) at name) (hidden_at s b ∷ hidden_at s e ∷ []) s)
+        (on_number (λ z. go (not (is_zero z)))) (asked (asks (operators.Compare c.NotEqual) at name) (hidden_at s b ∷ hidden_at s e ∷ []) s i)
         (in_number (λ z. go (not (is_zero z))) (λ z. p (not (is_zero z)))))
-        (λ s i. in_flow_of (then_eval (use_library w.lib (asks star at name) (hidden_at s b ∷ []) s) (read_at at))
+        (λ s i. in_flow_of (then_eval (use_library w.lib (asks operators.Dereference at name) (hidden_at s b ∷ []) s) (read_at at))
         (on_number (λ z s. body (set_scalar_at x z s)))
-        (keeps_then I (use_library w.lib (asks star at name) (hidden_at s b ∷ []) s) (read_at at)
-        (asked (asks star at name) (hidden_at s b ∷ []) s i) (keeps_read I at))
+        (keeps_then I (use_library w.lib (asks operators.Dereference at name) (hidden_at s b ∷ []) s) (read_at at)
+        (asked (asks operators.Dereference at name) (hidden_at s b ∷ []) s i) (keeps_read I at))
         (in_number (λ z s. body (set_scalar_at x z s)) (λ z s j. k (set_scalar_at x z s) (keeps_set I x z s j))))
-        (λ s i. in_flow_of (use_library w.lib (asks up at name) (hidden_at s b ∷ []) s) (on_stamp (λ stamp s. Next (set_iterator_at b stamp s)))
-        (asked (asks up at name) (hidden_at s b ∷ []) s i) (in_stamp (λ stamp s. Next (set_iterator_at b stamp s)) (λ x s j. j)))
+        (λ s i. in_flow_of (use_library w.lib (asks operators.Increment at name) (hidden_at s b ∷ []) s)
+        (on_stamp (λ stamp s. Next (set_iterator_at b stamp s)))
+        (asked (asks operators.Increment at name) (hidden_at s b ∷ []) s i) (in_stamp (λ stamp s. Next (set_iterator_at b stamp s)) (λ x s j. j)))
         s h
 
     mutual
@@ -251,19 +258,20 @@ module _ (I : Memory → Type 0) where
           (in_tested c (λ v. either_way v (exec w a) Next) (λ v. in_either v (exec w a) Next (in_exec a) (λ s i. i))) s h
       in_exec (choice_else c a b) s h = in_tick (λ s. tested w c s (λ v. either_way v (exec w a) (exec w b)))
           (in_tested c (λ v. either_way v (exec w a) (exec w b)) (λ v. in_either v (exec w a) (exec w b) (in_exec a) (in_exec b))) s h
-      in_exec (while c a) s h =
+      in_exec (while l c a) s h =
           in_tick (loop (tested w c) (exec w a) Next)
           (λ s i. in_turns (suc s.steps) (tested w c) (exec w a) Next (in_tested c) (in_exec a) (λ s i. i) s i) s h
-      in_exec (for head c last a) s h = in_tick (λ s. scoped 0 s (and_then (begun w head s) (loop (tested w c) (exec w a) (ended w last))))
+      in_exec (for l head c last a) s h = in_tick (λ s. scoped 0 s (and_then (begun w head s) (loop (tested w c) (exec w a) (ended w last))))
           (λ s i. in_scope 0 s (and_then (begun w head s) (loop (tested w c) (exec w a) (ended w last)))
           (in_then (begun w head s) (loop (tested w c) (exec w a) (ended w last)) (in_begun head s i)
           (λ s j. in_turns (suc s.steps) (tested w c) (exec w a) (ended w last) (in_tested c) (in_exec a) (in_ended last) s j))) s h
-      in_exec (range_for x at name a) s h =
+      in_exec (range_for l taken.Value x at name a) s h =
           in_tick (λ s. scoped 0 s (over_range w at name (length s.iters) (length s.iters + 1) (length s.scalars) (exec w a)
           (range_start (cont_of s x) s)))
           (λ s i. in_scope 0 s (over_range w at name (length s.iters) (length s.iters + 1) (length s.scalars) (exec w a)
           (range_start (cont_of s x) s))
           (in_range at name (length s.iters) (length s.iters + 1) (length s.scalars) (exec w a) (in_exec a) (range_start (cont_of s x) s) i)) s h
+      in_exec (range_for l taken.Reference x at name a) s h = in_tick (Over (NoMeaning at)) (λ s i. i) s h
       in_exec break s h = in_tick Broke (λ s i. i) s h
       in_exec continue s h = in_tick Continued (λ s i. i) s h
       in_exec (gives_back None) s h = in_tick (Returned nothing) (λ s i. i) s h

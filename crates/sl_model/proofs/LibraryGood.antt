@@ -5,8 +5,10 @@ use Rattle.std.proofs.Common.{if◌then◌else◌}
 use Rattle.std.specs.Prelude.{ℤ, pos, nat_lt}
 use Rattle.std.proofs.Math.ListN.{length-set}
 use Rattle.sl_base.specs.declared.limits.TheConstants.{ELEMENTS}
-use Rattle.sl_syntax.specs.Typed.{Callee, row, operator, hidden, Operator, star, arrow_first, arrow_second, up, down, plus, minus, plus_assign}
-use Rattle.sl_syntax.specs.Typed.{minus_assign, apart, compares}
+use Rattle.sl_syntax.specs.declared.typed.callee.Callee.{Callee}
+use Rattle.sl_syntax.specs.declared.typed.callee.Callee.TheVariants as callees
+use Rattle.sl_syntax.specs.declared.typed.operator.Operator.{Operator}
+use Rattle.sl_syntax.specs.declared.typed.operator.Operator.TheVariants as operators
 use Rattle.sl_model.specs.Containers.{Memory}
 use Rattle.sl_model.specs.Values.{Value, Args, LibOut, trapped, thrown, faulted, gives, unbuilt}
 use Rattle.sl_model.specs.Situation.{Situation, own, own_size, place_of, number_of}
@@ -127,23 +129,24 @@ option-told (Some r) a m picks tells sound = row-told r.shape r.makes_one r a m 
 -- each row of an operator
 operator-told : (o : Operator) (a : Args) (m : Memory) (picks : List ℕ) → IsSound m
     → IsTold (shape_of_operator o) false m (called_row (row_of_operator o) a m picks)
-operator-told star a m picks sound = row-told an_element false dereference a m picks dereference-told sound
-operator-told arrow_first a m picks sound = tt
-operator-told arrow_second a m picks sound = tt
-operator-told up a m picks sound = tt
-operator-told down a m picks sound = tt
-operator-told plus a m picks sound = tt
-operator-told minus a m picks sound = tt
-operator-told plus_assign a m picks sound = tt
-operator-told minus_assign a m picks sound = tt
-operator-told apart a m picks sound = tt
-operator-told (compares c) a m picks sound = tt
+operator-told operators.Dereference a m picks sound = row-told an_element false dereference a m picks dereference-told sound
+operator-told operators.ArrowFirst a m picks sound = tt
+operator-told operators.ArrowSecond a m picks sound = tt
+operator-told operators.Increment a m picks sound = tt
+operator-told operators.Decrement a m picks sound = tt
+operator-told operators.Add a m picks sound = tt
+operator-told operators.Subtract a m picks sound = tt
+operator-told operators.AddAssign a m picks sound = tt
+operator-told operators.SubtractAssign a m picks sound = tt
+operator-told operators.Difference a m picks sound = tt
+operator-told (operators.Compare c) a m picks sound = tt
 
 -- each call of the library
 lib-told : (c : Callee) (a : Args) (m : Memory) (picks : List ℕ) → IsSound m → IsTold (lib_shape c) (lib_makes c) m (lib c a m picks)
-lib-told (row n) a m picks sound = option-told (row_numbered n) a m picks (row_in-holds TellsItself table n table-told) sound
-lib-told (operator o) a m picks sound = operator-told o a m picks sound
-lib-told (hidden o) a m picks sound = operator-told o a m picks sound
+lib-told (callees.Row n) a m picks sound = option-told (row_numbered n) a m picks (row_in-holds TellsItself table n table-told) sound
+lib-told (callees.Appends n) a m picks sound = tt
+lib-told (callees.Operator o) a m picks sound = operator-told o a m picks sound
+lib-told (callees.Hidden o) a m picks sound = operator-told o a m picks sound
 
 -- the library keeps what holds of all states of a run
 pub lib-good : KeepsGood lib_shape lib_makes lib

@@ -9,8 +9,10 @@ use Rattle.std.proofs.lemmas.Bool.{ltb-false}
 use Rattle.sl_base.specs.declared.form.Form.{Form}
 use Rattle.sl_base.specs.declared.form.Form.TheVariants as f
 use Rattle.sl_base.specs.declared.limits.TheConstants.{ELEMENTS}
-use Rattle.sl_syntax.specs.Typed.{Callee, row, operator, hidden, Operator, star, arrow_first, arrow_second, up, down, plus, minus, plus_assign}
-use Rattle.sl_syntax.specs.Typed.{minus_assign, apart, compares}
+use Rattle.sl_syntax.specs.declared.typed.callee.Callee.{Callee}
+use Rattle.sl_syntax.specs.declared.typed.callee.Callee.TheVariants as callees
+use Rattle.sl_syntax.specs.declared.typed.operator.Operator.{Operator}
+use Rattle.sl_syntax.specs.declared.typed.operator.Operator.TheVariants as operators
 use Rattle.sl_model.specs.Containers.{Cont, Memory, cont_at}
 use Rattle.sl_model.specs.Edits.{Class, Edit, Fits}
 use Rattle.sl_model.specs.Values.{Value, Args, Lib, LibOut, trapped, thrown, faulted, gives, unbuilt}
@@ -190,23 +192,24 @@ table-fine = (make-fine, (begin-fine, (push_back-fine, tt)))
 
 -- each row of an operator is fine
 operator-fine : (o : Operator) → IfRow IsFineRow (row_of_operator o)
-operator-fine star = dereference-fine
-operator-fine arrow_first = tt
-operator-fine arrow_second = tt
-operator-fine up = tt
-operator-fine down = tt
-operator-fine plus = tt
-operator-fine minus = tt
-operator-fine plus_assign = tt
-operator-fine minus_assign = tt
-operator-fine apart = tt
-operator-fine (compares c) = tt
+operator-fine operators.Dereference = dereference-fine
+operator-fine operators.ArrowFirst = tt
+operator-fine operators.ArrowSecond = tt
+operator-fine operators.Increment = tt
+operator-fine operators.Decrement = tt
+operator-fine operators.Add = tt
+operator-fine operators.Subtract = tt
+operator-fine operators.AddAssign = tt
+operator-fine operators.SubtractAssign = tt
+operator-fine operators.Difference = tt
+operator-fine (operators.Compare c) = tt
 
 -- each row of a callee is fine
 callee-fine : (c : Callee) → IfRow IsFineRow (row_of c)
-callee-fine (row n) = row_in-holds IsFineRow table n table-fine
-callee-fine (operator o) = operator-fine o
-callee-fine (hidden o) = operator-fine o
+callee-fine (callees.Row n) = row_in-holds IsFineRow table n table-fine
+callee-fine (callees.Appends n) = tt
+callee-fine (callees.Operator o) = operator-fine o
+callee-fine (callees.Hidden o) = operator-fine o
 
 -- a row, if it is there, leaves a memory
 option-leaves : (o : Option Row) (a : Args) (m : Memory) (picks : List ℕ) → IfRow IsFineRow o → IsSound m

@@ -2,9 +2,12 @@
 use Rattle.std.proofs.Common.{◌≡◌, ◌+◌, refl, sym, subst, ℕ, List, [], ◌∷◌, Bool, true, false, not, ℤ, pos, Option, Some, None, slice_get, slice_set}
 use Rattle.sl_base.specs.declared.place.Place.{Place}
 use Rattle.sl_base.specs.declared.scalar.Scalar.{Scalar}
-use Rattle.sl_syntax.specs.Typed.{Head, Step, Fix, Expr, literal, held, iterator as iterator_held, convert, negate, logical_not, logical_and}
-use Rattle.sl_syntax.specs.Typed.{logical_or, arithmetic, comparison, increment, move, call, own_call, first, second, container, reference, Left}
-use Rattle.sl_syntax.specs.Typed.{scalar, element, Operands, none, with}
+use Rattle.sl_syntax.specs.declared.typed.head.Head.{Head}
+use Rattle.sl_syntax.specs.declared.typed.step.Fix.{Fix}
+use Rattle.sl_syntax.specs.declared.typed.step.Step.{Step}
+use Rattle.sl_syntax.specs.Typed.{Expr, literal, held, iterator as iterator_held, convert, negate, logical_not, logical_and, logical_or, arithmetic}
+use Rattle.sl_syntax.specs.Typed.{comparison, increment, move, call, own_call, first, second, container, handed_scalar, Left, scalar, reference}
+use Rattle.sl_syntax.specs.Typed.{element, Operands, none, with}
 use Rattle.sl_syntax.specs.declared.operator.Arithmetic.TheVariants as o
 use Rattle.sl_model.specs.Numbers.{Answer, value, fault, is_zero, truth, converted, operated, compared}
 use Rattle.sl_model.specs.Values.{Value, nothing, number, iterator, pair, scalar_at, container_at, element_at, Lib, LibOut, trapped, thrown, faulted}
@@ -169,10 +172,11 @@ mutual
   eval-later w own (first at a) s = then_eval-later _ (eval-later w own a s) (λ v s. gives _ s)
   eval-later w own (second at a) s = then_eval-later _ (eval-later w own a s) (λ v s. gives _ s)
   eval-later w own (container x) s = gives _ s
-  eval-later w own (reference x) s = gives _ s
+  eval-later w own (handed_scalar x) s = gives _ s
 
   pub reach-later : {k : ℕ} (w : World) → SameWorld k w → (l : Left) → Same k (reach w l)
   reach-later w own (scalar x at) s = gives _ s
+  reach-later w own (reference x at name part) s = stops _ s
   reach-later w own (element h ops) s = then_call-later _ (eval_all-later w own ops s) (use_library-later w.lib h)
 
   pub eval_all-later : {k : ℕ} (w : World) → SameWorld k w → (ops : Operands) (s : State)

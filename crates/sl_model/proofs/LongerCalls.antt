@@ -3,7 +3,9 @@ use Rattle.std.proofs.Common.{◌≡◌, ◌≢◌, ◌+◌, ◌==◌, ◌∙◌
 use Rattle.std.proofs.Common.{slice_get}
 use Rattle.sl_base.specs.declared.place.Place.{Place}
 use Rattle.sl_base.specs.declared.limits.TheConstants.{CALLS}
-use Rattle.sl_syntax.specs.Typed.{Kind, by_value, Function, Typed}
+use Rattle.sl_syntax.specs.declared.typed.parameter.ParameterKind.{ParameterKind}
+use Rattle.sl_syntax.specs.declared.typed.parameter.ParameterKind.TheVariants as parameter
+use Rattle.sl_syntax.specs.Typed.{Function, Typed}
 use Rattle.sl_model.specs.Values.{Lib, Value, nothing, number, iterator, scalar_at, container_at}
 use Rattle.sl_model.specs.Library.{lib}
 use Rattle.sl_model.specs.Ends.{Language, OutOfSteps}
@@ -15,14 +17,14 @@ use Rattle.sl_model.specs.Run.{empty_state, first_place, finished, run}
 use Rattle.sl_model.proofs.Longer.{more, LaterOut, gives, stops, out, Same, SameWorld}
 use Rattle.sl_model.proofs.LongerExec.{LaterFlow, next, broke, continued, returned, over, run_out, exec-later}
 
-bind_one-more : (k : ℕ) (kind : Kind) (v : Value) (s : State) → bind_one kind v (more k s) ≡ more k (bind_one kind v s)
-bind_one-more k (by_value ty) (number z) s = refl
+bind_one-more : (k : ℕ) (kind : ParameterKind) (v : Value) (s : State) → bind_one kind v (more k s) ≡ more k (bind_one kind v s)
+bind_one-more k (parameter.Value ty) (number z) s = refl
 bind_one-more k kind (scalar_at l) s = refl
 bind_one-more k kind (container_at l) s = refl
 bind_one-more k kind (iterator stamp) s = refl
 bind_one-more k kind v s = refl
 
-bind_all-more : (k : ℕ) (kinds : List Kind) (vs : List Value) (s : State) → bind_all kinds vs (more k s) ≡ more k (bind_all kinds vs s)
+bind_all-more : (k : ℕ) (kinds : List ParameterKind) (vs : List Value) (s : State) → bind_all kinds vs (more k s) ≡ more k (bind_all kinds vs s)
 bind_all-more k (kind ∷ kinds) (v ∷ vs) s = ap (bind_all kinds vs) (bind_one-more k kind v s) ∙ bind_all-more k kinds vs (bind_one kind v s)
 bind_all-more k kinds vs s = refl
 
@@ -31,7 +33,7 @@ bound-more k f vs s = bind_all-more k f.parameters vs _
 
 fell-later : {k : ℕ} (m : Bool) (f : Function) (before s : State) → LaterOut k (fell m f before s) (fell m f (more k before) (more k s))
 fell-later true f before s = gives _ _
-fell-later {k} false f before s = elim f.result as (λ (o : Option Kind). LaterOut k
+fell-later {k} false f before s = elim f.result as (λ (o : Option ParameterKind). LaterOut k
     (elim o as (λ _. Out) [ None ↦ Gives nothing (leave 0 before s) | Some x ↦ Stops (Language f.close 4) s ])
     (elim o as (λ _. Out) [ None ↦ Gives nothing (leave 0 (more k before) (more k s)) | Some x ↦ Stops (Language f.close 4) (more k s) ]))
     [ None ↦ gives _ _ | Some x ↦ stops _ _ ]

@@ -4,13 +4,15 @@ use Rattle.std.proofs.Common.{unwrap_or, suc-add, arith, ◌≤◌}
 use Rattle.std.specs.Fmt.{signed_decimal}
 use Rattle.sl_base.specs.declared.place.Place.{Place}
 use Rattle.sl_syntax.specs.declared.operator.Comparison.TheVariants as c
-use Rattle.sl_syntax.specs.Typed.{star, up, compares, Cond, read, not_read, test, always, Printed, text, endline, number as printed_number, Effect}
-use Rattle.sl_syntax.specs.Typed.{reads, prints, evaluates, assigns, updates, moves_to, Declaration, unset_scalar, set_scalar, set_iterator, makes}
+use Rattle.sl_syntax.specs.declared.typed.element.Taken.TheVariants as taken
+use Rattle.sl_syntax.specs.declared.typed.operator.Operator.TheVariants as operators
+use Rattle.sl_syntax.specs.Typed.{Cond, read, not_read, test, always, Printed, text, endline, number as printed_number, Effect, reads, prints}
+use Rattle.sl_syntax.specs.Typed.{evaluates, assigns, updates, moves_to, Declaration, unset_scalar, set_scalar, set_iterator, binds_reference, makes}
 use Rattle.sl_syntax.specs.Typed.{First, no_first, declares_first, does_first, Stmt, block, declares, choice, choice_else, while, for, range_for}
 use Rattle.sl_syntax.specs.Typed.{break, continue, gives_back, does, Stmts, no_more, followed}
 use Rattle.sl_model.specs.Numbers.{is_zero, converted, operated}
 use Rattle.sl_model.specs.Values.{Value, nothing, number, iterator, pair, scalar_at, container_at, element_at}
-use Rattle.sl_model.specs.Ends.{End, OutOfSteps}
+use Rattle.sl_model.specs.Ends.{End, OutOfSteps, NoMeaning}
 use Rattle.sl_model.specs.State.{State, scalar_of, cont_of, iter_of, set_scalar_at, set_iterator_at, new_scalar, new_iterator, new_container, leave}
 use Rattle.sl_model.specs.Eval.{Out, World, use_library, write_at, name_place}
 use Rattle.sl_model.specs.Exec.{Flow, Next, Broke, Continued, Returned, Over, Meaning, tick, and_then, flow_of, on_number, on_stamp, either_way}
@@ -193,6 +195,7 @@ declared-later : {k : ℕ} (w : World) → SameWorld k w → (d : Declaration) �
 declared-later w own (unset_scalar ty) s = next (new_scalar ty None s)
 declared-later w own (set_scalar ty a) s = number-same _ (eval-later w own a s) (λ z s. next (new_scalar ty (Some z) s))
 declared-later w own (set_iterator a) s = stamp-later _ (eval-later w own a s) (λ stamp s. next (new_iterator stamp s))
+declared-later w own (binds_reference h ops) s = over _ s
 declared-later w own (makes form h ops) s = flow_of-same _ (then_call-later _ (eval_all-later w own ops s) (use_library-later w.lib h))
     (λ v t. next (new_container (length s.memory.conts) t))
 
@@ -231,15 +234,16 @@ loop-later {k} check body last c b l s = turns-later check body last c b l (suc 
 over_range-later : {k : ℕ} (w : World) → SameWorld k w → (at : Place) (name b e x : ℕ) (body : Meaning) → SameFlow k body →
     SameFlow k (over_range w at name b e x body)
 over_range-later {k} w own at name b e x body same = loop-later
-    (λ s go. flow_of (use_library w.lib (asks (compares c.NotEqual) at name) (hidden_at s b ∷ hidden_at s e ∷ []) s)
+    (λ s go. flow_of (use_library w.lib (asks (operators.Compare c.NotEqual) at name) (hidden_at s b ∷ hidden_at s e ∷ []) s)
     (on_number (λ z. go (not (is_zero z)))))
     _ _
     (λ go other also s. number-later (λ z. go (not (is_zero z))) (λ z. other (not (is_zero z)))
-    (use_library-later w.lib (asks (compares c.NotEqual) at name) (hidden_at s b ∷ hidden_at s e ∷ []) s) (λ z. also (not (is_zero z))))
+    (use_library-later w.lib (asks (operators.Compare c.NotEqual) at name) (hidden_at s b ∷ hidden_at s e ∷ []) s) (λ z. also (not (is_zero z))))
     (λ s. number-same (λ z s. body (set_scalar_at x z s))
-    (then_eval-later _ (use_library-later w.lib (asks star at name) (hidden_at s b ∷ []) s) (read_at-later at))
+    (then_eval-later _ (use_library-later w.lib (asks operators.Dereference at name) (hidden_at s b ∷ []) s) (read_at-later at))
     (λ z s. subst (λ t. LaterFlow k (body (set_scalar_at x z s)) (body t)) (sym (set_scalar_at-more k x z s)) (same (set_scalar_at x z s))))
-    (λ s. stamp-later _ (use_library-later w.lib (asks up at name) (hidden_at s b ∷ []) s) (λ stamp s. next (set_iterator_at b stamp s)))
+    (λ s. stamp-later _ (use_library-later w.lib (asks operators.Increment at name) (hidden_at s b ∷ []) s)
+    (λ stamp s. next (set_iterator_at b stamp s)))
 
 mutual
   pub exec-later : {k : ℕ} (w : World) → SameWorld k w → (a : Stmt) → SameFlow k (exec w a)
@@ -248,12 +252,13 @@ mutual
   exec-later w own (choice c a) s = tick-same _ (tested-same w own c _ (λ v. either_way-same v _ _ (exec-later w own a) (λ s. next s))) s
   exec-later w own (choice_else c a b) s =
       tick-same _ (tested-same w own c _ (λ v. either_way-same v _ _ (exec-later w own a) (exec-later w own b))) s
-  exec-later w own (while c body) s = tick-same _ (loop-later _ _ _ (tested-later w own c) (exec-later w own body) (λ s. next s)) s
-  exec-later w own (for head c last body) s = tick-same _ (λ s. scoped-later 0 s (and_then-same _ (begun-later w own head s)
+  exec-later w own (while l c body) s = tick-same _ (loop-later _ _ _ (tested-later w own c) (exec-later w own body) (λ s. next s)) s
+  exec-later w own (for l head c last body) s = tick-same _ (λ s. scoped-later 0 s (and_then-same _ (begun-later w own head s)
       (loop-later _ _ _ (tested-later w own c) (exec-later w own body) (ended-later w own last)))) s
-  exec-later w own (range_for x at name body) s = tick-same _ (λ s. scoped-later 0 s
+  exec-later w own (range_for l taken.Value x at name body) s = tick-same _ (λ s. scoped-later 0 s
       (over_range-later w own at name (length s.iters) (length s.iters + 1) (length s.scalars) (exec w body) (exec-later w own body) (range_start
       (cont_of s x) s))) s
+  exec-later w own (range_for l taken.Reference x at name body) s = tick-same _ (λ s. over (NoMeaning at) s) s
   exec-later w own break s = tick-same _ (λ s. broke s) s
   exec-later w own continue s = tick-same _ (λ s. continued s) s
   exec-later w own (gives_back None) s = tick-same _ (λ s. returned nothing s) s

@@ -4,7 +4,9 @@ use Rattle.std.proofs.Common.{◌≡◌, ℕ, Bool, Some, List, [], refl, subst,
 use Rattle.std.specs.Prelude.{ℤ, slice_get}
 use Rattle.sl_base.specs.declared.limits.TheConstants.{CALLS}
 use Rattle.sl_base.specs.declared.place.Place.{Place}
-use Rattle.sl_syntax.specs.Typed.{Callee, Expr, Stmt, Stmts, Kind, Typed, Function}
+use Rattle.sl_syntax.specs.declared.typed.callee.Callee.{Callee}
+use Rattle.sl_syntax.specs.declared.typed.parameter.ParameterKind.{ParameterKind}
+use Rattle.sl_syntax.specs.Typed.{Expr, Stmt, Stmts, Typed, Function}
 use Rattle.sl_model.specs.Values.{Value, Lib}
 use Rattle.sl_model.specs.Library.{lib}
 use Rattle.sl_model.specs.State.{State}
@@ -128,7 +130,7 @@ pub run_over-good : (shape : Callee → Shape) (makes_one : Callee → Bool) (l 
     → IsGoodOut (call_of l CALLS p p.main first_place [] (empty_state input picks steps))
 run_over-good shape makes_one l lib_keeps p scoped input picks steps =
     call-good shape makes_one l lib_keeps p scoped CALLS p.main scoped.main first_place [] [] (empty_state input picks steps) scoped.main_there
-    (subst (λ (ks : List Kind). AllSuit ks []) (sym scoped.main_parameters) tt)
+    (subst (λ (ks : List ParameterKind). AllSuit ks []) (sym scoped.main_parameters) tt)
     apart_none tt tt (empty-good input picks steps)
 
 -- a scoped text's run ends in a good state

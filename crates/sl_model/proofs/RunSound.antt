@@ -3,7 +3,8 @@ use Rattle.std.proofs.Common.{ℕ, List, []}
 use Rattle.std.specs.Prelude.{ℤ}
 use Rattle.sl_base.specs.declared.limits.TheConstants.{CALLS}
 use Rattle.sl_base.specs.declared.place.Place.{Place}
-use Rattle.sl_syntax.specs.Typed.{Callee, Expr, Stmt, Typed}
+use Rattle.sl_syntax.specs.declared.typed.callee.Callee.{Callee}
+use Rattle.sl_syntax.specs.Typed.{Expr, Stmt, Typed}
 use Rattle.sl_model.specs.Containers.{Memory, empty_memory}
 use Rattle.sl_model.specs.Values.{Value, Args, Lib}
 use Rattle.sl_model.specs.Library.{lib}

@@ -5,7 +5,9 @@
 -- Chosen here: one call too many in progress ends the run.
 use Rattle.std.specs.Prelude.{ℕ, zero, suc, ◌==◌, Bool, true, false, List, [], ◌∷◌, ◌++◌, pos, Option, Some, None, slice_get}
 use Rattle.sl_base.specs.declared.place.Place.{Place}
-use Rattle.sl_syntax.specs.Typed.{Kind, by_value, Function, Typed}
+use Rattle.sl_syntax.specs.declared.typed.parameter.ParameterKind.{ParameterKind}
+use Rattle.sl_syntax.specs.declared.typed.parameter.ParameterKind.TheVariants as parameter
+use Rattle.sl_syntax.specs.Typed.{Function, Typed}
 use Rattle.sl_model.specs.Values.{Lib, Value, nothing, number, iterator, scalar_at, container_at}
 use Rattle.sl_model.specs.Ends.{Language}
 use Rattle.sl_model.specs.State.{State, Frame, new_scalar, new_iterator, new_container, leave}
@@ -17,15 +19,15 @@ abbrev pub no_frame : Frame
 no_frame = record { scalars = []; conts = []; iters = [] }
 
 -- a parameter takes its operand: a number or an iterator is copied, a reference has the operand's location
-abbrev pub bind_one : Kind → Value → State → State
-bind_one (by_value ty) (number z) s = new_scalar ty (Some z) s
+abbrev pub bind_one : ParameterKind → Value → State → State
+bind_one (parameter.Value ty) (number z) s = new_scalar ty (Some z) s
 bind_one k (scalar_at l) s = record s { frame = record s.frame { scalars = s.frame.scalars ++ l ∷ [] } }
 bind_one k (container_at l) s = new_container l s
 bind_one k (iterator stamp) s = new_iterator stamp s
 bind_one k v s = s
 
 -- the parameters in turn
-abbrev pub bind_all : List Kind → List Value → State → State
+abbrev pub bind_all : List ParameterKind → List Value → State → State
 bind_all (k ∷ ks) (v ∷ vs) s = bind_all ks vs (bind_one k v s)
 bind_all ks vs s = s
 

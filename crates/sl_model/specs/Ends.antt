@@ -8,7 +8,7 @@ use Rattle.std.specs.Prelude.{ℕ, zero, suc, ◌-◌, ◌==◌, true, false, Li
 use Rattle.sl_base.specs.declared.failures.TheConstants.{INVALID_ITERATOR}
 use Rattle.sl_base.specs.declared.limits.TheConstants.{OUTPUT_BYTES}
 use Rattle.sl_base.specs.declared.place.Place.{Place}
-use Rattle.sl_syntax.specs.Typed.{Head}
+use Rattle.sl_syntax.specs.declared.typed.head.Head.{Head}
 use Rattle.sl_model.specs.Containers.{Memory, killer as killer_in}
 use Rattle.sl_model.specs.Values.{Value, iterator}
 use Rattle.sl_model.specs.Rows.{call_name}
@@ -34,7 +34,7 @@ pub data End : Type 0 where
   Language : Place → ℕ → End
   -- an exception
   Thrown : Place → End
-  -- a call that the library doesn't have yet: no text that is checked makes such a call
+  -- what has no meaning yet, as a call that the library doesn't have: no text that is checked has such a node
   NoMeaning : Place → End
 
 -- the first bytes that were written, and the count of the rest

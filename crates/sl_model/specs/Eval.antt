@@ -3,16 +3,22 @@
 -- Restates ISO/IEC 14882:2017, [expr.post.incr], [expr.pre.incr], [expr.unary.op], [expr.mul], [expr.add], [expr.rel], [expr.eq],
 -- [expr.log.and], [expr.log.or], [expr.call], [conv.lval], [conv.integral] and [conv.bool]. A number of a variable that isn't
 -- set is a fault ([dcl.init]).
--- Chosen here: operands are evaluated from left to right where the standard leaves the order open ([intro.execution]).
-use Rattle.std.specs.Prelude.{ℕ, Bool, true, false, not, List, [], ◌∷◌, ℤ, pos, negsuc, Option, Some, None}
+-- Chosen here: operands are evaluated from left to right where the standard leaves the order open ([intro.execution]). A use of a
+-- reference to an element has no meaning yet: the run ends with NoMeaning.
+use Rattle.std.specs.Prelude.{ℕ, Bool, true, false, not, List, [], ◌∷◌, ℤ, pos, negsuc, Option, Some, None, unwrap_or}
 use Rattle.std.specs.Option.{option_map}
 use Rattle.sl_base.specs.declared.scalar.Scalar.{Scalar}
 use Rattle.sl_syntax.specs.declared.operator.Arithmetic.TheVariants as o
 use Rattle.sl_base.specs.declared.place.Place.{Place}
 use Rattle.sl_model.specs.Numbers.{is_zero, truth, converted, Answer, value, fault, operated, compared}
-use Rattle.sl_syntax.specs.Typed.{Head, Step, rise, fall, Fix, prefix, postfix, Expr, literal, held, iterator as iterator_held, convert, negate}
-use Rattle.sl_syntax.specs.Typed.{logical_not, logical_and, logical_or, arithmetic, comparison, increment, move, call, own_call, first, second}
-use Rattle.sl_syntax.specs.Typed.{container, reference, Left, scalar, element, Operands, none, with}
+use Rattle.sl_syntax.specs.declared.typed.head.Head.{Head}
+use Rattle.sl_syntax.specs.declared.typed.step.Fix.{Fix}
+use Rattle.sl_syntax.specs.declared.typed.step.Fix.TheVariants.{Prefix, Postfix}
+use Rattle.sl_syntax.specs.declared.typed.step.Step.{Step}
+use Rattle.sl_syntax.specs.declared.typed.step.Step.TheVariants.{Up, Down}
+use Rattle.sl_syntax.specs.Typed.{Expr, literal, held, iterator as iterator_held, convert, negate, logical_not, logical_and, logical_or, arithmetic}
+use Rattle.sl_syntax.specs.Typed.{comparison, increment, move, call, own_call, first, second, container, handed_scalar, Left, scalar, reference}
+use Rattle.sl_syntax.specs.Typed.{element, Operands, none, with}
 use Rattle.sl_model.specs.Containers.{element as element_of, write_element}
 use Rattle.sl_model.specs.Values.{Value, number, iterator, pair, scalar_at, container_at, element_at, LibOut, Lib, trapped, thrown, faulted, gives}
 use Rattle.sl_model.specs.Values.{unbuilt}
@@ -102,20 +108,24 @@ settle_call h vs (faulted w) s = Stops (Language h.place w) s
 settle_call h vs (gives v m ps) s = Gives v (record s { memory = m; picks = ps })
 settle_call h vs unbuilt s = Stops (NoMeaning h.place) s
 
+-- the site of a call, and 0 where it has none
+abbrev pub site_of : Head → ℕ
+site_of h = unwrap_or h.site 0
+
 -- a call of the library on operands
 abbrev pub use_library : Lib → Head → List Value → State → Out
 use_library lib h vs s =
-    settle_call h vs (lib h.callee (record { site = h.site; object = option_map (cont_of s) h.object; values = vs }) s.memory s.picks) s
+    settle_call h vs (lib h.callee (record { site = site_of h; object = option_map (cont_of s) h.object; values = vs }) s.memory s.picks) s
 
 -- one up or one down
 abbrev pub by_one : Step → ℤ
-by_one rise = pos 1
-by_one fall = negsuc 0
+by_one Up = pos 1
+by_one Down = negsuc 0
 
 -- the value before or after
 abbrev pub chosen : Fix → Value → Value → Value
-chosen prefix old new = new
-chosen postfix old new = old
+chosen Prefix old new = new
+chosen Postfix old new = old
 
 -- the number at a place goes up or down by one
 abbrev pub increased : Step → Fix → Scalar → Place → Value → ℤ → State → Out
@@ -137,9 +147,10 @@ abbrev pub second_of : Value → Value
 second_of (pair stamp b) = number (truth b)
 second_of v = v
 
--- the place of a variable's name; what a call gives is set
+-- the place of a variable's or a reference's name; what a call gives is set
 abbrev pub name_place : Left → Place
 name_place (scalar x at) = at
+name_place (reference x at name part) = at
 name_place (element h ops) = h.place
 
 abbrev mutual
@@ -165,11 +176,12 @@ abbrev mutual
   eval w (first at a) s = then_eval (eval w a s) (λ v s. Gives (first_of v) s)
   eval w (second at a) s = then_eval (eval w a s) (λ v s. Gives (second_of v) s)
   eval w (container x) s = Gives (container_at (cont_of s x)) s
-  eval w (reference x) s = Gives (scalar_at (scalar_of s x)) s
+  eval w (handed_scalar x) s = Gives (scalar_at (scalar_of s x)) s
 
   -- the place that a left side stands for
   pub reach : World → Left → State → Out
   reach w (scalar x at) s = Gives (scalar_at (scalar_of s x)) s
+  reach w (reference x at name part) s = Stops (NoMeaning at) s
   reach w (element h ops) s = then_call (eval_all w ops s) (use_library w.lib h)
 
   -- operands from left to right

@@ -5,7 +5,8 @@
 -- variable's name; [expr.ass], by which the right side comes first; [istream.formatted.arithmetic] and [ostream.formatted] as far
 -- as numbers and texts go.
 -- Chosen here: each statement but a block takes a step when it starts, and each test of a loop takes one. Input is a list of
--- ints, and a read fails at its end alone. A variable that couldn't be read keeps its number.
+-- ints, and a read fails at its end alone. A variable that couldn't be read keeps its number. A declaration of a reference to
+-- an element and a range-for by reference have no meaning yet: the run ends with NoMeaning.
 use Rattle.std.specs.Prelude.{ℕ, zero, suc, ◌+◌, Bool, true, false, not, List, [], ◌∷◌, ◌++◌, length, ℤ, pos, Option, Some, None, unwrap_or}
 use Rattle.std.specs.Prelude.{slice_index}
 use Rattle.std.specs.Fmt.{signed_decimal}
@@ -13,13 +14,18 @@ use Rattle.sl_base.specs.declared.scalar.Scalar.TheVariants as t
 use Rattle.sl_syntax.specs.declared.operator.Comparison.TheVariants as c
 use Rattle.sl_base.specs.declared.place.Place.{Place}
 use Rattle.sl_model.specs.Numbers.{is_zero, converted, operated}
-use Rattle.sl_syntax.specs.Typed.{Expr, held, scalar, Head, hidden, Operator, star, up, compares, Cond, read, not_read, test, always, Printed, text}
-use Rattle.sl_syntax.specs.Typed.{endline, number as printed_number, Effect, reads, prints, evaluates, assigns, updates, moves_to, Declaration}
-use Rattle.sl_syntax.specs.Typed.{unset_scalar, set_scalar, set_iterator, makes, First, no_first, declares_first, does_first, Stmt, block, declares}
-use Rattle.sl_syntax.specs.Typed.{choice, choice_else, while, for, range_for, break, continue, gives_back, does, Stmts, no_more, followed}
+use Rattle.sl_syntax.specs.declared.typed.callee.Callee.TheVariants as callees
+use Rattle.sl_syntax.specs.declared.typed.element.Taken.TheVariants as taken
+use Rattle.sl_syntax.specs.declared.typed.head.Head.{Head}
+use Rattle.sl_syntax.specs.declared.typed.operator.Operator.{Operator}
+use Rattle.sl_syntax.specs.declared.typed.operator.Operator.TheVariants as operators
+use Rattle.sl_syntax.specs.Typed.{Expr, held, scalar, Cond, read, not_read, test, always, Printed, text, endline, number as printed_number, Effect}
+use Rattle.sl_syntax.specs.Typed.{reads, prints, evaluates, assigns, updates, moves_to, Declaration, unset_scalar, set_scalar, set_iterator}
+use Rattle.sl_syntax.specs.Typed.{binds_reference, makes, First, no_first, declares_first, does_first, Stmt, block, declares, choice, choice_else}
+use Rattle.sl_syntax.specs.Typed.{while, for, range_for, break, continue, gives_back, does, Stmts, no_more, followed}
 use Rattle.sl_model.specs.Containers.{begin_of, end_of}
 use Rattle.sl_model.specs.Values.{Value, nothing, number, iterator}
-use Rattle.sl_model.specs.Ends.{End, OutOfSteps}
+use Rattle.sl_model.specs.Ends.{End, OutOfSteps, NoMeaning}
 use Rattle.sl_model.specs.State.{State, scalar_of, cont_of, iter_of, set_scalar_at, set_iterator_at, new_scalar, new_iterator, new_container, leave}
 use Rattle.sl_model.specs.Eval.{Out, Gives, Stops, World, then_eval, then_number, then_call, eval, reach, eval_all, use_library, read_at, write_at}
 use Rattle.sl_model.specs.Eval.{answered, name_place}
@@ -131,6 +137,7 @@ abbrev pub declared : World → Declaration → Meaning
 declared w (unset_scalar ty) s = Next (new_scalar ty None s)
 declared w (set_scalar ty a) s = flow_of (eval w a s) (on_number (λ z s. Next (new_scalar ty (Some z) s)))
 declared w (set_iterator a) s = flow_of (eval w a s) (on_stamp (λ stamp s. Next (new_iterator stamp s)))
+declared w (binds_reference h ops) s = Over (NoMeaning h.place) s
 declared w (makes form h ops) s = flow_of (then_call (eval_all w ops s) (use_library w.lib h)) (λ v t. Next (new_container (length s.memory.conts) t))
 
 -- the first and the last part of a `for`
@@ -164,7 +171,7 @@ loop check body last s = turns (suc s.steps) check body last s
 
 -- what a range-for asks of the library by itself
 abbrev pub asks : Operator → Place → ℕ → Head
-asks op at name = record { callee = hidden op; place = at; site = 0; object = None; names = None ∷ Some name ∷ Some name ∷ [] }
+asks op at name = record { callee = callees.Hidden op; place = at; site = None; object = None; names = None ∷ Some name ∷ Some name ∷ [] }
 
 -- the hidden iterator at a location
 abbrev pub hidden_at : State → ℕ → Value
@@ -174,11 +181,12 @@ hidden_at s at = iterator (slice_index s.iters at)
 -- the element is read into the variable, the body runs, and the first iterator goes up
 abbrev pub over_range : World → Place → ℕ → ℕ → ℕ → ℕ → Meaning → Meaning
 over_range w at name b e x body = loop
-    (λ s go.
-    flow_of (use_library w.lib (asks (compares c.NotEqual) at name) (hidden_at s b ∷ hidden_at s e ∷ []) s) (on_number (λ z. go (not (is_zero z)))))
-    (λ s.
-    flow_of (then_eval (use_library w.lib (asks star at name) (hidden_at s b ∷ []) s) (read_at at)) (on_number (λ z s. body (set_scalar_at x z s))))
-    (λ s. flow_of (use_library w.lib (asks up at name) (hidden_at s b ∷ []) s) (on_stamp (λ stamp s. Next (set_iterator_at b stamp s))))
+    (λ s go. flow_of (use_library w.lib (asks (operators.Compare c.NotEqual) at name) (hidden_at s b ∷ hidden_at s e ∷ []) s)
+    (on_number (λ z. go (not (is_zero z)))))
+    (λ s. flow_of (then_eval (use_library w.lib (asks operators.Dereference at name) (hidden_at s b ∷ []) s) (read_at at))
+    (on_number (λ z s. body (set_scalar_at x z s))))
+    (λ s. flow_of (use_library w.lib (asks operators.Increment at name) (hidden_at s b ∷ []) s)
+    (on_stamp (λ stamp s. Next (set_iterator_at b stamp s))))
 
 -- the state in which the loop of a range-for over a container's location begins
 abbrev pub range_start : ℕ → State → State
@@ -191,10 +199,11 @@ abbrev mutual
   exec w (declares d) s = tick (declared w d) s
   exec w (choice c a) s = tick (λ s. tested w c s (λ v. either_way v (exec w a) Next)) s
   exec w (choice_else c a b) s = tick (λ s. tested w c s (λ v. either_way v (exec w a) (exec w b))) s
-  exec w (while c body) s = tick (loop (tested w c) (exec w body) Next) s
-  exec w (for head c last body) s = tick (λ s. scoped 0 s (and_then (begun w head s) (loop (tested w c) (exec w body) (ended w last)))) s
-  exec w (range_for x at name body) s = tick (λ s. scoped 0 s
+  exec w (while l c body) s = tick (loop (tested w c) (exec w body) Next) s
+  exec w (for l head c last body) s = tick (λ s. scoped 0 s (and_then (begun w head s) (loop (tested w c) (exec w body) (ended w last)))) s
+  exec w (range_for l taken.Value x at name body) s = tick (λ s. scoped 0 s
       (over_range w at name (length s.iters) (length s.iters + 1) (length s.scalars) (exec w body) (range_start (cont_of s x) s))) s
+  exec w (range_for l taken.Reference x at name body) s = tick (Over (NoMeaning at)) s
   exec w break s = tick Broke s
   exec w continue s = tick Continued s
   exec w (gives_back None) s = tick (Returned nothing) s

@@ -9,8 +9,11 @@ use Rattle.std.specs.Prelude.{ℕ, ◌+◌, ◌==◌, nat_lt, Bool, true, false,
 use Rattle.sl_base.specs.declared.form.Form.{Form}
 use Rattle.sl_base.specs.declared.form.Form.TheVariants as f
 use Rattle.sl_base.specs.declared.limits.TheConstants.{ELEMENTS}
-use Rattle.sl_syntax.specs.Typed.{Callee, row, operator, hidden, Operator, star}
-use Rattle.sl_syntax.specs.View.{vector_row, begin_row, push_back_row}
+use Rattle.sl_syntax.specs.declared.typed.callee.Callee.{Callee}
+use Rattle.sl_syntax.specs.declared.typed.callee.Callee.TheVariants as callees
+use Rattle.sl_syntax.specs.declared.typed.operator.Operator.{Operator}
+use Rattle.sl_syntax.specs.declared.typed.operator.Operator.TheVariants as operators
+use Rattle.sl_syntax.specs.SubsetView.{vector_row, begin_row, push_back_row}
 use Rattle.sl_model.specs.Containers.{Cont, Memory, size, begin_of, key_part}
 use Rattle.sl_model.specs.Schedule.{pick}
 use Rattle.sl_model.specs.Edits.{Edit, Class, Nothing, VectorInsert}
@@ -141,14 +144,15 @@ row_numbered n = row_in table n
 
 -- the row of an operator
 abbrev pub row_of_operator : Operator → Option Row
-row_of_operator star = Some dereference
+row_of_operator operators.Dereference = Some dereference
 row_of_operator o = None
 
 -- the row of what is called, if the library has it
 abbrev pub row_of : Callee → Option Row
-row_of (row n) = row_numbered n
-row_of (operator o) = row_of_operator o
-row_of (hidden o) = row_of_operator o
+row_of (callees.Row n) = row_numbered n
+row_of (callees.Appends n) = None
+row_of (callees.Operator o) = row_of_operator o
+row_of (callees.Hidden o) = row_of_operator o
 
 -- the name of a row, if there is one
 abbrev pub name_of : Option Row → List ℕ
@@ -157,6 +161,7 @@ name_of (Some r) = r.name
 
 -- the name of a call, as a trap tells it
 abbrev pub call_name : Callee → List ℕ
-call_name (row n) = name_of (row_of (row n))
-call_name (operator o) = name_of (row_of (operator o))
-call_name (hidden o) = codes "for"
+call_name (callees.Row n) = name_of (row_of (callees.Row n))
+call_name (callees.Appends n) = name_of (row_of (callees.Appends n))
+call_name (callees.Operator o) = name_of (row_of (callees.Operator o))
+call_name (callees.Hidden o) = codes "for"

@@ -6,16 +6,23 @@
 -- [stmt.iter] (what a part declares isn't in scope behind it), [expr.call] (as many operands as parameters), [stmt.return] (a
 -- function gives what it says) and [basic.start.main].
 -- Chosen here: a part of a statement that declares something is a block, a container is made by a declaration alone, and no
--- container is handed to two parameters of one call.
+-- container is handed to two parameters of one call. Left out is what has no meaning in a run yet: a text that declares or uses a
+-- reference to an element, or has a range-for by reference, isn't scoped.
 use Rattle.std.specs.Prelude.{◌≡◌, ℕ, ◌+◌, ◌<◌, Bool, true, false, List, [], ◌∷◌, Option, Some, None, slice_get}
 use Rattle.sl_syntax.specs.declared.operator.Comparison.TheVariants as comparisons
-use Rattle.sl_syntax.specs.Typed.{Callee, Head, hidden, up, star, compares, Expr, literal, held, iterator as iterator_held, convert, negate}
-use Rattle.sl_syntax.specs.Typed.{logical_not, logical_and, logical_or, arithmetic, comparison, increment, move, call, own_call, first, second}
-use Rattle.sl_syntax.specs.Typed.{container, reference, Left, scalar, element, Operands, none, with, Cond, read, not_read, test, always, Printed}
-use Rattle.sl_syntax.specs.Typed.{text, endline, number as printed_number, Effect, reads, prints, evaluates, assigns, updates, moves_to, Declaration}
-use Rattle.sl_syntax.specs.Typed.{unset_scalar, set_scalar, set_iterator, makes, First, no_first, declares_first, does_first, Stmt, block, declares}
-use Rattle.sl_syntax.specs.Typed.{choice, choice_else, while, for, range_for, break, continue, gives_back, does, Stmts, no_more, followed, Kind}
-use Rattle.sl_syntax.specs.Typed.{by_value, by_reference, a_container, an_iterator, Function, Typed}
+use Rattle.sl_syntax.specs.declared.typed.callee.Callee.{Callee}
+use Rattle.sl_syntax.specs.declared.typed.callee.Callee.TheVariants as callees
+use Rattle.sl_syntax.specs.declared.typed.element.Taken.TheVariants as taken
+use Rattle.sl_syntax.specs.declared.typed.head.Head.{Head}
+use Rattle.sl_syntax.specs.declared.typed.operator.Operator.TheVariants as operators
+use Rattle.sl_syntax.specs.declared.typed.parameter.ParameterKind.{ParameterKind}
+use Rattle.sl_syntax.specs.declared.typed.parameter.ParameterKind.TheVariants as parameter
+use Rattle.sl_syntax.specs.Typed.{Expr, literal, held, iterator as iterator_held, convert, negate, logical_not, logical_and, logical_or, arithmetic}
+use Rattle.sl_syntax.specs.Typed.{comparison, increment, move, call, own_call, first, second, container, handed_scalar, Left, scalar, reference}
+use Rattle.sl_syntax.specs.Typed.{element, Operands, none, with, Cond, read, not_read, test, always, Printed, text, endline, number as printed_number}
+use Rattle.sl_syntax.specs.Typed.{Effect, reads, prints, evaluates, assigns, updates, moves_to, Declaration, unset_scalar, set_scalar, set_iterator}
+use Rattle.sl_syntax.specs.Typed.{binds_reference, makes, First, no_first, declares_first, does_first, Stmt, block, declares, choice, choice_else}
+use Rattle.sl_syntax.specs.Typed.{while, for, range_for, break, continue, gives_back, does, Stmts, no_more, followed, Function, Typed}
 use Rattle.sl_model.specs.Good.{AreBelow, AreApart}
 use Rattle.sl_model.specs.Shapes.{Shape, no_value, a_number, a_stamp, a_pair, an_element, Gift, a_value, Signature, shape_of_result, gift_of}
 use Rattle.sl_model.specs.Shapes.{gifts_of, AllSuit, containers_in, signature_of}
@@ -38,7 +45,7 @@ one_scalar c = record c { scalars = c.scalars + 1 }
 abbrev pub one_container : Counts → Counts
 one_container c = record c { conts = c.conts + 1 }
 
--- one iterator more
+-- one iterator more, or one reference to an element
 abbrev pub one_iterator : Counts → Counts
 one_iterator c = record c { iters = c.iters + 1 }
 
@@ -75,11 +82,12 @@ abbrev mutual
   InExpr g c (first at a) = (gift_of g a ≡ a_value a_pair) × InExpr g c a
   InExpr g c (second at a) = (gift_of g a ≡ a_value a_pair) × InExpr g c a
   InExpr g c (container x) = x < c.conts
-  InExpr g c (reference x) = x < c.scalars
+  InExpr g c (handed_scalar x) = x < c.scalars
 
   -- a left side uses what is in scope
   pub InLeft : Signature → Counts → Left → Type 0
   InLeft g c (scalar x at) = x < c.scalars
+  InLeft g c (reference x at name part) = ⊥
   InLeft g c (element h ops) = (g.shape h.callee ≡ an_element) × (IsCall g c false h × InOperands g c ops)
 
   -- operands use what is in scope
@@ -119,6 +127,7 @@ abbrev pub InDeclaration : Signature → Counts → Declaration → Type 0
 InDeclaration g c (unset_scalar ty) = Unit {0}
 InDeclaration g c (set_scalar ty a) = InExpr g c a
 InDeclaration g c (set_iterator a) = (gift_of g a ≡ a_value a_stamp) × InExpr g c a
+InDeclaration g c (binds_reference h ops) = ⊥
 InDeclaration g c (makes form h ops) = IsCall g c true h × InOperands g c ops
 
 -- what is in scope after a declaration
@@ -126,6 +135,7 @@ abbrev pub with_declaration : Declaration → Counts → Counts
 with_declaration (unset_scalar ty) c = one_scalar c
 with_declaration (set_scalar ty a) c = one_scalar c
 with_declaration (set_iterator a) c = one_iterator c
+with_declaration (binds_reference h ops) c = one_iterator c
 with_declaration (makes form h ops) c = one_container c
 
 -- the first part of a `for` uses what is in scope
@@ -151,11 +161,11 @@ with_range c = one_scalar (one_iterator (one_iterator c))
 
 -- what a range-for asks by itself makes no container; it gets an element, and its step gives an iterator
 pub record AsksWell (g : Signature) : Type 0 where
-  pub tests : g.makes (hidden (compares comparisons.NotEqual)) ≡ false
-  pub reads_one : g.makes (hidden star) ≡ false
-  pub steps : g.makes (hidden up) ≡ false
-  pub element_read : g.shape (hidden star) ≡ an_element
-  pub stamp_stepped : g.shape (hidden up) ≡ a_stamp
+  pub tests : g.makes (callees.Hidden (operators.Compare comparisons.NotEqual)) ≡ false
+  pub reads_one : g.makes (callees.Hidden operators.Dereference) ≡ false
+  pub steps : g.makes (callees.Hidden operators.Increment) ≡ false
+  pub element_read : g.shape (callees.Hidden operators.Dereference) ≡ an_element
+  pub stamp_stepped : g.shape (callees.Hidden operators.Increment) ≡ a_stamp
 
 -- a part of a statement isn't a declaration by itself
 abbrev pub IsPart : Stmt → Type 0
@@ -179,10 +189,11 @@ abbrev mutual
   InStmt g shape c (declares d) = InDeclaration g c d
   InStmt g shape c (choice k a) = InCond g c k × (IsPart a × InStmt g shape c a)
   InStmt g shape c (choice_else k a b) = InCond g c k × ((IsPart a × InStmt g shape c a) × (IsPart b × InStmt g shape c b))
-  InStmt g shape c (while k a) = InCond g c k × (IsPart a × InStmt g shape c a)
-  InStmt g shape c (for head k last a) = InFirst g c head × (InCond g (with_first head c) k
+  InStmt g shape c (while l k a) = InCond g c k × (IsPart a × InStmt g shape c a)
+  InStmt g shape c (for l head k last a) = InFirst g c head × (InCond g (with_first head c) k
       × (InLast g (with_first head c) last × (IsPart a × InStmt g shape (with_first head c) a)))
-  InStmt g shape c (range_for x at name a) = (x < c.conts) × (AsksWell g × (IsPart a × InStmt g shape (with_range c) a))
+  InStmt g shape c (range_for l taken.Value x at name a) = (x < c.conts) × (AsksWell g × (IsPart a × InStmt g shape (with_range c) a))
+  InStmt g shape c (range_for l taken.Reference x at name a) = ⊥
   InStmt g shape c break = Unit {0}
   InStmt g shape c continue = Unit {0}
   InStmt g shape c (gives_back a) = GivesBack g c shape a
@@ -194,14 +205,14 @@ abbrev mutual
   InStmts g shape c (followed a rest) = InStmt g shape c a × InStmts g shape (with_stmt a c) rest
 
 -- what is in scope after a parameter
-abbrev pub with_parameter : Kind → Counts → Counts
-with_parameter (by_value ty) c = one_scalar c
-with_parameter (by_reference ty) c = one_scalar c
-with_parameter (a_container access form) c = one_container c
-with_parameter (an_iterator b form) c = one_iterator c
+abbrev pub with_parameter : ParameterKind → Counts → Counts
+with_parameter (parameter.Value ty) c = one_scalar c
+with_parameter (parameter.Reference ty) c = one_scalar c
+with_parameter (parameter.Container access form) c = one_container c
+with_parameter (parameter.Iterator b form) c = one_iterator c
 
 -- what is in scope after parameters
-abbrev pub with_parameters : List Kind → Counts → Counts
+abbrev pub with_parameters : List ParameterKind → Counts → Counts
 with_parameters [] c = c
 with_parameters (k ∷ ks) c = with_parameters ks (with_parameter k c)
 

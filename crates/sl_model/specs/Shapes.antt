@@ -6,9 +6,14 @@
 -- Chosen here: types are told apart as far as their values are, so all types of numbers have one shape. For a call of the
 -- library, the shape goes by what is called, and so does whether it makes a container.
 use Rattle.std.specs.Prelude.{◌≡◌, ℕ, Bool, false, List, [], ◌∷◌, ◌++◌, Option, Some, None, slice_get}
-use Rattle.sl_syntax.specs.Typed.{Operator, star, arrow_first, arrow_second, up, down, plus, minus, plus_assign, minus_assign, apart, compares}
-use Rattle.sl_syntax.specs.Typed.{Callee, row, operator, hidden, Expr, iterator as iterator_held, move, call, own_call, first, container, reference}
-use Rattle.sl_syntax.specs.Typed.{Operands, none, with, Kind, by_value, by_reference, a_container, an_iterator, Function, Typed}
+use Rattle.sl_syntax.specs.declared.typed.callee.Callee.{Callee}
+use Rattle.sl_syntax.specs.declared.typed.callee.Callee.TheVariants as callees
+use Rattle.sl_syntax.specs.declared.typed.operator.Operator.{Operator}
+use Rattle.sl_syntax.specs.declared.typed.operator.Operator.TheVariants as operators
+use Rattle.sl_syntax.specs.declared.typed.parameter.ParameterKind.{ParameterKind}
+use Rattle.sl_syntax.specs.declared.typed.parameter.ParameterKind.TheVariants as parameter
+use Rattle.sl_syntax.specs.Typed.{Expr, iterator as iterator_held, move, call, own_call, first, container, handed_scalar, Operands, none, with}
+use Rattle.sl_syntax.specs.Typed.{Function, Typed}
 use Rattle.sl_model.specs.Values.{Value, nothing, number, iterator, pair, scalar_at, container_at, element_at}
 use Rattle.sl_model.specs.State.{Frame}
 use Rattle.sl_model.specs.Rows.{Row, row_numbered}
@@ -44,9 +49,9 @@ IsGiven f (the_container x) (container_at l) = slice_get f.conts x ≡ Some l
 IsGiven f gift v = ⊥
 
 -- the shape of what a function gives
-abbrev pub shape_of_result : Option Kind → Shape
-shape_of_result (Some (by_value ty)) = a_number
-shape_of_result (Some (an_iterator b form)) = a_stamp
+abbrev pub shape_of_result : Option ParameterKind → Shape
+shape_of_result (Some (parameter.Value ty)) = a_number
+shape_of_result (Some (parameter.Iterator b form)) = a_stamp
 shape_of_result k = no_value
 
 -- the shape of what one of these functions gives
@@ -61,7 +66,7 @@ gift_of g (call h ops) = a_value (g.shape h.callee)
 gift_of g (own_call f at ops) = a_value (shape_of_call g.functions f)
 gift_of g (first at a) = a_value a_stamp
 gift_of g (container x) = the_container x
-gift_of g (reference x) = the_scalar x
+gift_of g (handed_scalar x) = the_scalar x
 gift_of g a = a_value a_number
 
 -- what operands give
@@ -70,15 +75,15 @@ gifts_of g none = []
 gifts_of g (with a rest) = gift_of g a ∷ gifts_of g rest
 
 -- what is given suits a parameter
-abbrev pub Suits : Kind → Gift → Type 0
-Suits (by_value ty) (a_value a_number) = Unit {0}
-Suits (by_reference ty) (the_scalar x) = Unit {0}
-Suits (a_container access form) (the_container x) = Unit {0}
-Suits (an_iterator b form) (a_value a_stamp) = Unit {0}
+abbrev pub Suits : ParameterKind → Gift → Type 0
+Suits (parameter.Value ty) (a_value a_number) = Unit {0}
+Suits (parameter.Reference ty) (the_scalar x) = Unit {0}
+Suits (parameter.Container access form) (the_container x) = Unit {0}
+Suits (parameter.Iterator b form) (a_value a_stamp) = Unit {0}
 Suits k gift = ⊥
 
 -- each of the operands suits its parameter, and there are as many
-abbrev pub AllSuit : List Kind → List Gift → Type 0
+abbrev pub AllSuit : List ParameterKind → List Gift → Type 0
 AllSuit [] [] = Unit {0}
 AllSuit (k ∷ ks) (gift ∷ gifts) = Suits k gift × AllSuit ks gifts
 AllSuit ks gifts = ⊥
@@ -95,17 +100,17 @@ containers_in (gift ∷ gifts) = container_in gift ++ containers_in gifts
 
 -- the shape of what an operator gives
 abbrev pub shape_of_operator : Operator → Shape
-shape_of_operator star = an_element
-shape_of_operator arrow_first = an_element
-shape_of_operator arrow_second = an_element
-shape_of_operator up = a_stamp
-shape_of_operator down = a_stamp
-shape_of_operator plus = a_stamp
-shape_of_operator minus = a_stamp
-shape_of_operator plus_assign = a_stamp
-shape_of_operator minus_assign = a_stamp
-shape_of_operator apart = a_number
-shape_of_operator (compares c) = a_number
+shape_of_operator operators.Dereference = an_element
+shape_of_operator operators.ArrowFirst = an_element
+shape_of_operator operators.ArrowSecond = an_element
+shape_of_operator operators.Increment = a_stamp
+shape_of_operator operators.Decrement = a_stamp
+shape_of_operator operators.Add = a_stamp
+shape_of_operator operators.Subtract = a_stamp
+shape_of_operator operators.AddAssign = a_stamp
+shape_of_operator operators.SubtractAssign = a_stamp
+shape_of_operator operators.Difference = a_number
+shape_of_operator (operators.Compare c) = a_number
 
 -- the shape of what a row gives, if it is there
 abbrev pub shape_of_row : Option Row → Shape
@@ -119,15 +124,17 @@ row_makes (Some r) = r.makes_one
 
 -- the shape of what a call of the library gives
 abbrev pub lib_shape : Callee → Shape
-lib_shape (row n) = shape_of_row (row_numbered n)
-lib_shape (operator o) = shape_of_operator o
-lib_shape (hidden o) = shape_of_operator o
+lib_shape (callees.Row n) = shape_of_row (row_numbered n)
+lib_shape (callees.Appends n) = no_value
+lib_shape (callees.Operator o) = shape_of_operator o
+lib_shape (callees.Hidden o) = shape_of_operator o
 
 -- a call of the library makes a container
 abbrev pub lib_makes : Callee → Bool
-lib_makes (row n) = row_makes (row_numbered n)
-lib_makes (operator o) = false
-lib_makes (hidden o) = false
+lib_makes (callees.Row n) = row_makes (row_numbered n)
+lib_makes (callees.Appends n) = false
+lib_makes (callees.Operator o) = false
+lib_makes (callees.Hidden o) = false
 
 -- what is known of the calls in a text
 abbrev pub signature_of : (Callee → Shape) → (Callee → Bool) → Typed → Signature

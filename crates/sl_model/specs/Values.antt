@@ -2,7 +2,7 @@
 -- Restates ISO/IEC 14882:2017, [expr] (a value, or something that has a place) and [basic.lval].
 -- Chosen here: numbers are whole numbers, a type's range is kept by conversions; an iterator is its stamp.
 use Rattle.std.specs.Prelude.{ℕ, Bool, List, ℤ, Option}
-use Rattle.sl_syntax.specs.Typed.{Callee}
+use Rattle.sl_syntax.specs.declared.typed.callee.Callee.{Callee}
 use Rattle.sl_model.specs.Containers.{Memory, Part}
 
 -- what an expression gives; `scalar_at`, `container_at` and `element_at` say where something is

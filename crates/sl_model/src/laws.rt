@@ -1,6 +1,7 @@
 //! Laws of the definitions that a reviewer would ask for.
 ghost use Rattle.std.specs.Prelude.{◌≡◌, ◌≢◌, ◌+◌, ◌<◌, ◌≤◌, ◌↔◌, IsTrue, ℕ, ℤ, List, [], ◌∷◌, length, slice_get};
-ghost use Rattle.sl_syntax.specs.Typed.{Callee, Typed};
+ghost use Rattle.sl_syntax.specs.declared.typed.callee.Callee.{Callee};
+ghost use Rattle.sl_syntax.specs.Typed.{Typed};
 ghost use Rattle.sl_model.specs.Containers.{Cont, Memory, Dropped, size, stamps};
 ghost use Rattle.sl_model.specs.Edits.{Change, Edit, VectorInsert, kills, after};
 ghost use Rattle.sl_model.specs.Situation.{Situation, own_size};

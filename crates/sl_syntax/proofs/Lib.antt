@@ -1,6 +1,8 @@
 -- ## Views of the code's tree
-pub mod Examples
 pub mod TreeViews
+pub mod TypedViews
+pub mod TypedExamples
+pub mod SubsetExamples
 -- ## Words without their places
 pub mod BlankLaws
 pub mod BlankShape

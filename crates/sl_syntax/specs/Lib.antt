@@ -1,5 +1,6 @@
 pub mod Typed
-pub mod View
+pub mod TypedView
+pub mod SubsetView
 pub mod Tree
 pub mod TreeView
 pub mod TokenKinds

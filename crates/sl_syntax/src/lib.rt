@@ -2,6 +2,7 @@
 #![tactic(auto)]
 
 mod operator;
+pub mod subset;
 mod token_kind;
 mod tree;
 pub mod typed;

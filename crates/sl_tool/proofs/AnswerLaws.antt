@@ -5,7 +5,7 @@ use Rattle.std.specs.declared.alloc.AllocError.{AllocError}
 use Rattle.sl_base.specs.declared.limits.TheConstants.{TEXT_BYTES}
 use Rattle.sl_base.specs.declared.token.Token.{Token}
 use Rattle.sl_base.specs.Outside.{IsRead}
-use Rattle.sl_syntax.specs.declared.typed.Typed.{Typed as TypedCode}
+use Rattle.sl_syntax.specs.declared.subset.Text.{Text}
 use Rattle.sl_syntax.specs.Tree.{Program}
 use Rattle.sl_model.specs.Covers.{Warning}
 use Rattle.sl_model.specs.Texts.{report_text}
@@ -15,7 +15,7 @@ use Rattle.sl_tool.specs.Subset.{ReadsAs}
 use Rattle.sl_tool.specs.Refusals.{IsParsed, by_length, by_token, by_grammar}
 
 -- the report on a text of the subset is its answer
-pub AnswerTo-report : (file text : List ℕ) (tokens : List Token) (program : Program) (p : TypedCode) (result : Result (Status × List ℕ) AllocError)
+pub AnswerTo-report : (file text : List ℕ) (tokens : List Token) (program : Program) (p : Text) (result : Result (Status × List ℕ) AllocError)
     → IsParsed text tokens program → ReadsAs tokens p
     → IfOk result (λ a. (r : List Warning) × IsReport p r × (a.0 ≡ status_of r) × (a.1 ≡ report_text file p.sites r))
     → IfOk result (λ a. AnswerTo file text a.0 a.1)

@@ -10,7 +10,7 @@ use Rattle.sl_base.specs.declared.mark.Mark.TheVariants.{RightBrace}
 use Rattle.sl_base.specs.declared.token.Token.{Token}
 use Rattle.sl_base.specs.declared.word.Word.{Word}
 use Rattle.sl_base.specs.declared.word.Word.TheVariants.{Mark}
-use Rattle.sl_syntax.specs.declared.typed.Stmt.{Stmt}
+use Rattle.sl_syntax.specs.declared.subset.Stmt.{Stmt}
 use Rattle.sl_tool.specs.declared.reading.reader.Reader.{Reader}
 use Rattle.sl_syntax.specs.Begins.{words_in}
 use Rattle.sl_tool.specs.Subset.{Item, vector_item, push_back_item, begin_item, dereference_item, item_words, Scope, no_scope, IsAllowed, after_item}

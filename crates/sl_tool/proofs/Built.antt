@@ -6,7 +6,7 @@ use Rattle.std.proofs.Math.ListN.{length-map}
 use Rattle.std.proofs.lemmas.Option.{slice_get-map}
 use Rattle.sl_base.specs.declared.place.Place.{Place}
 use Rattle.sl_base.specs.declared.token.Token.{Token}
-use Rattle.sl_syntax.specs.declared.typed.Stmt.TheVariants.{PushBack, Dereference}
+use Rattle.sl_syntax.specs.declared.subset.Stmt.TheVariants.{PushBack, Dereference}
 use Rattle.sl_tool.specs.Subset.{Item, vector_item, push_back_item, begin_item, dereference_item, item_words, Scope, AllAllowed, after_item, place_in}
 use Rattle.sl_tool.specs.Subset.{typed_item, typed_items, push_places}
 use Rattle.sl_tool.proofs.Uses.{UsesDeclared}
@@ -37,41 +37,43 @@ place_behind : (tokens : List Token) (n k : ℕ) (p : Place) → IsPlaceOf (drop
 place_behind tokens n k p h = (h.0, sym (get_drop n tokens k) ∙ h.1, h.2)
 
 -- the `*` of a statement is its token 3
-star_place : (s : Scope) (tokens : List Token) (room : ℕ) (i : Item) (is : List Item) (p : Place) (it name : ℕ) → AreItems s tokens room (i ∷ is)
-    → Some (typed_item s tokens i) ≡ Some (Dereference p it name) → IsPlaceOf tokens 3 p × (3 < length (item_words i))
-star_place s tokens room (vector_item a) is p it name h e = absurd cc
-star_place s tokens room (push_back_item a n) is p it name h e = absurd cc
-star_place s tokens room (begin_item a b) is p it name h e = absurd cc
-star_place s tokens room (dereference_item a b) is p it name h e =
+star_place : (s : Scope) (tokens : List Token) (room : ℕ) (i : Item) (is : List Item) (p named : Place) (it name : ℕ)
+    → AreItems s tokens room (i ∷ is) → Some (typed_item s tokens i) ≡ Some (Dereference p it name named)
+    → IsPlaceOf tokens 3 p × (3 < length (item_words i))
+star_place s tokens room (vector_item a) is p named it name h e = absurd cc
+star_place s tokens room (push_back_item a n) is p named it name h e = absurd cc
+star_place s tokens room (begin_item a b) is p named it name h e = absurd cc
+star_place s tokens room (dereference_item a b) is p named it name h e =
     let same : place_in tokens 3 ≡ p = cc in
     let long = ap length h.words in
     (subst (λ q. IsPlaceOf tokens 3 q) same (place_there tokens 3 (let l = length-map tokens (λ (t : Token). t.word) in omega arith)), omega arith)
 
 -- the `*` of one of these statements
-star_in : (s : Scope) (tokens : List Token) (room : ℕ) (is : List Item) → AreItems s tokens room is → (m : ℕ) (p : Place) (it name : ℕ)
-    → slice_get (typed_items s tokens is) m ≡ Some (Dereference p it name) → (k : ℕ) × IsPlaceOf tokens k p
-star_in s tokens room [] h m p it name e = absurd cc
-star_in s tokens room (i ∷ is) h zero p it name e = (3, (star_place s tokens room i is p it name h e).0)
-star_in s tokens room (i ∷ is) h (suc m) p it name e =
+star_in : (s : Scope) (tokens : List Token) (room : ℕ) (is : List Item) → AreItems s tokens room is → (m : ℕ) (p named : Place) (it name : ℕ)
+    → slice_get (typed_items s tokens is) m ≡ Some (Dereference p it name named) → (k : ℕ) × IsPlaceOf tokens k p
+star_in s tokens room [] h m p named it name e = absurd cc
+star_in s tokens room (i ∷ is) h zero p named it name e = (3, (star_place s tokens room i is p named it name h e).0)
+star_in s tokens room (i ∷ is) h (suc m) p named it name e =
     let n = length (item_words i) in
-    let r = star_in (after_item s i) (drop n tokens) (room - 1) is (behind s tokens room i is h) m p it name e in
+    let r = star_in (after_item s i) (drop n tokens) (room - 1) is (behind s tokens room i is h) m p named it name e in
     (n + r.0, place_behind tokens n r.0 p r.1)
 
 -- the `*` of two of these statements, the first of which stands before the second
-stars_in : (s : Scope) (tokens : List Token) (room : ℕ) (is : List Item) → AreItems s tokens room is → (m n : ℕ) (p q : Place) (it jt name other : ℕ)
-    → m < n → slice_get (typed_items s tokens is) m ≡ Some (Dereference p it name) → slice_get (typed_items s tokens is) n ≡ Some
-    (Dereference q jt other)
+stars_in : (s : Scope) (tokens : List Token) (room : ℕ) (is : List Item) → AreItems s tokens room is → (m n : ℕ) (p q named also : Place)
+    (it jt name other : ℕ) → m < n → slice_get (typed_items s tokens is) m ≡ Some (Dereference p it name named)
+    → slice_get (typed_items s tokens is) n ≡ Some (Dereference q jt other also)
     → (k : ℕ) × (l : ℕ) × (k < l) × IsPlaceOf tokens k p × IsPlaceOf tokens l q
-stars_in s tokens room [] h m n p q it jt name other lt a b = absurd cc
-stars_in s tokens room (i ∷ is) h m zero p q it jt name other lt a b = absurd (omega arith)
-stars_in s tokens room (i ∷ is) h zero (suc n) p q it jt name other lt a b =
+stars_in s tokens room [] h m n p q named also it jt name other lt a b = absurd cc
+stars_in s tokens room (i ∷ is) h m zero p q named also it jt name other lt a b = absurd (omega arith)
+stars_in s tokens room (i ∷ is) h zero (suc n) p q named also it jt name other lt a b =
     let w = length (item_words i) in
-    let f = star_place s tokens room i is p it name h a in
-    let r = star_in (after_item s i) (drop w tokens) (room - 1) is (behind s tokens room i is h) n q jt other b in
+    let f = star_place s tokens room i is p named it name h a in
+    let r = star_in (after_item s i) (drop w tokens) (room - 1) is (behind s tokens room i is h) n q also jt other b in
     (3, w + r.0, (let less = f.1 in omega arith), f.0, place_behind tokens w r.0 q r.1)
-stars_in s tokens room (i ∷ is) h (suc m) (suc n) p q it jt name other lt a b =
+stars_in s tokens room (i ∷ is) h (suc m) (suc n) p q named also it jt name other lt a b =
     let w = length (item_words i) in
-    let r = stars_in (after_item s i) (drop w tokens) (room - 1) is (behind s tokens room i is h) m n p q it jt name other (omega arith) a b in
+    let r = stars_in (after_item s i) (drop w tokens) (room - 1) is (behind s tokens room i is h) m n p q named also it jt name other
+    (omega arith) a b in
     (w + r.0, w + r.1, (let less = r.2 in omega arith), place_behind tokens w r.0 p r.3, place_behind tokens w r.1 q r.4)
 
 -- the places of two tokens
@@ -82,8 +84,8 @@ in_order tokens k l p q ascend lt a b = rw (← a.2, ← b.2) (ascend k l a.0 b.
 -- the places of each `*` come in their order
 pub places-ascend : (s : Scope) (tokens : List Token) (room : ℕ) (is : List Item) → AreItems s tokens room is → TokensAscend tokens
     → PlacesAscend (typed_items s tokens is)
-places-ascend s tokens room is h ascend i j it jt name other p q lt a b =
-    let r = stars_in s tokens room is h i j p q it jt name other lt a b in
+places-ascend s tokens room is h ascend i j it jt name other p q named also lt a b =
+    let r = stars_in s tokens room is h i j p q named also it jt name other lt a b in
     in_order tokens r.0 r.1 p q ascend r.2 r.3 r.4
 
 -- there is a statement for each item

@@ -4,8 +4,9 @@ use Rattle.std.specs.Prelude.{slice_get, nat_lt, ◌==◌, ℤ, pos}
 use Rattle.sl_base.specs.declared.form.Form.{Form}
 use Rattle.sl_base.specs.declared.form.Form.TheVariants as f
 use Rattle.sl_base.specs.declared.limits.TheConstants.{ELEMENTS}
-use Rattle.sl_syntax.specs.Typed.{row, operator, star}
-use Rattle.sl_syntax.specs.View.{vector_row, begin_row, push_back_row}
+use Rattle.sl_syntax.specs.declared.typed.callee.Callee.TheVariants as callees
+use Rattle.sl_syntax.specs.declared.typed.operator.Operator.TheVariants as operators
+use Rattle.sl_syntax.specs.SubsetView.{vector_row, begin_row, push_back_row}
 use Rattle.sl_model.specs.Containers.{Memory, Cont, size, cont_at, begin_of, locate, made, key_part}
 use Rattle.sl_model.specs.Schedule.{pick}
 use Rattle.sl_model.specs.Edits.{Edit, VectorInsert, change_of, after}
@@ -24,12 +25,12 @@ cont_at-there m j c h = get_or-there m.conts j c (record { form = f.Vector; cell
 vector_there : (m : Memory) (j : ℕ) (c : Cont) → slice_get m.conts j ≡ Some c → c.form ≡ f.Vector → object_in m (Some f.Vector) (Some j) ≡ Some j
 vector_there m j c h form = ap (of_form f.Vector j) h ∙ ap (λ (g : Form). if same_form g f.Vector then Some j else None) form
 
-pub lib-vector : (m : Memory) (picks : List ℕ) → lib (row vector_row) (record { site = 0; object = None; values = [] }) m picks ≡ gives nothing
-    (made f.Vector (pick picks) m) (drop 1 picks)
+pub lib-vector : (m : Memory) (picks : List ℕ) → lib (callees.Row vector_row) (record { site = 0; object = None; values = [] }) m picks
+    ≡ gives nothing (made f.Vector (pick picks) m) (drop 1 picks)
 lib-vector m picks = refl
 
 pub lib-begin : (m : Memory) (j : ℕ) (c : Cont) (picks : List ℕ) → slice_get m.conts j ≡ Some c → c.form ≡ f.Vector
-    → lib (row begin_row) (record { site = 0; object = Some j; values = [] }) m picks ≡ gives (iterator (begin_of m j)) m picks
+    → lib (callees.Row begin_row) (record { site = 0; object = Some j; values = [] }) m picks ≡ gives (iterator (begin_of m j)) m picks
 lib-begin m j c picks h form = ap (on_object begin (record { site = 0; object = Some j; values = [] }) m picks) (vector_there m j c h form)
 
 -- what `push_back` of a vector gives
@@ -48,7 +49,7 @@ push_case m j z picks site true = refl
 push_case m j z picks site false = refl
 
 pub lib-push_back : (m : Memory) (j : ℕ) (c : Cont) (z : ℤ) (picks : List ℕ) (site : ℕ) → slice_get m.conts j ≡ Some c → c.form ≡ f.Vector
-    → lib (row push_back_row) (record { site = site; object = Some j; values = number z ∷ [] }) m picks ≡ pushed_back m j c z picks site
+    → lib (callees.Row push_back_row) (record { site = site; object = Some j; values = number z ∷ [] }) m picks ≡ pushed_back m j c z picks site
 lib-push_back m j c z picks site h form = ap (on_object push_back (record { site = site; object = Some j; values = number z ∷ [] }) m picks)
     (vector_there m j c h form)
     ∙ (push_case m j z picks site (nat_lt ELEMENTS (size (cont_at m j) + 1))
@@ -70,9 +71,10 @@ star_at m picks p = elim (first_failure (dereference_fails m p 1 ++ [])) as (λ 
     [ Some f ↦ trapped f.0 f.1 | None ↦ gives (int_at p) m picks ]
 
 pub lib-star_valid : (m : Memory) (stamp j k : ℕ) (picks : List ℕ) → locate m stamp ≡ Some (j, k)
-    → lib (operator star) (record { site = 0; object = None; values = iterator stamp ∷ [] }) m picks ≡ at_element j k (size (cont_at m j)) m picks
+    → lib (callees.Operator operators.Dereference) (record { site = 0; object = None; values = iterator stamp ∷ [] }) m picks
+    ≡ at_element j k (size (cont_at m j)) m picks
 lib-star_valid m stamp j k picks h = ap (star_at m picks) h ∙ element_case j k m picks stamp (k == size (cont_at m j))
 
 pub lib-star_invalid : (m : Memory) (stamp : ℕ) (picks : List ℕ) → locate m stamp ≡ None
-    → lib (operator star) (record { site = 0; object = None; values = iterator stamp ∷ [] }) m picks ≡ trapped 1 1
+    → lib (callees.Operator operators.Dereference) (record { site = 0; object = None; values = iterator stamp ∷ [] }) m picks ≡ trapped 1 1
 lib-star_invalid m stamp picks h = ap (star_at m picks) h

@@ -3,8 +3,8 @@ use Rattle.std.proofs.Common.{arith, ◌≡◌, ℕ, zero, suc, ◌+◌, ◌≤�
 use Rattle.std.proofs.Common.{inr, refl, ap, sym, ◌∙◌, if◌then◌else◌}
 use Rattle.std.specs.Prelude.{slice_get, ◌==◌, Contains}
 use Rattle.sl_base.specs.declared.place.Place.{Place}
-use Rattle.sl_syntax.specs.declared.typed.Stmt.{Stmt}
-use Rattle.sl_syntax.specs.declared.typed.Stmt.TheVariants.{Vector, PushBack, Begin, Dereference}
+use Rattle.sl_syntax.specs.declared.subset.Stmt.{Stmt}
+use Rattle.sl_syntax.specs.declared.subset.Stmt.TheVariants.{Vector, PushBack, Begin, Dereference}
 use Rattle.sl_tool.specs.declared.analysis.Standing.{Standing}
 use Rattle.sl_tool.specs.declared.analysis.Push.{Push}
 use Rattle.sl_tool.specs.declared.analysis.Warning.{Warning}
@@ -61,19 +61,19 @@ killer_before stmts n k standing site are h =
     rw (← r.3) (are (standing.since + r.0) r.1 (sym (get_drop standing.since k.pushes r.0) ∙ r.2))
 
 -- the warning of a fault is of its node
-of_fault : (stmts : List Stmt) (n it name : ℕ) (place : Place) (killers : List ℕ) (at_element : Bool) (i : ℕ) (w : Warning)
-    → slice_get stmts n ≡ Some (Dereference place it name)
+of_fault : (stmts : List Stmt) (n it name : ℕ) (place named : Place) (killers : List ℕ) (at_element : Bool) (i : ℕ) (w : Warning)
+    → slice_get stmts n ≡ Some (Dereference place it name named)
     → ((site : ℕ) → Contains killers site → IsPushBefore stmts n site) → slice_get (told_at place name (fault_in killers at_element)) i ≡ Some w
     → IsOfNode stmts n w
-of_fault stmts n it name place [] true i w there before h = absurd cc
-of_fault stmts n it name place [] false zero w there before h =
+of_fault stmts n it name place named [] true i w there before h = absurd cc
+of_fault stmts n it name place named [] false zero w there before h =
     let e : record { place = place; name = name; fault = EndIterator } ≡ w = cc in
-    rw (← e) (record { iterator = it; there = there; cause = tt })
-of_fault stmts n it name place [] false (suc i) w there before h = absurd cc
-of_fault stmts n it name place (x ∷ xs) at_element zero w there before h =
+    rw (← e) (record { iterator = it; variable = named; there = there; cause = tt })
+of_fault stmts n it name place named [] false (suc i) w there before h = absurd cc
+of_fault stmts n it name place named (x ∷ xs) at_element zero w there before h =
     let e : record { place = place; name = name; fault = InvalidIterator (x ∷ xs) } ≡ w = cc in
-    rw (← e) (record { iterator = it; there = there; cause = (omega arith, before) })
-of_fault stmts n it name place (x ∷ xs) at_element (suc i) w there before h = absurd cc
+    rw (← e) (record { iterator = it; variable = named; there = there; cause = (omega arith, before) })
+of_fault stmts n it name place named (x ∷ xs) at_element (suc i) w there before h = absurd cc
 
 -- at most one warning tells of a fault
 pub told_first : (place : Place) (name : ℕ) (fault : Option Fault) (i : ℕ) (w : Warning) → slice_get (told_at place name fault) i ≡ Some w → i ≡ 0
@@ -89,12 +89,13 @@ if_more false ws i w h = absurd cc
 -- what is warned of at a statement is of its node
 pub of_node : (stmts : List Stmt) (n : ℕ) (k : Known) (s : Stmt) (i : ℕ) (w : Warning) → slice_get stmts n ≡ Some s → ArePushes stmts n k.pushes
     → slice_get (warned k s) i ≡ Some w → IsOfNode stmts n w
-of_node stmts n k (Vector place) i w there are h = absurd cc
+of_node stmts n k (Vector place named) i w there are h = absurd cc
 of_node stmts n k (PushBack place v name site z) i w there are h = absurd cc
-of_node stmts n k (Begin place v name) i w there are h = absurd cc
-of_node stmts n k (Dereference place it name) i w there are h =
+of_node stmts n k (Begin place v name named) i w there are h = absurd cc
+of_node stmts n k (Dereference place it name named) i w there are h =
     let standing : Standing = standing_at k it in
-    of_fault stmts n it name place (killers_of k standing) standing.at_element i w there (λ site c. killer_before stmts n k standing site are c) h
+    of_fault stmts n it name place named (killers_of k standing) standing.at_element i w there
+    (λ site c. killer_before stmts n k standing site are c) h
 
 -- one statement more
 pushes_more : (stmts : List Stmt) (n : ℕ) (pushes : List Push) → ArePushes stmts n pushes → ArePushes stmts (suc n) pushes
@@ -113,7 +114,7 @@ pushes_more stmts n pushes are i p h = let r = are i p h in
 -- the calls so far behind a statement
 pub pushes_after : (stmts : List Stmt) (n : ℕ) (k : Known) (s : Stmt) → slice_get stmts n ≡ Some s → ArePushes stmts n k.pushes
     → ArePushes stmts (suc n) (known_after k s).pushes
-pushes_after stmts n k (Vector place) there are = pushes_more stmts n k.pushes are
+pushes_after stmts n k (Vector place named) there are = pushes_more stmts n k.pushes are
 pushes_after stmts n k (PushBack place v name site z) there are = λ i p h. elim (pushed k.pushes (record { vector = v; site = site }) p i h) [
   | inl old ↦ pushes_more stmts n k.pushes are i p old
   | inr last ↦ record {
@@ -127,8 +128,8 @@ pushes_after stmts n k (PushBack place v name site z) there are = λ i p h. elim
     before = omega arith;
   }
 ]
-pushes_after stmts n k (Begin place v name) there are = pushes_more stmts n k.pushes are
-pushes_after stmts n k (Dereference place it name) there are = pushes_more stmts n k.pushes are
+pushes_after stmts n k (Begin place v name named) there are = pushes_more stmts n k.pushes are
+pushes_after stmts n k (Dereference place it name named) there are = pushes_more stmts n k.pushes are
 
 -- a warning of the statements from an index on is of one of them
 pub of_one : (all : List Stmt) (ss : List Stmt) (n : ℕ) (k : Known) → drop n all ≡ ss → ArePushes all n k.pushes → (i : ℕ) (w : Warning)

@@ -8,10 +8,12 @@ use Rattle.sl_base.specs.declared.form.Form.TheVariants as f
 use Rattle.sl_base.specs.declared.scalar.Scalar.TheVariants as t
 use Rattle.sl_base.specs.declared.place.Place.{Place}
 use Rattle.sl_base.specs.declared.limits.TheConstants.{ELEMENTS}
-use Rattle.sl_syntax.specs.declared.typed.Stmt.TheVariants.{Vector, PushBack, Begin, Dereference}
-use Rattle.sl_syntax.specs.Typed.{Head, row, operator, star, makes, none, with, literal, iterator as iterator_operand, held, element, call, evaluates}
-use Rattle.sl_syntax.specs.Typed.{set_iterator, set_scalar}
-use Rattle.sl_syntax.specs.View.{stmt_of, free_call, member_call, vector_row, begin_row, push_back_row}
+use Rattle.sl_syntax.specs.declared.subset.Stmt.TheVariants.{Vector, PushBack, Begin, Dereference}
+use Rattle.sl_syntax.specs.declared.typed.callee.Callee.TheVariants as callees
+use Rattle.sl_syntax.specs.declared.typed.head.Head.{Head}
+use Rattle.sl_syntax.specs.declared.typed.operator.Operator.TheVariants as operators
+use Rattle.sl_syntax.specs.Typed.{makes, none, with, literal, iterator as iterator_operand, held, element, call, evaluates, set_iterator, set_scalar}
+use Rattle.sl_syntax.specs.SubsetView.{stmt_of, free_call, member_call, vector_row, begin_row, push_back_row}
 use Rattle.sl_model.specs.Containers.{Cont, size, cont_at, killer}
 use Rattle.sl_model.specs.Schedule.{pick}
 use Rattle.sl_model.specs.Values.{Value, number, iterator, nothing, LibOut, thrown, trapped, gives}
@@ -71,28 +73,28 @@ none_left zero xs e = e
 none_left (suc n) [] e = refl
 none_left (suc n) (x ∷ xs) e = absurd cc
 
-pub plain-vector : (k : Known) (own : Oracle) (place : Place) (n : ℕ) (s : State) → IsPlain k (n + 1) s
-    → GoesOn (with_vector k) n (exec (world_of own) (stmt_of (Vector place)) s)
-plain-vector k own place n s p =
-    steps-on (GoesOn (with_vector k) n) (declared (world_of own) (makes f.Vector (free_call (row vector_row) place []) none)) n s p.steps (λ m left.
-    record {
+pub plain-vector : (k : Known) (own : Oracle) (place named : Place) (n : ℕ) (s : State) → IsPlain k (n + 1) s
+    → GoesOn (with_vector k) n (exec (world_of own) (stmt_of (Vector place named)) s)
+plain-vector k own place named n s p =
+    steps-on (GoesOn (with_vector k) n) (declared (world_of own) (makes f.Vector (free_call (callees.Row vector_row) place []) none)) n s
+    p.steps (λ m left. record {
       described = kept-vector k s.memory s.frame s.iters (pick s.picks) p.described;
       full = full-vector k s.memory s.iters (pick s.picks) (ap pick p.picks) p.full;
       picks = none_left 1 s.picks p.picks;
       steps = left;
     })
 
-pub plain-begin : (k : Known) (own : Oracle) (place : Place) (v name n : ℕ) (s : State) → IsPlain k (n + 1) s → v < length k.filled
-    → GoesOn (with_iterator k v) n (exec (world_of own) (stmt_of (Begin place v name)) s)
-plain-begin k own place v name n s p lt =
-    let h : Head = member_call begin_row place 0 v name in
+pub plain-begin : (k : Known) (own : Oracle) (place named : Place) (v name n : ℕ) (s : State) → IsPlain k (n + 1) s → v < length k.filled
+    → GoesOn (with_iterator k v) n (exec (world_of own) (stmt_of (Begin place v name named)) s)
+plain-begin k own place named v name n s p lt =
+    let h : Head = member_call begin_row place None v name in
     let d : Describes k s.memory s.frame s.iters = p.described in
     let c = vector_in k s.memory s.frame s.iters v d lt in
     let at : cont_of s v ≡ v = located s.frame.conts (length k.filled) v d.conts_frame lt in
     steps-on (GoesOn (with_iterator k v) n) (declared (world_of own) (set_iterator (call h none))) n s p.steps (λ m left.
     let now : State = record s { steps = m } in
     subst (λ (out : LibOut). GoesOn (with_iterator k v) n (flow_of (settle_call h [] out now) (on_stamp (λ stamp t. Next (new_iterator stamp t)))))
-    (sym (ap (λ (j : ℕ). lib (row begin_row) (record { site = 0; object = Some j; values = [] }) s.memory s.picks) at
+    (sym (ap (λ (j : ℕ). lib (callees.Row begin_row) (record { site = 0; object = Some j; values = [] }) s.memory s.picks) at
     ∙ lib-begin s.memory v c.0 s.picks c.1 (d.forms v c.0 c.1)))
     (record {
       described = kept-begin k s.memory s.frame s.iters v c.0 d c.1;
@@ -122,14 +124,14 @@ pub plain-push : (k : Known) (own : Oracle) (place : Place) (v name site z n : �
     → length k.pushes < ELEMENTS
     → GoesOn (with_push k v site) n (exec (world_of own) (stmt_of (PushBack place v name site z)) s)
 plain-push k own place v name site z n s p lt few =
-    let h : Head = member_call push_back_row place site v name in
+    let h : Head = member_call push_back_row place (Some site) v name in
     let d : Describes k s.memory s.frame s.iters = p.described in
     let c = vector_in k s.memory s.frame s.iters v d lt in
     let at : cont_of s v ≡ v = located s.frame.conts (length k.filled) v d.conts_frame lt in
     steps-on (GoesOn (with_push k v site) n) (affect (world_of own) (evaluates (call h (with (literal t.Int (pos z)) none)))) n s p.steps (λ m left.
     let now : State = record s { steps = m } in
     subst (λ (out : LibOut). GoesOn (with_push k v site) n (push_flow h (number (pos z) ∷ []) now out))
-    (sym (ap (λ (j : ℕ). lib (row push_back_row) (record { site = site; object = Some j; values = number (pos z) ∷ [] }) s.memory s.picks) at
+    (sym (ap (λ (j : ℕ). lib (callees.Row push_back_row) (record { site = site; object = Some j; values = number (pos z) ∷ [] }) s.memory s.picks) at
     ∙ lib-push_back s.memory v c.0 (pos z) s.picks site c.1 (d.forms v c.0 c.1)))
     (push_plain k h (number (pos z) ∷ []) n now v c.0 (pos z) site (record { described = d; full = p.full; picks = p.picks; steps = left }) c.1 few))
 
@@ -177,7 +179,7 @@ star_here names k place name it stamp n standing s filled p at stays e =
 
 -- what the library gives at `*` of an iterator
 abbrev star_out : ℕ → State → LibOut
-star_out stamp s = lib (operator star) (record { site = 0; object = None; values = iterator stamp ∷ [] }) s.memory s.picks
+star_out stamp s = lib (callees.Operator operators.Dereference) (record { site = 0; object = None; values = iterator stamp ∷ [] }) s.memory s.picks
 
 -- `*` of an iterator, by the calls that are behind its standing
 star_plain : (names : List (List ℕ)) (k : Known) (place : Place) (name it stamp n : ℕ) (standing : Standing) (s : State) (killers : List ℕ)
@@ -199,11 +201,11 @@ star_plain names k place name it stamp n standing s (x ∷ xs) p at known some =
     (locate-dropped s.memory stamp gone.0 p.described.sound (dropped-killer s.memory stamp gone.0 gone.1))))
     (star_gone names place name stamp gone.0 x xs (killers_of k standing) s some gone.1 gone.2)
 
-pub plain-star : (names : List (List ℕ)) (k : Known) (own : Oracle) (place : Place) (it name n : ℕ) (s : State) → IsPlain k (n + 1) s
+pub plain-star : (names : List (List ℕ)) (k : Known) (own : Oracle) (place named : Place) (it name n : ℕ) (s : State) → IsPlain k (n + 1) s
     → it < length k.iterators
     → GoesOrTraps names (found_valid k it (standing_at k it)) n (standing_at k it).at_element (dereferenced k place name (standing_at k it))
-    (exec (world_of own) (stmt_of (Dereference place it name)) s)
-plain-star names k own place it name n s p lt =
+    (exec (world_of own) (stmt_of (Dereference place it name named)) s)
+plain-star names k own place named it name n s p lt =
     let d : Describes k s.memory s.frame s.iters = p.described in
     let standing : Standing = standing_at k it in
     let known = there k.iterators it lt in
@@ -213,7 +215,8 @@ plain-star names k own place it name n s p lt =
     let is : standing ≡ known.0 = get_or-there k.iterators it known.0 (record { vector = 0; at_element = true; since = 0 }) known.1 in
     steps-on (GoesOrTraps names (found_valid k it standing) n standing.at_element (dereferenced k place name standing))
     (declared (world_of own)
-    (set_scalar t.Int (held (element (free_call (operator star) place (None ∷ Some name ∷ [])) (with (iterator_operand it) none))))) n s
+    (set_scalar t.Int (held (element (free_call (callees.Operator operators.Dereference) place (None ∷ Some name ∷ []))
+    (with (iterator_operand it) none))))) n s
     p.steps (λ m left.
     let now : State = record s { steps = m } in
     subst (λ (x : ℕ). GoesOrTraps names (found_valid k it standing) n standing.at_element (dereferenced k place name standing)

@@ -4,13 +4,13 @@ use Rattle.std.proofs.Common.{add-one}
 use Rattle.std.specs.Prelude.{unwrap_or, All, ◌^◌, ◌<◌}
 use Rattle.std.proofs.Math.ListN.{length-set}
 use Rattle.sl_base.specs.declared.limits.TheConstants.{ELEMENTS, STATEMENTS}
-use Rattle.sl_syntax.specs.declared.typed.Stmt.{Stmt}
-use Rattle.sl_syntax.specs.declared.typed.Stmt.TheVariants.{Vector, PushBack, Begin, Dereference}
-use Rattle.sl_syntax.specs.declared.typed.Typed.{Typed}
-use Rattle.sl_syntax.specs.Typed.{Function, Typed as TypedValue}
+use Rattle.sl_syntax.specs.declared.subset.Stmt.{Stmt}
+use Rattle.sl_syntax.specs.declared.subset.Stmt.TheVariants.{Vector, PushBack, Begin, Dereference}
+use Rattle.sl_syntax.specs.declared.subset.Text.{Text}
+use Rattle.sl_syntax.specs.Typed.{Function, Typed}
 use Rattle.sl_base.specs.declared.scalar.Scalar.TheVariants as t
 use Rattle.sl_model.specs.Numbers.{fits}
-use Rattle.sl_syntax.specs.View.{stmt_of, stmts_of, typed_of, main_of, brace_site}
+use Rattle.sl_syntax.specs.SubsetView.{stmt_of, stmts_of, typed_of, main_of, brace_site}
 use Rattle.sl_model.specs.Ends.{End, Trapped, Trap, Done, OutOfSteps, Language, Thrown, NoMeaning}
 use Rattle.sl_model.specs.State.{State}
 use Rattle.sl_model.specs.Eval.{Oracle}
@@ -68,9 +68,10 @@ walk_exact : (names : List (List ℕ)) (own : Oracle) (ss : List Stmt) (k : Know
     → warnings_of k ss ≡ w ∷ ws
     → EndsTrapped names w (exec_all (world_of own) (stmts_of ss) s)
 walk_exact names own [] k s w ws p u few e = absurd cc
-walk_exact names own (Vector place ∷ ss) k s w ws p u few e =
-    goes-or-traps names (with_vector k) (length ss) true [] (warnings_of (with_vector k) ss) w ws (exec (world_of own) (stmt_of (Vector place)) s)
-    (exec_all (world_of own) (stmts_of ss)) e (refl, plain-vector k own place (length ss) s (one_more k (length ss) s p))
+walk_exact names own (Vector place named ∷ ss) k s w ws p u few e =
+    goes-or-traps names (with_vector k) (length ss) true [] (warnings_of (with_vector k) ss) w ws
+    (exec (world_of own) (stmt_of (Vector place named)) s) (exec_all (world_of own) (stmts_of ss)) e
+    (refl, plain-vector k own place named (length ss) s (one_more k (length ss) s p))
     (λ t q r. walk_exact names own ss (with_vector k) t w ws q (same_uses _ _ _ _ ss (sym (length-append k.filled (false ∷ []))) refl u)
     (omega arith) r)
 walk_exact names own (PushBack place v name site z ∷ ss) k s w ws p u few e =
@@ -79,17 +80,17 @@ walk_exact names own (PushBack place v name site z ∷ ss) k s w ws p u few e =
     (refl, plain-push k own place v name site z (length ss) s (one_more k (length ss) s p) u.0 (omega arith))
     (λ t q r. walk_exact names own ss (with_push k v site) t w ws q (same_uses _ _ _ _ ss (sym (length-set k.filled v true)) refl u.1)
     (let more = length-append k.pushes (record { vector = v; site = site } ∷ []) in omega arith) r)
-walk_exact names own (Begin place v name ∷ ss) k s w ws p u few e =
+walk_exact names own (Begin place v name named ∷ ss) k s w ws p u few e =
     goes-or-traps names (with_iterator k v) (length ss) true [] (warnings_of (with_iterator k v) ss) w ws
-    (exec (world_of own) (stmt_of (Begin place v name)) s) (exec_all (world_of own) (stmts_of ss)) e
-    (refl, plain-begin k own place v name (length ss) s (one_more k (length ss) s p) u.0)
+    (exec (world_of own) (stmt_of (Begin place v name named)) s) (exec_all (world_of own) (stmts_of ss)) e
+    (refl, plain-begin k own place named v name (length ss) s (one_more k (length ss) s p) u.0)
     (λ t q r. walk_exact names own ss (with_iterator k v) t w ws q
     (same_uses _ _ _ _ ss refl (sym (length-append k.iterators (record { vector = v; at_element = is_filled k v; since = length k.pushes } ∷ [])))
     u.1) (omega arith) r)
-walk_exact names own (Dereference place it name ∷ ss) k s w ws p u few e =
-    goes-or-traps names (found_valid k it (standing_at k it)) (length ss) (standing_at k it).at_element (warned k (Dereference place it name))
-    (warnings_of (found_valid k it (standing_at k it)) ss) w ws (exec (world_of own) (stmt_of (Dereference place it name)) s)
-    (exec_all (world_of own) (stmts_of ss)) e (plain-star names k own place it name (length ss) s (one_more k (length ss) s p) u.0)
+walk_exact names own (Dereference place it name named ∷ ss) k s w ws p u few e =
+    goes-or-traps names (found_valid k it (standing_at k it)) (length ss) (standing_at k it).at_element (warned k (Dereference place it name named))
+    (warnings_of (found_valid k it (standing_at k it)) ss) w ws (exec (world_of own) (stmt_of (Dereference place it name named)) s)
+    (exec_all (world_of own) (stmts_of ss)) e (plain-star names k own place named it name (length ss) s (one_more k (length ss) s p) u.0)
     (λ t q r. walk_exact names own ss (found_valid k it (standing_at k it)) t w ws q
     (same_uses _ _ _ _ ss refl (sym (length-set k.iterators it (valid k (standing_at k it)))) u.1) (omega arith) r)
 
@@ -125,7 +126,7 @@ begins_plain n few = record {
 }
 
 -- the plainest run of a text of the subset meets the first warning
-pub meets-first : (p : Typed) → UsesDeclared 0 0 p.stmts → length p.stmts ≤ STATEMENTS → (w : Warning) (ws : List Warning)
+pub meets-first : (p : Text) → UsesDeclared 0 0 p.stmts → length p.stmts ≤ STATEMENTS → (w : Warning) (ws : List Warning)
     → warnings_of nothing_known p.stmts ≡ w ∷ ws → IsMet (typed_of p) (warning_of p.names w)
 meets-first p u few w ws e =
     let s : State = empty_state [] [] STATEMENTS in
@@ -141,7 +142,7 @@ no_elements : {A : Type 0} (P : A → Type 0) → All P []
 no_elements P i x lt = absurd (omega arith)
 
 -- a text whose plainest run traps isn't safe
-not_safe : (p : TypedValue) (w : WarningValue) → IsMet p w → Safe p → ⊥
+not_safe : (p : Typed) (w : WarningValue) → IsMet p w → Safe p → ⊥
 not_safe p w met safe =
     safe met.trap (record {
       input = [];
@@ -153,19 +154,19 @@ not_safe p w met safe =
       traps = met.traps;
     })
 
-first_met : (p : TypedValue) (names : List (List ℕ)) (ws : List Warning)
+first_met : (p : Typed) (names : List (List ℕ)) (ws : List Warning)
     → ((w : Warning) (vs : List Warning) → ws ≡ w ∷ vs → IsMet p (warning_of names w)) → (w : WarningValue) (vs : List WarningValue)
     → report_of names ws ≡ w ∷ vs → IsMet p w
 first_met p names [] met w vs e = absurd cc
 first_met p names (v ∷ ws) met w vs e = let same : warning_of names v ≡ w = cc in rw (← same) (met v ws refl)
 
-none_if_safe : (p : TypedValue) (names : List (List ℕ)) (ws : List Warning)
+none_if_safe : (p : Typed) (names : List (List ℕ)) (ws : List Warning)
     → ((w : Warning) (vs : List Warning) → ws ≡ w ∷ vs → IsMet p (warning_of names w)) → Safe p → report_of names ws ≡ []
 none_if_safe p names [] met safe = refl
 none_if_safe p names (w ∷ ws) met safe = absurd (not_safe p (warning_of names w) (met w ws refl) safe)
 
 -- what the analysis warns of is an exact report on the text
-pub is_exact : (p : Typed) → UsesDeclared 0 0 p.stmts → length p.stmts ≤ STATEMENTS
+pub is_exact : (p : Text) → UsesDeclared 0 0 p.stmts → length p.stmts ≤ STATEMENTS
     → IsExact (typed_of p) (report_of p.names (warnings_of nothing_known p.stmts))
 is_exact p u few = record {
   first = first_met (typed_of p) p.names (warnings_of nothing_known p.stmts) (meets-first p u few);

@@ -2,8 +2,8 @@
 use Rattle.std.proofs.Common.{arith, ◌≡◌, ℕ, zero, suc, ◌<◌, if◌then◌else◌, List, [], ◌∷◌, drop, Some, inl, inr, refl, sym}
 use Rattle.std.specs.Prelude.{slice_get}
 use Rattle.std.proofs.lemmas.Option.{slice_get_within}
-use Rattle.sl_syntax.specs.declared.typed.Stmt.{Stmt}
-use Rattle.sl_syntax.specs.declared.typed.Stmt.TheVariants.{Vector, PushBack, Begin, Dereference}
+use Rattle.sl_syntax.specs.declared.subset.Stmt.{Stmt}
+use Rattle.sl_syntax.specs.declared.subset.Stmt.TheVariants.{Vector, PushBack, Begin, Dereference}
 use Rattle.sl_model.specs.Covers.{Warning as WarningValue}
 use Rattle.sl_tool.specs.declared.analysis.Warning.{Warning}
 use Rattle.sl_tool.specs.Means.Analysis.{Known, nothing_known, killers_of, standing_at, fault_in, goes_on, warned, known_after, warnings_of}
@@ -15,10 +15,10 @@ use Rattle.sl_tool.proofs.Causes.{ArePushes, joined, first_behind, rest_behind, 
 
 -- at most one warning tells of a statement
 first_at : (k : Known) (s : Stmt) (i : ℕ) (w : Warning) → slice_get (warned k s) i ≡ Some w → i ≡ 0
-first_at k (Vector place) i w h = absurd cc
+first_at k (Vector place named) i w h = absurd cc
 first_at k (PushBack place v name site z) i w h = absurd cc
-first_at k (Begin place v name) i w h = absurd cc
-first_at k (Dereference place it name) i w h =
+first_at k (Begin place v name named) i w h = absurd cc
+first_at k (Dereference place it name named) i w h =
     told_first place name (fault_in (killers_of k (standing_at k it)) (standing_at k it).at_element) i w h
 
 -- two warnings of the statements from an index on
@@ -63,5 +63,5 @@ in-order stmts names ascend = ascending (report_of names (warnings_of nothing_kn
     let q = told_one names (warnings_of nothing_known stmts) j w b in
     let t = are-in-turn stmts i j p.0 q.0 lt p.1 q.1 in
     rw (p.2, q.2) (earlier_less (warning_of names p.0) (warning_of names q.0)
-    (ascend t.first t.second t.of_first.iterator t.of_second.iterator p.0.name q.0.name p.0.place q.0.place t.order t.of_first.there
-    t.of_second.there)))
+    (ascend t.first t.second t.of_first.iterator t.of_second.iterator p.0.name q.0.name p.0.place q.0.place
+    t.of_first.variable t.of_second.variable t.order t.of_first.there t.of_second.there)))

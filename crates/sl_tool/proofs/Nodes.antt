@@ -3,8 +3,8 @@ use Rattle.std.proofs.Common.{◌≡◌, ℕ, ◌<◌, List, length, Some}
 use Rattle.std.specs.Prelude.{slice_get, Contains}
 use Rattle.sl_base.specs.declared.place.Place.{Place}
 use Rattle.sl_base.specs.Places.{IsPlaceBefore}
-use Rattle.sl_syntax.specs.declared.typed.Stmt.{Stmt}
-use Rattle.sl_syntax.specs.declared.typed.Stmt.TheVariants.{Dereference}
+use Rattle.sl_syntax.specs.declared.subset.Stmt.{Stmt}
+use Rattle.sl_syntax.specs.declared.subset.Stmt.TheVariants.{Dereference}
 use Rattle.sl_tool.specs.declared.analysis.Fault.{Fault}
 use Rattle.sl_tool.specs.declared.analysis.Fault.TheVariants.{InvalidIterator, EndIterator}
 use Rattle.sl_tool.specs.declared.analysis.Warning.{Warning as WarningCode}
@@ -18,7 +18,8 @@ HasCause stmts index EndIterator = Unit {0}
 -- a warning is of the `*` that stands at an index: it has its place and the name of its operand, and what it tells has a cause
 pub record IsOfNode (stmts : List Stmt) (index : ℕ) (w : WarningCode) : Type 0 where
   pub iterator : ℕ
-  pub there : slice_get stmts index ≡ Some (Dereference w.place iterator w.name)
+  pub variable : Place
+  pub there : slice_get stmts index ≡ Some (Dereference w.place iterator w.name variable)
   pub cause : HasCause stmts index w.fault
 
 -- two warnings are of nodes in their order, so there is at most one at each `*`
@@ -31,5 +32,5 @@ pub record AreInTurn (stmts : List Stmt) (v w : WarningCode) : Type 0 where
 
 -- the places of each `*` come in their order
 abbrev pub PlacesAscend : List Stmt → Type 0
-PlacesAscend stmts = (i j it jt name other : ℕ) (p q : Place) → i < j → slice_get stmts i ≡ Some (Dereference p it name)
-    → slice_get stmts j ≡ Some (Dereference q jt other) → IsPlaceBefore p q
+PlacesAscend stmts = (i j it jt name other : ℕ) (p q named also : Place) → i < j → slice_get stmts i ≡ Some (Dereference p it name named)
+    → slice_get stmts j ≡ Some (Dereference q jt other also) → IsPlaceBefore p q

@@ -14,7 +14,7 @@ use Rattle.sl_base.specs.declared.word.Word.TheVariants.{Mark}
 use Rattle.sl_lexer.proofs.CutLaws.{one_tokens, not_both, one_fault}
 use Rattle.sl_grammar.proofs.ProgramLaws as grammar
 use Rattle.sl_syntax.specs.Begins.{IsProgram, Stops, words_in}
-use Rattle.sl_syntax.specs.declared.typed.Typed.{Typed}
+use Rattle.sl_syntax.specs.declared.subset.Text.{Text}
 use Rattle.sl_syntax.specs.Tree.{Program}
 use Rattle.sl_syntax.specs.TreeView.{program_of}
 use Rattle.sl_syntax.proofs.BeginsLaws.{stops_once, not_whole}
@@ -48,17 +48,17 @@ one_body (i ∷ is) (j ∷ js) e =
     let others : is ≡ js = one_body is js rest in
     cc
 
-one_reading : (tokens : List Token) (p q : Typed) → ReadsAs tokens p → ReadsAs tokens q → p ≡ q
+one_reading : (tokens : List Token) (p q : Text) → ReadsAs tokens p → ReadsAs tokens q → p ≡ q
 one_reading tokens p q a b =
     let body : flat_map item_words a.items ++ Mark RightBrace ∷ [] ≡ flat_map item_words b.items ++ Mark RightBrace ∷ [] =
     ap (λ l. drop (length head_words) l) (sym a.words ∙ b.words) in
     a.typed ∙ ap (typed_text tokens) (one_body a.items b.items body) ∙ sym b.typed
 
-is_text : (tokens : List Token) (p : Typed) → ReadsAs tokens p → IsInSubset (words_in tokens)
+is_text : (tokens : List Token) (p : Text) → ReadsAs tokens p → IsInSubset (words_in tokens)
 is_text tokens p reads = record { items = reads.items; are_items = reads.words; allowed = reads.allowed; few = reads.few }
 
 -- tokens that are read don't stop
-reads_or_stops : (tokens others : List Token) (p : Typed) (k : ℕ) → tokens ≡ others → ReadsAs tokens p → Stops IsInSubset (words_in others) k → ⊥
+reads_or_stops : (tokens others : List Token) (p : Text) (k : ℕ) → tokens ≡ others → ReadsAs tokens p → Stops IsInSubset (words_in others) k → ⊥
 reads_or_stops tokens others p k e reads stops = not_whole IsInSubset (words_in others) k stops
     (subst (λ ts. IsInSubset (words_in ts)) e (is_text tokens p reads))
 
@@ -148,14 +148,14 @@ pub one_refusal : (file text line bytes : List ℕ) (status : Status) → Answer
 one_refusal file text line bytes status a b = one_answer file text line bytes Refused status refl a b
 
 -- a text of the subset isn't refused by its line
-built_or_refused : (file text line : List ℕ) (p : Typed) → length text ≤ TEXT_BYTES → IsBuilt text p → IsRefusal file text line → ⊥
+built_or_refused : (file text line : List ℕ) (p : Text) → length text ≤ TEXT_BYTES → IsBuilt text p → IsRefusal file text line → ⊥
 built_or_refused file text _ p short built (by_length long) = omega arith
 built_or_refused file text _ p short (ts, t, reads) (by_token also rule at fault) = not_both text ts rule at t fault
 built_or_refused file text _ p short (ts, t, reads) (by_grammar also us u k stops) =
     program_or_stops us ts k (one_tokens text us ts u t) stops (text_is_program (words_in ts) (is_text ts p reads))
 
 -- the answer to a text of the subset is a report on it
-pub is_reported : (file text bytes : List ℕ) (status : Status) (p : Typed) → length text ≤ TEXT_BYTES → IsBuilt text p
+pub is_reported : (file text bytes : List ℕ) (status : Status) (p : Text) → length text ≤ TEXT_BYTES → IsBuilt text p
     → AnswerTo file text status bytes
     → (r : List Warning) × IsReport p r × (status ≡ status_of r) × (bytes ≡ report_text file p.sites r)
 is_reported file text _ _ p short built (refused x a) = absurd (built_or_refused file text x p short built a)
@@ -163,4 +163,4 @@ is_reported file text _ _ p short (ts, t, reads) (not_built us q parsed k stops)
     absurd (reads_or_stops ts us p k (one_tokens text ts us t parsed.cut) reads stops)
 is_reported file text _ _ p short (ts, t, reads) (reported us q parsed other also r is) =
     let same : other ≡ p = one_reading us other p also (subst (λ l. ReadsAs l p) (one_tokens text ts us t parsed.cut) reads) in
-    (r, rw same at is, refl, ap (λ (x : Typed). report_text file x.sites r) same)
+    (r, rw same at is, refl, ap (λ (x : Text). report_text file x.sites r) same)

@@ -2,10 +2,10 @@
 use Rattle.std.proofs.Common.{◌≡◌, ℕ, zero, suc, ◌+◌, List, [], ◌∷◌, Some, refl, subst, ℤ}
 use Rattle.std.specs.Prelude.{slice_get}
 use Rattle.sl_syntax.specs.Typed.{Function}
-use Rattle.sl_syntax.specs.declared.typed.Stmt.{Stmt}
-use Rattle.sl_syntax.specs.declared.typed.Stmt.TheVariants.{Vector, PushBack, Begin, Dereference}
-use Rattle.sl_syntax.specs.declared.typed.Typed.{Typed as TypedCode}
-use Rattle.sl_syntax.specs.View.{stmts_of, main_of, typed_of}
+use Rattle.sl_syntax.specs.declared.subset.Stmt.{Stmt}
+use Rattle.sl_syntax.specs.declared.subset.Stmt.TheVariants.{Vector, PushBack, Begin, Dereference}
+use Rattle.sl_syntax.specs.declared.subset.Text.{Text}
+use Rattle.sl_syntax.specs.SubsetView.{stmts_of, main_of, typed_of}
 use Rattle.sl_base.specs.declared.limits.TheConstants.{CALLS}
 use Rattle.sl_model.specs.Calls.{call_of}
 use Rattle.sl_model.specs.Library.{lib}
@@ -22,12 +22,12 @@ in_scope : (functions : List Function) (ss : List Stmt) (scalars vectors iterato
     → InStmts (record { shape = lib_shape; makes = lib_makes; functions = functions }) a_number
     (record { scalars = scalars; conts = vectors; iters = iterators }) (stmts_of ss)
 in_scope functions [] scalars vectors iterators u = tt
-in_scope functions (Vector place ∷ ss) scalars vectors iterators u = (((refl, tt), tt), in_scope functions ss scalars (vectors + 1) iterators u)
+in_scope functions (Vector place named ∷ ss) scalars vectors iterators u = (((refl, tt), tt), in_scope functions ss scalars (vectors + 1) iterators u)
 in_scope functions (PushBack place v name site z ∷ ss) scalars vectors iterators u =
     (((refl, u.0), (tt, tt)), in_scope functions ss scalars vectors iterators u.1)
-in_scope functions (Begin place v name ∷ ss) scalars vectors iterators u =
+in_scope functions (Begin place v name named ∷ ss) scalars vectors iterators u =
     ((refl, ((refl, u.0), tt)), in_scope functions ss scalars vectors (iterators + 1) u.1)
-in_scope functions (Dereference place it name ∷ ss) scalars vectors iterators u =
+in_scope functions (Dereference place it name named ∷ ss) scalars vectors iterators u =
     ((refl, ((refl, tt), (u.0, tt))), in_scope functions ss (scalars + 1) vectors iterators u.1)
 
 -- the only function of a text of the subset
@@ -36,7 +36,7 @@ only_main g h k zero scoped e = let same : h ≡ k = cc in subst (IsScopedFuncti
 only_main g h k (suc f) scoped e = absurd cc
 
 -- a text of the subset is scoped
-pub is_scoped : (p : TypedCode) → IsOfText p → IsScoped lib_shape lib_makes (typed_of p)
+pub is_scoped : (p : Text) → IsOfText p → IsScoped lib_shape lib_makes (typed_of p)
 is_scoped p of_text =
     let g = signature_of lib_shape lib_makes (typed_of p) in
     record {
@@ -49,6 +49,6 @@ is_scoped p of_text =
     }
 
 -- and its runs keep the invariant of states
-pub runs-good : (p : TypedCode) → IsOfText p → (input : List ℤ) (picks : List ℕ) (steps : ℕ)
+pub runs-good : (p : Text) → IsOfText p → (input : List ℤ) (picks : List ℕ) (steps : ℕ)
     → IsGoodOut (call_of lib CALLS (typed_of p) (typed_of p).main first_place [] (empty_state input picks steps))
 runs-good p of_text input picks steps = run-good (typed_of p) (is_scoped p of_text) input picks steps

@@ -2,11 +2,11 @@
 use Rattle.std.proofs.Common.{◌≡◌, ℕ, true, false, List, [], ◌∷◌, length, refl, sym, length-append}
 use Rattle.std.specs.Prelude.{unwrap_or, ℤ}
 use Rattle.std.proofs.Math.ListN.{length-set}
-use Rattle.sl_syntax.specs.declared.typed.Stmt.{Stmt}
-use Rattle.sl_syntax.specs.declared.typed.Stmt.TheVariants.{Vector, PushBack, Begin, Dereference}
-use Rattle.sl_syntax.specs.declared.typed.Typed.{Typed}
+use Rattle.sl_syntax.specs.declared.subset.Stmt.{Stmt}
+use Rattle.sl_syntax.specs.declared.subset.Stmt.TheVariants.{Vector, PushBack, Begin, Dereference}
+use Rattle.sl_syntax.specs.declared.subset.Text.{Text}
 use Rattle.sl_syntax.specs.Typed.{Function}
-use Rattle.sl_syntax.specs.View.{stmt_of, stmts_of, typed_of, main_of, brace_site}
+use Rattle.sl_syntax.specs.SubsetView.{stmt_of, stmts_of, typed_of, main_of, brace_site}
 use Rattle.sl_model.specs.Containers.{empty_memory}
 use Rattle.sl_model.specs.Good.{IsAt}
 use Rattle.sl_model.specs.Ends.{Trap}
@@ -36,24 +36,24 @@ pub walk : (names : List (List ℕ)) (own : Oracle) (ss : List Stmt) (k : Known)
     → UsesDeclared (length k.filled) (length k.iterators) ss
     → EndsTold names (warnings_of k ss) (exec_all (world_of own) (stmts_of ss) s)
 walk names own [] k s d u = tt
-walk names own (Vector place ∷ ss) k s d u =
-    goes-on names (with_vector k) true [] (warnings_of (with_vector k) ss) (exec (world_of own) (stmt_of (Vector place)) s)
-    (exec_all (world_of own) (stmts_of ss)) (goes-vector names k own place s d)
+walk names own (Vector place named ∷ ss) k s d u =
+    goes-on names (with_vector k) true [] (warnings_of (with_vector k) ss) (exec (world_of own) (stmt_of (Vector place named)) s)
+    (exec_all (world_of own) (stmts_of ss)) (goes-vector names k own place named s d)
     (λ t e. walk names own ss (with_vector k) t e (same_uses _ _ _ _ ss (sym (length-append k.filled (false ∷ []))) refl u))
 walk names own (PushBack place v name site z ∷ ss) k s d u =
     goes-on names (with_push k v site) true [] (warnings_of (with_push k v site) ss) (exec (world_of own) (stmt_of (PushBack place v name site z)) s)
     (exec_all (world_of own) (stmts_of ss)) (goes-push_back names k own place v name site z s d u.0)
     (λ t e. walk names own ss (with_push k v site) t e (same_uses _ _ _ _ ss (sym (length-set k.filled v true)) refl u.1))
-walk names own (Begin place v name ∷ ss) k s d u =
-    goes-on names (with_iterator k v) true [] (warnings_of (with_iterator k v) ss) (exec (world_of own) (stmt_of (Begin place v name)) s)
-    (exec_all (world_of own) (stmts_of ss)) (goes-begin names k own place v name s d u.0)
+walk names own (Begin place v name named ∷ ss) k s d u =
+    goes-on names (with_iterator k v) true [] (warnings_of (with_iterator k v) ss) (exec (world_of own) (stmt_of (Begin place v name named)) s)
+    (exec_all (world_of own) (stmts_of ss)) (goes-begin names k own place named v name s d u.0)
     (λ t e. walk names own ss (with_iterator k v) t e
     (same_uses _ _ _ _ ss refl
     (sym (length-append k.iterators (record { vector = v; at_element = is_filled k v; since = length k.pushes } ∷ []))) u.1))
-walk names own (Dereference place it name ∷ ss) k s d u =
-    goes-on names (found_valid k it (standing_at k it)) (standing_at k it).at_element (warned k (Dereference place it name))
-    (warnings_of (found_valid k it (standing_at k it)) ss) (exec (world_of own) (stmt_of (Dereference place it name)) s)
-    (exec_all (world_of own) (stmts_of ss)) (goes-star names k own place it name s d u.0)
+walk names own (Dereference place it name named ∷ ss) k s d u =
+    goes-on names (found_valid k it (standing_at k it)) (standing_at k it).at_element (warned k (Dereference place it name named))
+    (warnings_of (found_valid k it (standing_at k it)) ss) (exec (world_of own) (stmt_of (Dereference place it name named)) s)
+    (exec_all (world_of own) (stmts_of ss)) (goes-star names k own place named it name s d u.0)
     (λ t e. walk names own ss (found_valid k it (standing_at k it)) t e
     (same_uses _ _ _ _ ss refl (sym (length-set k.iterators it (valid k (standing_at k it)))) u.1))
 
@@ -101,7 +101,7 @@ finished_told names ws f before start site (Returned v s) h = done_told names ws
 finished_told names ws f before start site (Over e s) h = h
 
 -- each end of a run is told
-pub run_told : (p : Typed) (input : List ℤ) (picks : List ℕ) (steps : ℕ) → UsesDeclared 0 0 p.stmts
+pub run_told : (p : Text) (input : List ℤ) (picks : List ℕ) (steps : ℕ) → UsesDeclared 0 0 p.stmts
     → IsTold p.names (warnings_of nothing_known p.stmts) (run (typed_of p) input picks steps).end
 run_told p input picks steps u =
     let s : State = empty_state input picks steps in
@@ -110,16 +110,16 @@ run_told p input picks steps u =
     (walk p.names (call_of lib 255 (typed_of p)) p.stmts nothing_known s (begins input picks steps) u)
 
 -- the report covers the trap of every run
-pub reports : (p : Typed) → UsesDeclared 0 0 p.stmts → Reports (typed_of p) (report_of p.names (warnings_of nothing_known p.stmts))
+pub reports : (p : Text) → UsesDeclared 0 0 p.stmts → Reports (typed_of p) (report_of p.names (warnings_of nothing_known p.stmts))
 reports p u t h = let told = run_told p h.input h.picks h.steps u in rw h.traps at told
 
 -- no run meets a call without a meaning
-pub meaning : (p : Typed) → UsesDeclared 0 0 p.stmts → HasMeaning (typed_of p)
+pub meaning : (p : Text) → UsesDeclared 0 0 p.stmts → HasMeaning (typed_of p)
 meaning p u input picks steps place e = let told = run_told p input picks steps u in rw e at told
 
 covers_none : (names : List (List ℕ)) (r : List WarningValue) (t : Trap) → r ≡ [] → Covers names r t → ⊥
 covers_none names r t e c = let there = rw e at c.there in cc
 
 -- where the analysis warns of nothing, the text is safe
-pub safe : (p : Typed) → UsesDeclared 0 0 p.stmts → report_of p.names (warnings_of nothing_known p.stmts) ≡ [] → Safe (typed_of p)
+pub safe : (p : Text) → UsesDeclared 0 0 p.stmts → report_of p.names (warnings_of nothing_known p.stmts) ≡ [] → Safe (typed_of p)
 safe p u e t can = covers_none p.names (report_of p.names (warnings_of nothing_known p.stmts)) t e (reports p u t can)

@@ -7,10 +7,12 @@ use Rattle.sl_base.specs.declared.form.Form.TheVariants as f
 use Rattle.sl_base.specs.declared.scalar.Scalar.TheVariants as t
 use Rattle.sl_base.specs.declared.place.Place.{Place}
 use Rattle.sl_base.specs.declared.limits.TheConstants.{ELEMENTS}
-use Rattle.sl_syntax.specs.declared.typed.Stmt.TheVariants.{Vector, PushBack, Begin, Dereference}
-use Rattle.sl_syntax.specs.Typed.{Head, row, operator, star, makes, none, with, literal, iterator as iterator_operand, held, element, call, evaluates}
-use Rattle.sl_syntax.specs.Typed.{set_iterator, set_scalar}
-use Rattle.sl_syntax.specs.View.{stmt_of, free_call, member_call, vector_row, begin_row, push_back_row}
+use Rattle.sl_syntax.specs.declared.subset.Stmt.TheVariants.{Vector, PushBack, Begin, Dereference}
+use Rattle.sl_syntax.specs.declared.typed.callee.Callee.TheVariants as callees
+use Rattle.sl_syntax.specs.declared.typed.head.Head.{Head}
+use Rattle.sl_syntax.specs.declared.typed.operator.Operator.TheVariants as operators
+use Rattle.sl_syntax.specs.Typed.{makes, none, with, literal, iterator as iterator_operand, held, element, call, evaluates, set_iterator, set_scalar}
+use Rattle.sl_syntax.specs.SubsetView.{stmt_of, free_call, member_call, vector_row, begin_row, push_back_row}
 use Rattle.sl_model.specs.Containers.{Memory, Cont, size, cont_at, killer, key_part}
 use Rattle.sl_model.specs.Schedule.{pick}
 use Rattle.sl_model.specs.Edits.{numbers}
@@ -39,10 +41,10 @@ use Rattle.sl_model.proofs.Buried.{dropped-killer}
 abbrev pub world_of : Oracle → World
 world_of own = record { lib = lib; own = own }
 
-pub goes-vector : (names : List (List ℕ)) (k : Known) (own : Oracle) (place : Place) (s : State) → Describes k s.memory s.frame s.iters
-    → Goes names (with_vector k) true [] (exec (world_of own) (stmt_of (Vector place)) s)
-goes-vector names k own place s d = ticked names (with_vector k) true []
-    (declared (world_of own) (makes f.Vector (free_call (row vector_row) place []) none)) s
+pub goes-vector : (names : List (List ℕ)) (k : Known) (own : Oracle) (place named : Place) (s : State) → Describes k s.memory s.frame s.iters
+    → Goes names (with_vector k) true [] (exec (world_of own) (stmt_of (Vector place named)) s)
+goes-vector names k own place named s d = ticked names (with_vector k) true []
+    (declared (world_of own) (makes f.Vector (free_call (callees.Row vector_row) place []) none)) s
     (λ n. (refl, kept-vector k s.memory s.frame s.iters (pick s.picks) d))
 
 -- a vector that is in scope is there, at the location of its number
@@ -71,35 +73,36 @@ pub goes-push_back : (names : List (List ℕ)) (k : Known) (own : Oracle) (place
     → Describes k s.memory s.frame s.iters → v < length k.filled
     → Goes names (with_push k v site) true [] (exec (world_of own) (stmt_of (PushBack place v name site z)) s)
 goes-push_back names k own place v name site z s d lt =
-    let h : Head = member_call push_back_row place site v name in
+    let h : Head = member_call push_back_row place (Some site) v name in
     let c = vector_in k s.memory s.frame s.iters v d lt in
     let at : cont_of s v ≡ v = located s.frame.conts (length k.filled) v d.conts_frame lt in
     ticked names (with_push k v site) true [] (affect (world_of own) (evaluates (call h (with (literal t.Int (pos z)) none)))) s (λ n.
     let now : State = record s { steps = n } in
     subst (λ (out : LibOut). Goes names (with_push k v site) true [] (push_flow h (number (pos z) ∷ []) now out))
-    (sym (ap (λ (j : ℕ). lib (row push_back_row) (record { site = site; object = Some j; values = number (pos z) ∷ [] }) s.memory s.picks) at
+    (sym (ap (λ (j : ℕ). lib (callees.Row push_back_row) (record { site = site; object = Some j; values = number (pos z) ∷ [] }) s.memory s.picks) at
     ∙ lib-push_back s.memory v c.0 (pos z) s.picks site c.1 (d.forms v c.0 c.1)))
     (push_case names k h (number (pos z) ∷ []) now v c.0 (pos z) site d c.1))
 
-pub goes-begin : (names : List (List ℕ)) (k : Known) (own : Oracle) (place : Place) (v name : ℕ) (s : State) → Describes k s.memory s.frame s.iters
-    → v < length k.filled
-    → Goes names (with_iterator k v) true [] (exec (world_of own) (stmt_of (Begin place v name)) s)
-goes-begin names k own place v name s d lt =
-    let h : Head = member_call begin_row place 0 v name in
+pub goes-begin : (names : List (List ℕ)) (k : Known) (own : Oracle) (place named : Place) (v name : ℕ) (s : State)
+    → Describes k s.memory s.frame s.iters → v < length k.filled
+    → Goes names (with_iterator k v) true [] (exec (world_of own) (stmt_of (Begin place v name named)) s)
+goes-begin names k own place named v name s d lt =
+    let h : Head = member_call begin_row place None v name in
     let c = vector_in k s.memory s.frame s.iters v d lt in
     let at : cont_of s v ≡ v = located s.frame.conts (length k.filled) v d.conts_frame lt in
     ticked names (with_iterator k v) true [] (declared (world_of own) (set_iterator (call h none))) s (λ n.
     let now : State = record s { steps = n } in
     subst (λ (out : LibOut). Goes names (with_iterator k v) true []
     (flow_of (settle_call h [] out now) (on_stamp (λ stamp t. Next (new_iterator stamp t)))))
-    (sym (ap (λ (j : ℕ). lib (row begin_row) (record { site = 0; object = Some j; values = [] }) s.memory s.picks) at
+    (sym (ap (λ (j : ℕ). lib (callees.Row begin_row) (record { site = 0; object = Some j; values = [] }) s.memory s.picks) at
     ∙ lib-begin s.memory v c.0 s.picks c.1 (d.forms v c.0 c.1)))
     (refl, kept-begin k s.memory s.frame s.iters v c.0 d c.1))
 
 -- what follows a `*`
 abbrev pub star_flow : Place → ℕ → ℕ → State → LibOut → Flow
 star_flow place name stamp s out =
-    flow_of (then_eval (settle_call (free_call (operator star) place (None ∷ Some name ∷ [])) (iterator stamp ∷ []) out s) (read_at place))
+    flow_of (then_eval (settle_call (free_call (callees.Operator operators.Dereference) place (None ∷ Some name ∷ [])) (iterator stamp ∷ []) out s)
+    (read_at place))
     (on_number (λ z now. Next (new_scalar t.Int (Some z) now)))
 
 -- a trap at a `*`
@@ -172,11 +175,11 @@ star_invalid : (names : List (List ℕ)) (k : Known) (place : Place) (name it st
     → Goes names (found_valid k it standing) standing.at_element (dereferenced k place name standing) (star_flow place name stamp s (trapped 1 1))
 star_invalid names k place name it stamp site standing s e h = rw e (told_invalid names place name (killers_of k standing) standing.at_element site h)
 
-pub goes-star : (names : List (List ℕ)) (k : Known) (own : Oracle) (place : Place) (it name : ℕ) (s : State) → Describes k s.memory s.frame s.iters
-    → it < length k.iterators
+pub goes-star : (names : List (List ℕ)) (k : Known) (own : Oracle) (place named : Place) (it name : ℕ) (s : State)
+    → Describes k s.memory s.frame s.iters → it < length k.iterators
     → Goes names (found_valid k it (standing_at k it)) (standing_at k it).at_element (dereferenced k place name (standing_at k it))
-    (exec (world_of own) (stmt_of (Dereference place it name)) s)
-goes-star names k own place it name s d lt =
+    (exec (world_of own) (stmt_of (Dereference place it name named)) s)
+goes-star names k own place named it name s d lt =
     let standing : Standing = standing_at k it in
     let known = there k.iterators it lt in
     let stamp = there s.iters it (let e = d.iterators in omega arith) in
@@ -185,10 +188,12 @@ goes-star names k own place it name s d lt =
     let is : standing ≡ known.0 = get_or-there k.iterators it known.0 (record { vector = 0; at_element = true; since = 0 }) known.1 in
     ticked names (found_valid k it standing) standing.at_element (dereferenced k place name standing)
     (declared (world_of own)
-    (set_scalar t.Int (held (element (free_call (operator star) place (None ∷ Some name ∷ [])) (with (iterator_operand it) none))))) s (λ n.
+    (set_scalar t.Int (held (element (free_call (callees.Operator operators.Dereference) place (None ∷ Some name ∷ []))
+    (with (iterator_operand it) none))))) s (λ n.
     let now : State = record s { steps = n } in
     subst (λ (x : ℕ). Goes names (found_valid k it standing) standing.at_element (dereferenced k place name standing)
-    (star_flow place name x now (lib (operator star) (record { site = 0; object = None; values = iterator x ∷ [] }) s.memory s.picks)))
+    (star_flow place name x now
+    (lib (callees.Operator operators.Dereference) (record { site = 0; object = None; values = iterator x ∷ [] }) s.memory s.picks)))
     (sym same)
     (⊎_elim
     (λ (stays : Stays s.memory stamp.0 (is_filled k standing.vector) (killers_of k standing) standing).

@@ -4,9 +4,9 @@ use Rattle.std.specs.Prelude.{◌≡◌, ◌↔◌, ◌⊎◌, ℕ, ◌<◌, Lis
 use Rattle.sl_base.specs.declared.failures.TheConstants.{INVALID_ITERATOR, END_ITERATOR}
 use Rattle.sl_base.specs.declared.limits.TheConstants.{STATEMENTS}
 use Rattle.sl_base.specs.declared.place.Place.{Place}
-use Rattle.sl_syntax.specs.declared.typed.Stmt.{Stmt}
-use Rattle.sl_syntax.specs.declared.typed.Stmt.TheVariants.{PushBack, Dereference}
-use Rattle.sl_syntax.specs.declared.typed.Typed.{Typed as TypedCode}
+use Rattle.sl_syntax.specs.declared.subset.Stmt.{Stmt}
+use Rattle.sl_syntax.specs.declared.subset.Stmt.TheVariants.{PushBack, Dereference}
+use Rattle.sl_syntax.specs.declared.subset.Text.{Text}
 use Rattle.sl_syntax.specs.Typed.{Typed}
 use Rattle.sl_model.specs.Ends.{Trapped, Trap, Finish}
 use Rattle.sl_model.specs.Run.{run}
@@ -43,17 +43,18 @@ abbrev pub Ascend : List ℕ → Type 0
 Ascend ns = (i j a b : ℕ) → i < j → slice_get ns i ≡ Some a → slice_get ns j ≡ Some b → a < b
 
 -- a site that is numbered in the text: the place with this number is that of a `push_back` before an index
-pub record IsSiteBefore (p : TypedCode) (index site : ℕ) : Type 0 where
+pub record IsSiteBefore (p : Text) (index site : ℕ) : Type 0 where
   pub push : IsPushBefore p.stmts index site
   pub listed : slice_get p.sites site ≡ Some push.place
 
 -- A warning of a report on a text is of one of its nodes, a `*` at the warning's place whose operand, argument 1, has its name. Its kind
 -- is that of an invalid iterator, or of one at the end. The first has killers; they ascend, and each is a site of the text before the node.
-pub record IsFounded (p : TypedCode) (w : Warning) : Type 0 where
+pub record IsFounded (p : Text) (w : Warning) : Type 0 where
   pub index : ℕ
   pub iterator : ℕ
   pub name : ℕ
-  pub there : slice_get p.stmts index ≡ Some (Dereference w.place iterator name)
+  pub variable : Place
+  pub there : slice_get p.stmts index ≡ Some (Dereference w.place iterator name variable)
   pub named : w.name ≡ slice_get p.names name
   pub call : w.call ≡ codes "*"
   pub argument : w.argument ≡ 1

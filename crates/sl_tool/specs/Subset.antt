@@ -12,11 +12,11 @@ use Rattle.sl_base.specs.declared.token.Token.{Token}
 use Rattle.sl_base.specs.declared.word.Word.{Word}
 use Rattle.sl_base.specs.declared.word.Word.TheVariants.{Name, Lib, Key, Number, Mark}
 use Rattle.sl_base.specs.Tokens.{Tokens}
-use Rattle.sl_syntax.specs.declared.typed.Stmt.{Stmt}
-use Rattle.sl_syntax.specs.declared.typed.Stmt.TheVariants.{Vector, PushBack, Begin, Dereference}
-use Rattle.sl_syntax.specs.declared.typed.Typed.{Typed}
+use Rattle.sl_syntax.specs.declared.subset.Stmt.{Stmt}
+use Rattle.sl_syntax.specs.declared.subset.Stmt.TheVariants.{Vector, PushBack, Begin, Dereference}
+use Rattle.sl_syntax.specs.declared.subset.Text.{Text}
 use Rattle.sl_syntax.specs.Begins.{words_in}
-use Rattle.sl_syntax.specs.View.{is_vector}
+use Rattle.sl_syntax.specs.SubsetView.{is_vector}
 
 -- a statement by its names and its number
 pub data Item : Type 0 where
@@ -91,12 +91,13 @@ place_in tokens k = slice_index_or (map (λ (t : Token). t.place) tokens) k (rec
 
 -- the statement whose tokens begin these, in numbers
 abbrev pub typed_item : Scope → List Token → Item → Stmt
-typed_item s tokens (vector_item name) = Vector (place_in tokens 0)
+typed_item s tokens (vector_item name) = Vector (place_in tokens 0) (place_in tokens 4)
 typed_item s tokens (push_back_item vector number) =
     PushBack (place_in tokens 2) (number_of_name s.vectors vector) (number_of_name s.names vector) s.pushes number
-typed_item s tokens (begin_item name vector) = Begin (place_in tokens 5) (number_of_name s.vectors vector) (number_of_name s.names vector)
+typed_item s tokens (begin_item name vector) =
+    Begin (place_in tokens 5) (number_of_name s.vectors vector) (number_of_name s.names vector) (place_in tokens 1)
 typed_item s tokens (dereference_item name iterator) =
-    Dereference (place_in tokens 3) (number_of_name s.iterators iterator) (number_of_name s.names iterator)
+    Dereference (place_in tokens 3) (number_of_name s.iterators iterator) (number_of_name s.names iterator) (place_in tokens 1)
 
 -- the statements whose tokens begin these, in numbers
 abbrev pub typed_items : Scope → List Token → List Item → List Stmt
@@ -116,7 +117,7 @@ after_items s [] = s
 after_items s (i ∷ is) = after_items (after_item s i) is
 
 -- the typed text of these statements, whose tokens these are: the closing brace is the last site, where it ends a vector
-abbrev pub typed_text : List Token → List Item → Typed
+abbrev pub typed_text : List Token → List Item → Text
 typed_text tokens items =
     let body : List Token = drop (length head_words) tokens in
     let stmts : List Stmt = typed_items no_scope body items in
@@ -129,7 +130,7 @@ typed_text tokens items =
     }
 
 -- these tokens are a text of the subset, and this is the text in numbers
-pub record ReadsAs (tokens : List Token) (p : Typed) : Type 0 where
+pub record ReadsAs (tokens : List Token) (p : Text) : Type 0 where
   pub items : List Item
   pub words : words_in tokens ≡ text_words items
   pub allowed : AllAllowed no_scope items
@@ -137,7 +138,7 @@ pub record ReadsAs (tokens : List Token) (p : Typed) : Type 0 where
   pub typed : p ≡ typed_text tokens items
 
 -- the text has tokens, and they are a text of the subset, which is this in numbers
-abbrev pub IsBuilt : List ℕ → Typed → Type 0
+abbrev pub IsBuilt : List ℕ → Text → Type 0
 IsBuilt text p = (tokens : List Token) × Tokens text tokens × ReadsAs tokens p
 
 -- the words are a text of the subset
@@ -148,5 +149,5 @@ pub record IsInSubset (words : List Word) : Type 0 where
   pub few : length items ≤ STATEMENTS
 
 -- this is a text of the subset in numbers
-abbrev pub IsOfText : Typed → Type 0
+abbrev pub IsOfText : Text → Type 0
 IsOfText p = (text : List ℕ) × IsBuilt text p

@@ -13,7 +13,7 @@ ghost use Rattle.sl_tool.specs.Means.Analysis.{
 };
 
 use sl_base::{Items, Place, Site};
-use sl_syntax::typed::Stmt;
+use sl_syntax::subset::Stmt;
 use std::alloc::{AllocError, Global};
 
 /// What may be wrong with an iterator that is dereferenced.
@@ -247,6 +247,7 @@ impl Known {
                 place,
                 iterator,
                 name,
+                ..
             } => self.warn_at(alloc, *place, *name, usize::from(*iterator), report),
             _ => Ok(()),
         }

@@ -15,7 +15,7 @@ use crate::refusal::refusal_line;
 use crate::reporting::report_on;
 use crate::status::Status;
 use sl_base::Items;
-use sl_syntax::typed::Typed;
+use sl_syntax::subset::Text;
 use sl_warnings::{Report, render};
 use std::alloc::{AllocError, Global};
 
@@ -40,7 +40,7 @@ pub fn check(
 }
 
 // The report on the text of the file that this is in numbers.
-fn report(alloc: Global, file: &str, p: &Typed) -> Result<(Status, Items<u8>), AllocError>
+fn report(alloc: Global, file: &str, p: &Text) -> Result<(Status, Items<u8>), AllocError>
     requires { IsOfText p.now }
     ensures { IfOk result (λ a. (r : List WarningValue) ×
         IsReport p.now r × (a.0 ≡ status_of r) × (a.1 ≡ report_text file.now p.now.sites r)) }

@@ -5,8 +5,8 @@ ghost use Rattle.sl_model.specs.Covers.{Warning};
 ghost use Rattle.sl_model.specs.Scoped.{IsScoped};
 ghost use Rattle.sl_model.specs.Shapes.{lib_makes, lib_shape};
 ghost use Rattle.sl_model.specs.Texts.{report_text};
-ghost use Rattle.sl_syntax.specs.View.{typed_of};
-ghost use Rattle.sl_syntax.specs.declared.typed.Typed.{Typed};
+ghost use Rattle.sl_syntax.specs.SubsetView.{typed_of};
+ghost use Rattle.sl_syntax.specs.declared.subset.Text.{Text};
 ghost use Rattle.sl_tool.specs.Answers.{AnswerTo, IsReport, status_of};
 ghost use Rattle.sl_tool.specs.Subset.{IsBuilt, IsOfText};
 ghost use Rattle.sl_tool.specs.declared.status.Status.{Status};
@@ -20,12 +20,12 @@ pub fn one_refusal()
 
 /// The answer to a text of the subset that isn't too long is a report on it.
 pub fn each_text_is_reported()
-    ensures { (file text bytes : List ℕ) (status : Status) (p : Typed) →
+    ensures { (file text bytes : List ℕ) (status : Status) (p : Text) →
         length text ≤ TEXT_BYTES → IsBuilt text p → AnswerTo file text status bytes →
         (r : List Warning) × IsReport p r × (status ≡ status_of r) × (bytes ≡ report_text file p.sites r) }
 {}
 
 /// In a text of the subset each variable that is used is in scope.
 pub fn each_text_is_scoped()
-    ensures { (p : Typed) → IsOfText p → IsScoped lib_shape lib_makes (typed_of p) }
+    ensures { (p : Text) → IsOfText p → IsScoped lib_shape lib_makes (typed_of p) }
 {}

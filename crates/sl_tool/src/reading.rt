@@ -16,14 +16,14 @@ pub mod tokens;
 use body::{HEAD_TOKENS, body_of, read_body};
 use read::Read;
 use sl_base::Token;
-use sl_syntax::typed::Typed;
+use sl_syntax::subset::Text;
 use std::alloc::{AllocError, Global};
 use stopping::stop_in_head;
 use tokens::place_in;
 
 /// The text in numbers, where the tokens are a text of the subset; otherwise the number of the token at which they
 /// stop.
-pub fn read_text(alloc: Global, tokens: &[Token]) -> Result<Read<Typed>, AllocError>
+pub fn read_text(alloc: Global, tokens: &[Token]) -> Result<Read<Text>, AllocError>
     ensures { IfOk result (λ read. MatchRead read (ReadsAs tokens.now) (Stops IsInSubset (words_in tokens.now))) }
 {
     let Some(body) = body_of(tokens) else {

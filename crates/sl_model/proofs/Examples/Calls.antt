@@ -6,9 +6,9 @@ use Rattle.sl_base.specs.declared.form.Form.TheVariants as f
 use Rattle.sl_syntax.specs.declared.operator.Access.TheVariants as a
 use Rattle.sl_syntax.specs.declared.operator.Arithmetic.TheVariants as o
 use Rattle.sl_syntax.specs.declared.operator.Comparison.TheVariants as c
-use Rattle.sl_syntax.specs.Typed.{literal, held, arithmetic, comparison, own_call, container, reference, scalar, none, with, test, text, number}
-use Rattle.sl_syntax.specs.Typed.{reads, prints, evaluates, assigns, updates, set_scalar, block, declares, choice, gives_back, does, by_value}
-use Rattle.sl_syntax.specs.Typed.{by_reference, a_container, Typed}
+use Rattle.sl_syntax.specs.declared.typed.parameter.ParameterKind.TheVariants as parameter
+use Rattle.sl_syntax.specs.Typed.{literal, held, arithmetic, comparison, own_call, container, handed_scalar, scalar, none, with, test, text, number}
+use Rattle.sl_syntax.specs.Typed.{reads, prints, evaluates, assigns, updates, set_scalar, block, declares, choice, gives_back, does, Typed}
 use Rattle.sl_model.specs.Ends.{Done, Trapped, OutOfSteps, Language}
 use Rattle.sl_model.specs.Run.{run}
 use Rattle.sl_model.proofs.Examples.Short.{at, all, vector, push, start, deref, main_of, text_of, finish, trap}
@@ -25,8 +25,10 @@ use Rattle.sl_model.proofs.Examples.Short.{at, all, vector, push, start, deref, 
 abbrev pub recursion : Typed
 recursion = text_of (
     record {
-      parameters = by_value t.Int ∷ [];
-      result = Some (by_value t.Int);
+      name = [];
+      parameters = parameter.Value t.Int ∷ [];
+      result = Some (parameter.Value t.Int);
+      variables = [];
       close = at 4 1;
       body = block None (all (
           choice (test (comparison c.LessEqual (at 2 9) (held (scalar 0 (at 2 7))) (literal t.Int (pos 1))))
@@ -66,8 +68,10 @@ recursion_of_13 = refl
 abbrev pub too_deep : Typed
 too_deep = text_of (
     record {
-      parameters = by_value t.Int ∷ [];
-      result = Some (by_value t.Int);
+      name = [];
+      parameters = parameter.Value t.Int ∷ [];
+      result = Some (parameter.Value t.Int);
+      variables = [];
       close = at 4 1;
       body = block None (all (
           choice (test (comparison c.Equal (at 2 9) (held (scalar 0 (at 2 7))) (literal t.Int (pos 0))))
@@ -107,8 +111,10 @@ too_deep_in_five_steps = refl
 abbrev pub references : Typed
 references = text_of (
     record {
-      parameters = by_reference t.Int ∷ by_reference t.Int ∷ [];
+      name = [];
+      parameters = parameter.Reference t.Int ∷ parameter.Reference t.Int ∷ [];
       result = None;
+      variables = [];
       close = at 5 1;
       body = block None (all (
           declares (set_scalar t.Int (held (scalar 0 (at 2 11)))) ∷
@@ -119,7 +125,7 @@ references = text_of (
     main_of None (
     declares (set_scalar t.Int (literal t.Int (pos 1))) ∷
     declares (set_scalar t.Int (literal t.Int (pos 2))) ∷
-    does (evaluates (own_call 0 (at 9 3) (with (reference 0) (with (reference 1) none)))) ∷
+    does (evaluates (own_call 0 (at 9 3) (with (handed_scalar 0) (with (handed_scalar 1) none)))) ∷
     does (prints (number (held (scalar 0 (at 10 16))) ∷ text (codes " ") ∷ number (held (scalar 1 (at 10 28))) ∷ [])) ∷
     []) (at 11 1) ∷ []) 1 [] []
 
@@ -139,8 +145,10 @@ references_swap = refl
 abbrev pub by_values : Typed
 by_values = text_of (
     record {
-      parameters = by_value t.Int ∷ by_value t.Int ∷ [];
-      result = Some (by_value t.Int);
+      name = [];
+      parameters = parameter.Value t.Int ∷ parameter.Value t.Int ∷ [];
+      result = Some (parameter.Value t.Int);
+      variables = [];
       close = at 4 1;
       body = block None (all (
           does (updates o.Add t.Int t.Int (at 2 5) (scalar 0 (at 2 3)) (held (scalar 1 (at 2 8)))) ∷
@@ -172,18 +180,20 @@ by_values_prints = refl
 abbrev pub returns_early : Typed
 returns_early = text_of (
     record {
-      parameters = by_reference t.Int ∷ [];
+      name = [];
+      parameters = parameter.Reference t.Int ∷ [];
       result = None;
+      variables = [];
       close = at 5 1;
       body = block None (all (
           choice (test (comparison c.Greater (at 2 9) (held (scalar 0 (at 2 7))) (literal t.Int (pos 9)))) (gives_back None) ∷
           does (updates o.Multiply t.Int t.Int (at 3 5) (scalar 0 (at 3 3)) (literal t.Int (pos 2))) ∷
-          does (evaluates (own_call 0 (at 4 3) (with (reference 0) none))) ∷
+          does (evaluates (own_call 0 (at 4 3) (with (handed_scalar 0) none))) ∷
           []));
     } ∷
     main_of None (
     declares (set_scalar t.Int (literal t.Int (pos 3))) ∷
-    does (evaluates (own_call 0 (at 8 3) (with (reference 0) none))) ∷
+    does (evaluates (own_call 0 (at 8 3) (with (handed_scalar 0) none))) ∷
     gives_back (Some (held (scalar 0 (at 9 10)))) ∷
     []) (at 10 1) ∷ []) 1 [] []
 
@@ -204,8 +214,10 @@ returns_early_gives_12 = refl
 abbrev pub right_first : Typed
 right_first = text_of (
     record {
-      parameters = a_container a.Whole f.Vector ∷ [];
-      result = Some (by_value t.Int);
+      name = [];
+      parameters = parameter.Container a.Whole f.Vector ∷ [];
+      result = Some (parameter.Value t.Int);
+      variables = [];
       close = at 4 1;
       body = block None (all (
           push (at 2 5) 0 0 0 (pos 9) ∷

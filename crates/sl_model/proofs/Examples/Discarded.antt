@@ -3,8 +3,10 @@ use Rattle.std.specs.Prelude.{◌≡◌, refl, [], ◌∷◌, Some, None, pos, c
 use Rattle.sl_base.specs.declared.scalar.Scalar.TheVariants as t
 use Rattle.sl_syntax.specs.declared.operator.Arithmetic.TheVariants as o
 use Rattle.sl_syntax.specs.declared.operator.Comparison.TheVariants as c
-use Rattle.sl_syntax.specs.Typed.{rise, prefix, literal, held, arithmetic, comparison, increment, scalar, test, evaluates, unset_scalar, set_scalar}
-use Rattle.sl_syntax.specs.Typed.{declares, does, does_first, for, Typed}
+use Rattle.sl_syntax.specs.declared.typed.step.Fix.TheVariants.{Prefix}
+use Rattle.sl_syntax.specs.declared.typed.step.Step.TheVariants.{Up}
+use Rattle.sl_syntax.specs.Typed.{literal, held, arithmetic, comparison, increment, scalar, test, evaluates, unset_scalar, set_scalar, declares, does}
+use Rattle.sl_syntax.specs.Typed.{does_first, for, Typed}
 use Rattle.sl_model.specs.Ends.{Done, Language, Trapped}
 use Rattle.sl_model.specs.Run.{run}
 use Rattle.sl_model.proofs.Examples.Short.{at, vector, push, start, deref, alone, finish, trap}
@@ -60,10 +62,10 @@ abbrev pub name_in_for : Typed
 name_in_for = alone None (
     declares (unset_scalar t.Int) ∷
     declares (set_scalar t.Int (literal t.Int (pos 0))) ∷
-    for (does_first (evaluates (held (scalar 0 (at 4 8)))))
+    for 0 (does_first (evaluates (held (scalar 0 (at 4 8)))))
     (test (comparison c.Less (at 4 13) (held (scalar 1 (at 4 11))) (literal t.Int (pos 2))))
     (Some (evaluates (held (scalar 0 (at 4 18)))))
-    (does (evaluates (increment rise prefix t.Int (at 4 21) (scalar 1 (at 4 23))))) ∷
+    (does (evaluates (increment Up Prefix t.Int (at 4 21) (scalar 1 (at 4 23))))) ∷
     []) (at 5 1) [] []
 
 -- nor is it read in the first and the last part of a `for`

@@ -4,9 +4,12 @@ use Rattle.std.specs.Fmt.{digits}
 use Rattle.sl_base.specs.declared.scalar.Scalar.TheVariants as t
 use Rattle.sl_syntax.specs.declared.operator.Arithmetic.TheVariants as o
 use Rattle.sl_syntax.specs.declared.operator.Comparison.TheVariants as c
-use Rattle.sl_syntax.specs.Typed.{rise, fall, prefix, literal, held, convert, arithmetic, comparison, increment, own_call, reference, scalar, none}
-use Rattle.sl_syntax.specs.Typed.{with, test, number, reads, prints, evaluates, assigns, updates, unset_scalar, set_scalar, block, declares, choice}
-use Rattle.sl_syntax.specs.Typed.{while, gives_back, does, by_value, by_reference, Stmt, Typed}
+use Rattle.sl_syntax.specs.declared.typed.parameter.ParameterKind.TheVariants as parameter
+use Rattle.sl_syntax.specs.declared.typed.step.Fix.TheVariants.{Prefix}
+use Rattle.sl_syntax.specs.declared.typed.step.Step.TheVariants.{Up, Down}
+use Rattle.sl_syntax.specs.Typed.{literal, held, convert, arithmetic, comparison, increment, own_call, handed_scalar, scalar, none, with, test}
+use Rattle.sl_syntax.specs.Typed.{number, reads, prints, evaluates, assigns, updates, unset_scalar, set_scalar, block, declares, choice, while}
+use Rattle.sl_syntax.specs.Typed.{gives_back, does, Stmt, Typed}
 use Rattle.sl_model.specs.Ends.{Done, OutOfSteps, Language}
 use Rattle.sl_model.specs.Run.{run}
 use Rattle.sl_model.proofs.Examples.Short.{at, all, vector, push, start, deref, main_of, text_of, alone, finish}
@@ -16,7 +19,7 @@ abbrev no_value_turn : Stmt
 no_value_turn = block None (all (
     choice (test (comparison c.Equal (at 3 11) (held (scalar 0 (at 3 9))) (literal t.Int (pos 3))))
     (gives_back (Some (held (scalar 0 (at 3 24))))) ∷
-    does (evaluates (increment fall prefix t.Int (at 4 5) (scalar 0 (at 4 7)))) ∷
+    does (evaluates (increment Down Prefix t.Int (at 4 5) (scalar 0 (at 4 7)))) ∷
     []))
 
 -- int f(int n) {
@@ -37,16 +40,20 @@ no_value_turn = block None (all (
 abbrev pub no_value : Typed
 no_value = text_of (
     record {
-      parameters = by_value t.Int ∷ [];
-      result = Some (by_value t.Int);
+      name = [];
+      parameters = parameter.Value t.Int ∷ [];
+      result = Some (parameter.Value t.Int);
+      variables = [];
       close = at 6 1;
       body = block None (all (
-          while (test (comparison c.Greater (at 2 12) (held (scalar 0 (at 2 10))) (literal t.Int (pos 0)))) no_value_turn ∷
+          while 0 (test (comparison c.Greater (at 2 12) (held (scalar 0 (at 2 10))) (literal t.Int (pos 0)))) no_value_turn ∷
           []));
     } ∷
     record {
-      parameters = by_value t.Int ∷ [];
-      result = Some (by_value t.Bool);
+      name = [];
+      parameters = parameter.Value t.Int ∷ [];
+      result = Some (parameter.Value t.Bool);
+      variables = [];
       close = at 9 1;
       body = block None (all (
           gives_back (Some (convert t.Bool (own_call 0 (at 8 10) (with (held (scalar 0 (at 8 12))) none)))) ∷
@@ -84,16 +91,20 @@ no_value_faults = refl
 abbrev pub unset_by_reference : Typed
 unset_by_reference = text_of (
     record {
-      parameters = by_reference t.Int ∷ [];
+      name = [];
+      parameters = parameter.Reference t.Int ∷ [];
       result = None;
+      variables = [];
       close = at 3 1;
       body = block None (all (
           does (assigns (scalar 0 (at 2 3)) (literal t.Int (pos 3))) ∷
           []));
     } ∷
     record {
-      parameters = by_reference t.Int ∷ [];
+      name = [];
+      parameters = parameter.Reference t.Int ∷ [];
       result = None;
+      variables = [];
       close = at 6 1;
       body = block None (all (
           does (updates o.Add t.Int t.Int (at 5 5) (scalar 0 (at 5 3)) (literal t.Int (pos 1))) ∷
@@ -101,10 +112,10 @@ unset_by_reference = text_of (
     } ∷
     main_of None (
     declares (unset_scalar t.Int) ∷
-    does (evaluates (own_call 0 (at 9 3) (with (reference 0) none))) ∷
+    does (evaluates (own_call 0 (at 9 3) (with (handed_scalar 0) none))) ∷
     declares (unset_scalar t.Int) ∷
     does (prints (number (held (scalar 0 (at 11 16))) ∷ [])) ∷
-    does (evaluates (own_call 1 (at 12 3) (with (reference 1) none))) ∷
+    does (evaluates (own_call 1 (at 12 3) (with (handed_scalar 1) none))) ∷
     []) (at 13 1) ∷ []) 2 [] []
 
 -- to hand b to a reference is no read of it; `+=` in the callee is one
@@ -127,7 +138,7 @@ through_iterator = alone (Some 1) (
     push (at 3 5) 0 0 0 (pos 21) ∷
     start (at 4 15) 0 0 ∷
     does (updates o.Add t.Int t.Int (at 5 7) (deref (at 5 3) 0 1) (held (deref (at 5 10) 0 1))) ∷
-    does (evaluates (increment rise prefix t.Int (at 6 3) (deref (at 6 5) 0 1))) ∷
+    does (evaluates (increment Up Prefix t.Int (at 6 3) (deref (at 6 5) 0 1))) ∷
     does (prints (number (held (deref (at 7 16) 0 1)) ∷ [])) ∷
     does (updates o.Multiply t.Int t.Int (at 8 7) (deref (at 8 3) 0 1) (literal t.Int (pos 99999999))) ∷
     []) (at 9 1) (at 3 5 ∷ at 9 1 ∷ []) (codes "v" ∷ codes "it" ∷ [])

@@ -4,10 +4,13 @@ use Rattle.std.specs.Fmt.{digits}
 use Rattle.sl_base.specs.declared.scalar.Scalar.TheVariants as t
 use Rattle.sl_syntax.specs.declared.operator.Arithmetic.TheVariants as o
 use Rattle.sl_syntax.specs.declared.operator.Comparison.TheVariants as c
-use Rattle.sl_syntax.specs.Typed.{row, rise, fall, prefix, postfix, literal, held, arithmetic, comparison, increment, call, scalar, none, with, read}
-use Rattle.sl_syntax.specs.Typed.{test, always, number, prints, evaluates, assigns, updates, moves_to, unset_scalar, set_scalar, no_first}
-use Rattle.sl_syntax.specs.Typed.{declares_first, does_first, block, declares, choice, while, for, range_for, break, continue, gives_back, does, Stmt}
-use Rattle.sl_syntax.specs.Typed.{Typed}
+use Rattle.sl_syntax.specs.declared.typed.callee.Callee.TheVariants as callees
+use Rattle.sl_syntax.specs.declared.typed.element.Taken.TheVariants as taken
+use Rattle.sl_syntax.specs.declared.typed.step.Fix.TheVariants.{Prefix, Postfix}
+use Rattle.sl_syntax.specs.declared.typed.step.Step.TheVariants.{Up, Down}
+use Rattle.sl_syntax.specs.Typed.{literal, held, arithmetic, comparison, increment, call, scalar, none, with, read, test, always, number, prints}
+use Rattle.sl_syntax.specs.Typed.{evaluates, assigns, updates, moves_to, unset_scalar, set_scalar, no_first, declares_first, does_first, block}
+use Rattle.sl_syntax.specs.Typed.{declares, choice, while, for, range_for, break, continue, gives_back, does, Stmt, Typed}
 use Rattle.sl_model.specs.Ends.{Done, Trapped, OutOfSteps, NoMeaning}
 use Rattle.sl_model.specs.Run.{run}
 use Rattle.sl_model.proofs.Examples.Short.{at, head, all, vector, push, start, deref, main_of, text_of, alone, finish, trap}
@@ -15,7 +18,7 @@ use Rattle.sl_model.proofs.Examples.Short.{at, head, all, vector, push, start, d
 -- the body of the first loop of `no_test`
 abbrev no_test_turn : Stmt
 no_test_turn = block None (all (
-    does (evaluates (increment rise prefix t.Int (at 4 5) (scalar 0 (at 4 7)))) ∷
+    does (evaluates (increment Up Prefix t.Int (at 4 5) (scalar 0 (at 4 7)))) ∷
     choice (test (comparison c.Equal (at 5 11) (held (scalar 0 (at 5 9))) (literal t.Int (pos 4)))) break ∷
     []))
 
@@ -31,9 +34,9 @@ abbrev pub no_test : Typed
 no_test = text_of (
     main_of None (
     declares (set_scalar t.Int (literal t.Int (pos 0))) ∷
-    for no_first always None no_test_turn ∷
-    for (does_first (assigns (scalar 0 (at 7 8)) (literal t.Int (pos 10)))) always
-    (Some (evaluates (increment fall postfix t.Int (at 7 19) (scalar 0
+    for 0 no_first always None no_test_turn ∷
+    for 1 (does_first (assigns (scalar 0 (at 7 8)) (literal t.Int (pos 10)))) always
+    (Some (evaluates (increment Down Postfix t.Int (at 7 19) (scalar 0
     (at 7 18))))) (choice (test (comparison c.Less (at 7 29) (held (scalar 0 (at 7 27))) (literal t.Int (pos 5)))) (gives_back (Some (held
     (scalar 0 (at 7 41)))))) ∷
     []) (at 8 1) ∷ []) 0 [] []
@@ -56,9 +59,9 @@ nested_inner = block None (all (
 abbrev nested_outer : Stmt
 nested_outer = block None (all (
     choice (test (comparison c.Equal (at 4 11) (held (scalar 1 (at 4 9))) (literal t.Int (pos 1)))) continue ∷
-    for (declares_first (set_scalar t.Int (literal t.Int (pos 0))))
+    for 1 (declares_first (set_scalar t.Int (literal t.Int (pos 0))))
     (test (comparison c.Less (at 5 23) (held (scalar 2 (at 5 21))) (literal t.Int (pos 4))))
-    (Some (evaluates (increment rise prefix t.Int (at 5 28) (scalar 2 (at 5 30))))) nested_inner ∷
+    (Some (evaluates (increment Up Prefix t.Int (at 5 28) (scalar 2 (at 5 30))))) nested_inner ∷
     []))
 
 -- int main() {
@@ -75,9 +78,9 @@ nested_outer = block None (all (
 abbrev pub nested : Typed
 nested = alone None (
     declares (set_scalar t.Int (literal t.Int (pos 0))) ∷
-    for (declares_first (set_scalar t.Int (literal t.Int (pos 0))))
+    for 0 (declares_first (set_scalar t.Int (literal t.Int (pos 0))))
     (test (comparison c.Less (at 3 21) (held (scalar 1 (at 3 19))) (literal t.Int (pos 4))))
-    (Some (evaluates (increment rise prefix t.Int (at 3 26) (scalar 1 (at 3 28))))) nested_outer ∷
+    (Some (evaluates (increment Up Prefix t.Int (at 3 26) (scalar 1 (at 3 28))))) nested_outer ∷
     gives_back (Some (held (scalar 0 (at 10 10)))) ∷
     []) (at 11 1) [] []
 
@@ -106,8 +109,8 @@ abbrev pub many_steps : Typed
 many_steps = text_of (
     main_of None (
     declares (set_scalar t.Int (literal t.Int (pos 0))) ∷
-    for (declares_first (set_scalar t.Int (literal t.Int (pos 0)))) (test (comparison c.Less (at 3 21) (held (scalar 1 (at 3 19))) (literal t.Int
-    (pos 3000)))) (Some (evaluates (increment rise prefix t.Int (at 3 29) (scalar 1 (at 3 31))))) many_steps_turn ∷
+    for 0 (declares_first (set_scalar t.Int (literal t.Int (pos 0)))) (test (comparison c.Less (at 3 21) (held (scalar 1 (at 3 19))) (literal t.Int
+    (pos 3000)))) (Some (evaluates (increment Up Prefix t.Int (at 3 29) (scalar 1 (at 3 31))))) many_steps_turn ∷
     gives_back (Some (held (scalar 0 (at 6 10)))) ∷
     []) (at 7 1) ∷ []) 0 [] []
 
@@ -132,8 +135,8 @@ grows_in_loop = alone (Some 2) (
     declares (unset_scalar t.Int) ∷
     push (at 4 5) 0 0 0 (pos 0) ∷
     start (at 5 15) 0 0 ∷
-    while (read (0 ∷ [])) (does (evaluates
-    (call (head (row 15) (at 6 27) 1 (Some 0) (Some 0 ∷ Some 1 ∷ [])) (with (held (scalar 0 (at 6 37))) none)))) ∷
+    while 0 (read (0 ∷ [])) (does (evaluates
+    (call (head (callees.Row 15) (at 6 27) (Some 1) (Some 0) (Some 0 ∷ Some 1 ∷ [])) (with (held (scalar 0 (at 6 37))) none)))) ∷
     does (prints (number (held (deref (at 7 16) 0 2)) ∷ [])) ∷
     []) (at 8 1) (at 4 5 ∷ at 6 27 ∷ at 8 1 ∷ []) (codes "v" ∷ codes "x" ∷ codes "it" ∷ [])
 
@@ -158,8 +161,8 @@ grows_in_loop_past_the_room = refl
 -- the loop's body of `moved_in_loop`
 abbrev moved_turn : Stmt
 moved_turn = block None (all (
-    does (evaluates (call (head (row 15) (at 6 7) 0 (Some 0) (Some 0 ∷ Some 1 ∷ [])) (with (held (scalar 0 (at 6 17))) none))) ∷
-    does (moves_to 0 (call (head (row 7) (at 7 12) 0 (Some 0) (Some 0 ∷ [])) none)) ∷
+    does (evaluates (call (head (callees.Row 15) (at 6 7) (Some 0) (Some 0) (Some 0 ∷ Some 1 ∷ [])) (with (held (scalar 0 (at 6 17))) none))) ∷
+    does (moves_to 0 (call (head (callees.Row 7) (at 7 12) None (Some 0) (Some 0 ∷ [])) none)) ∷
     []))
 
 -- int main() {
@@ -177,7 +180,7 @@ moved_in_loop = alone (Some 1) (
     vector (at 2 3) ∷
     declares (unset_scalar t.Int) ∷
     start (at 4 15) 0 0 ∷
-    while (read (0 ∷ [])) moved_turn ∷
+    while 0 (read (0 ∷ [])) moved_turn ∷
     does (prints (number (held (deref (at 9 16) 0 2)) ∷ [])) ∷
     []) (at 10 1) (at 6 7 ∷ at 10 1 ∷ []) (codes "v" ∷ codes "x" ∷ codes "it" ∷ [])
 
@@ -196,7 +199,7 @@ moved_in_loop_traps = refl
 abbrev pub range : Typed
 range = alone (Some 0) (
     vector (at 2 3) ∷
-    range_for 0 (at 3 3) 0 (does (prints (number (held (scalar 0 (at 3 32))) ∷ []))) ∷
+    range_for 0 taken.Value 0 (at 3 3) 0 (does (prints (number (held (scalar 0 (at 3 32))) ∷ []))) ∷
     []) (at 4 1) (at 4 1 ∷ []) (codes "v" ∷ [])
 
 -- the library has no `!=` yet, by which a range-for begins

@@ -4,8 +4,10 @@ use Rattle.std.specs.Fmt.{digits}
 use Rattle.sl_base.specs.declared.scalar.Scalar.TheVariants as t
 use Rattle.sl_syntax.specs.declared.operator.Arithmetic.TheVariants as o
 use Rattle.sl_syntax.specs.declared.operator.Comparison.TheVariants as c
-use Rattle.sl_syntax.specs.Typed.{fall, prefix, literal, held, convert, negate, logical_not, arithmetic, comparison, increment, scalar, test, text}
-use Rattle.sl_syntax.specs.Typed.{number, reads, prints, assigns, updates, set_scalar, declares, choice, gives_back, does, Typed}
+use Rattle.sl_syntax.specs.declared.typed.step.Fix.TheVariants.{Prefix}
+use Rattle.sl_syntax.specs.declared.typed.step.Step.TheVariants.{Down}
+use Rattle.sl_syntax.specs.Typed.{literal, held, convert, negate, logical_not, arithmetic, comparison, increment, scalar, test, text, number, reads}
+use Rattle.sl_syntax.specs.Typed.{prints, assigns, updates, set_scalar, declares, choice, gives_back, does, Typed}
 use Rattle.sl_model.specs.Ends.{Done, Language}
 use Rattle.sl_model.specs.Run.{run}
 use Rattle.sl_model.proofs.Examples.Short.{at, main_of, text_of, finish}
@@ -106,7 +108,7 @@ faults = text_of (
     (scalar 1 (at 9 23)))))) ∷
     choice (test (comparison c.Equal (at 10 9) (held (scalar 0 (at 10 7))) (literal t.Int (pos 3)))) (gives_back (Some (arithmetic o.Multiply t.Int
     (at 10 28) (held (scalar 1 (at 10 22))) (held (scalar 0 (at 10 30)))))) ∷
-    choice (test (comparison c.Equal (at 11 9) (held (scalar 0 (at 11 7))) (literal t.Int (pos 4)))) (gives_back (Some (increment fall prefix t.Int
+    choice (test (comparison c.Equal (at 11 9) (held (scalar 0 (at 11 7))) (literal t.Int (pos 4)))) (gives_back (Some (increment Down Prefix t.Int
     (at 11 22) (scalar 1 (at 11 24))))) ∷
     declares (set_scalar t.Diff (convert t.Diff (literal t.Int (pos 2147483647)))) ∷
     does (updates o.Multiply t.Diff t.Diff (at 13 5) (scalar 2 (at 13 3)) (held (scalar 2 (at 13 8)))) ∷

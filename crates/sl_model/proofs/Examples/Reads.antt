@@ -4,9 +4,11 @@ use Rattle.std.specs.Fmt.{digits}
 use Rattle.sl_base.specs.declared.scalar.Scalar.TheVariants as t
 use Rattle.sl_syntax.specs.declared.operator.Arithmetic.TheVariants as o
 use Rattle.sl_syntax.specs.declared.operator.Comparison.TheVariants as c
-use Rattle.sl_syntax.specs.Typed.{rise, fall, prefix, postfix, literal, held, logical_not, logical_and, logical_or, arithmetic, comparison, increment}
-use Rattle.sl_syntax.specs.Typed.{scalar, read, test, text, endline, number, reads, prints, evaluates, updates, unset_scalar, set_scalar}
-use Rattle.sl_syntax.specs.Typed.{declares_first, declares, choice, choice_else, for, does, Typed}
+use Rattle.sl_syntax.specs.declared.typed.step.Fix.TheVariants.{Prefix, Postfix}
+use Rattle.sl_syntax.specs.declared.typed.step.Step.TheVariants.{Up, Down}
+use Rattle.sl_syntax.specs.Typed.{literal, held, logical_not, logical_and, logical_or, arithmetic, comparison, increment, scalar, read, test, text}
+use Rattle.sl_syntax.specs.Typed.{endline, number, reads, prints, evaluates, updates, unset_scalar, set_scalar, declares_first, declares, choice}
+use Rattle.sl_syntax.specs.Typed.{choice_else, for, does, Typed}
 use Rattle.sl_model.specs.Ends.{Done, Language}
 use Rattle.sl_model.specs.Run.{run}
 use Rattle.sl_model.proofs.Examples.Short.{at, main_of, text_of, alone, finish}
@@ -124,10 +126,10 @@ shortcuts_of_5 = refl
 abbrev pub steps_of_one : Typed
 steps_of_one = alone None (
     declares (set_scalar t.Int (literal t.Int (pos 5))) ∷
-    declares (set_scalar t.Int (increment rise postfix t.Int (at 3 12) (scalar 0 (at 3 11)))) ∷
-    declares (set_scalar t.Int (increment rise prefix t.Int (at 4 11) (scalar 0 (at 4 13)))) ∷
-    declares (set_scalar t.Int (increment fall postfix t.Int (at 5 12) (scalar 0 (at 5 11)))) ∷
-    declares (set_scalar t.Int (increment fall prefix t.Int (at 6 11) (scalar 0 (at 6 13)))) ∷
+    declares (set_scalar t.Int (increment Up Postfix t.Int (at 3 12) (scalar 0 (at 3 11)))) ∷
+    declares (set_scalar t.Int (increment Up Prefix t.Int (at 4 11) (scalar 0 (at 4 13)))) ∷
+    declares (set_scalar t.Int (increment Down Postfix t.Int (at 5 12) (scalar 0 (at 5 11)))) ∷
+    declares (set_scalar t.Int (increment Down Prefix t.Int (at 6 11) (scalar 0 (at 6 13)))) ∷
     does (prints (number (held (scalar 1 (at 7 16))) ∷ number (held (scalar 2 (at 7 21))) ∷ number (held (scalar 3 (at 7 26))) ∷
     number (held (scalar 4 (at 7 31))) ∷
     number (held (scalar 0 (at 7 36))) ∷ [])) ∷
@@ -143,9 +145,9 @@ steps_of_one_prints = refl
 -- where the text is 1000 times a 0
 abbrev pub long : Typed
 long = alone None (
-    for (declares_first (set_scalar t.Int (literal t.Int (pos 0))))
+    for 0 (declares_first (set_scalar t.Int (literal t.Int (pos 0))))
     (test (comparison c.Less (at 2 21) (held (scalar 0 (at 2 19))) (literal t.Int (pos 66))))
-    (Some (evaluates (increment rise prefix t.Int (at 2 27) (scalar 0 (at 2 29))))) (does (prints (text (replicate 1000 48) ∷ []))) ∷
+    (Some (evaluates (increment Up Prefix t.Int (at 2 27) (scalar 0 (at 2 29))))) (does (prints (text (replicate 1000 48) ∷ []))) ∷
     []) (at 3 1) [] []
 
 -- of 66,000 bytes the first 65,536 are kept

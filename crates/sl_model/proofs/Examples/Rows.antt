@@ -2,7 +2,8 @@
 use Rattle.std.specs.Prelude.{◌≡◌, ◌+◌, refl, ℕ, false, List, [], ◌∷◌, Option, Some, None, pos, codes}
 use Rattle.sl_base.specs.declared.form.Form.TheVariants as f
 use Rattle.sl_base.specs.declared.limits.TheConstants.{ELEMENTS}
-use Rattle.sl_syntax.specs.Typed.{row, operator, hidden, star, up}
+use Rattle.sl_syntax.specs.declared.typed.callee.Callee.TheVariants as callees
+use Rattle.sl_syntax.specs.declared.typed.operator.Operator.TheVariants as operators
 use Rattle.sl_model.specs.Containers.{Cell, Memory, empty_memory, end_from, locate, killer, key_part}
 use Rattle.sl_model.specs.Values.{Value, nothing, number, iterator, element_at, Args, trapped, thrown, gives, unbuilt, no_value}
 use Rattle.sl_model.specs.Edits.{AllAndEnd}
@@ -27,15 +28,15 @@ pair_with room = record { conts = record { form = f.Vector; cells = cell 0 7 ∷
 abbrev pub deque : Memory
 deque = record { conts = record { form = f.Deque; cells = []; end = 0; room = 0 } ∷ []; graves = []; fresh = 1 }
 
-made_with_room : lib (row 0) (call None []) empty_memory (5 ∷ 6 ∷ [])
+made_with_room : lib (callees.Row 0) (call None []) empty_memory (5 ∷ 6 ∷ [])
     ≡ gives nothing (record { conts = record { form = f.Vector; cells = []; end = 0; room = 5 } ∷ []; graves = []; fresh = 1 }) (6 ∷ [])
 made_with_room = refl
 
-begin_of_two : lib (row 7) (call (Some 0) []) (pair_with 2) (4 ∷ []) ≡ gives (iterator 0) (pair_with 2) (4 ∷ [])
+begin_of_two : lib (callees.Row 7) (call (Some 0) []) (pair_with 2) (4 ∷ []) ≡ gives (iterator 0) (pair_with 2) (4 ∷ [])
 begin_of_two = refl
 
 -- there is room: the end alone is invalidated, and no pick is taken
-pushed_into_room : lib (row 15) (call (Some 0) (number (pos 9) ∷ [])) (pair_with 3) (4 ∷ []) ≡ gives nothing (record {
+pushed_into_room : lib (callees.Row 15) (call (Some 0) (number (pos 9) ∷ [])) (pair_with 3) (4 ∷ []) ≡ gives nothing (record {
   conts = record { form = f.Vector; cells = cell 0 7 ∷ cell 1 8 ∷ cell 8 9 ∷ []; end = 5; room = 3 } ∷ [];
   graves = record { stamp = 2; site = 9 } ∷ [];
   fresh = 9;
@@ -43,7 +44,7 @@ pushed_into_room : lib (row 15) (call (Some 0) (number (pos 9) ∷ [])) (pair_wi
 pushed_into_room = refl
 
 -- there is none: all is invalidated, and the new room is 3 and the pick
-pushed_and_grown : lib (row 15) (call (Some 0) (number (pos 9) ∷ [])) (pair_with 2) (4 ∷ []) ≡ gives nothing (record {
+pushed_and_grown : lib (callees.Row 15) (call (Some 0) (number (pos 9) ∷ [])) (pair_with 2) (4 ∷ []) ≡ gives nothing (record {
   conts = record { form = f.Vector; cells = cell 3 7 ∷ cell 4 8 ∷ cell 8 9 ∷ []; end = 5; room = 7 } ∷ [];
   graves = record { stamp = 0; site = 9 } ∷ record { stamp = 1; site = 9 } ∷ record { stamp = 2; site = 9 } ∷ [];
   fresh = 9;
@@ -56,13 +57,14 @@ too_many = refl
 just_enough : unless_too_many ELEMENTS keeps ≡ keeps
 just_enough = refl
 
-element_behind_an_iterator : lib (operator star) (call None (iterator 1 ∷ [])) (pair_with 2) [] ≡ gives (element_at 0 1 key_part) (pair_with 2) []
+element_behind_an_iterator : lib (callees.Operator operators.Dereference) (call None (iterator 1 ∷ [])) (pair_with 2) []
+    ≡ gives (element_at 0 1 key_part) (pair_with 2) []
 element_behind_an_iterator = refl
 
-end_iterator : lib (hidden star) (call None (iterator 2 ∷ [])) (pair_with 2) [] ≡ trapped 4 1
+end_iterator : lib (callees.Hidden operators.Dereference) (call None (iterator 2 ∷ [])) (pair_with 2) [] ≡ trapped 4 1
 end_iterator = refl
 
-invalid_iterator : lib (operator star) (call None (iterator 3 ∷ [])) (pair_with 2) [] ≡ trapped 1 1
+invalid_iterator : lib (callees.Operator operators.Dereference) (call None (iterator 3 ∷ [])) (pair_with 2) [] ≡ trapped 1 1
 invalid_iterator = refl
 
 ended_container : killer (end_from 6 0 (pair_with 2)) 1 ≡ Some 6
@@ -72,34 +74,34 @@ stands_nowhere : locate (end_from 6 0 (pair_with 2)) 1 ≡ None
 stands_nowhere = refl
 
 -- what no row takes
-another_row : lib (row 9) (call (Some 0) []) (pair_with 2) [] ≡ unbuilt
+another_row : lib (callees.Row 9) (call (Some 0) []) (pair_with 2) [] ≡ unbuilt
 another_row = refl
 
-another_operator : lib (operator up) (call None (iterator 0 ∷ [])) (pair_with 2) [] ≡ unbuilt
+another_operator : lib (callees.Operator operators.Increment) (call None (iterator 0 ∷ [])) (pair_with 2) [] ≡ unbuilt
 another_operator = refl
 
-another_form : lib (row 7) (call (Some 0) []) deque [] ≡ unbuilt
+another_form : lib (callees.Row 7) (call (Some 0) []) deque [] ≡ unbuilt
 another_form = refl
 
-no_object : lib (row 7) (call None []) (pair_with 2) [] ≡ unbuilt
+no_object : lib (callees.Row 7) (call None []) (pair_with 2) [] ≡ unbuilt
 no_object = refl
 
-no_container : lib (row 7) (call (Some 1) []) (pair_with 2) [] ≡ unbuilt
+no_container : lib (callees.Row 7) (call (Some 1) []) (pair_with 2) [] ≡ unbuilt
 no_container = refl
 
-an_object_too_many : lib (row 0) (call (Some 0) []) (pair_with 2) [] ≡ unbuilt
+an_object_too_many : lib (callees.Row 0) (call (Some 0) []) (pair_with 2) [] ≡ unbuilt
 an_object_too_many = refl
 
-no_operand : lib (row 15) (call (Some 0) []) (pair_with 2) [] ≡ unbuilt
+no_operand : lib (callees.Row 15) (call (Some 0) []) (pair_with 2) [] ≡ unbuilt
 no_operand = refl
 
-another_sort : lib (row 15) (call (Some 0) (iterator 0 ∷ [])) (pair_with 2) [] ≡ unbuilt
+another_sort : lib (callees.Row 15) (call (Some 0) (iterator 0 ∷ [])) (pair_with 2) [] ≡ unbuilt
 another_sort = refl
 
-an_operand_too_many : lib (row 15) (call (Some 0) (number (pos 1) ∷ number (pos 2) ∷ [])) (pair_with 2) [] ≡ unbuilt
+an_operand_too_many : lib (callees.Row 15) (call (Some 0) (number (pos 1) ∷ number (pos 2) ∷ [])) (pair_with 2) [] ≡ unbuilt
 an_operand_too_many = refl
 
-name_in_a_range_for : call_name (hidden star) ≡ codes "for"
+name_in_a_range_for : call_name (callees.Hidden operators.Dereference) ≡ codes "for"
 name_in_a_range_for = refl
 
 -- A row that the library doesn't have, with an iterator operand and this effect: what a need comes before.

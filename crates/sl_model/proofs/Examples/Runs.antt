@@ -2,10 +2,14 @@
 use Rattle.std.specs.Prelude.{◌≡◌, refl, [], ◌∷◌, Some, None, pos, codes}
 use Rattle.sl_base.specs.declared.scalar.Scalar.TheVariants as t
 use Rattle.sl_base.specs.declared.form.Form.TheVariants as f
-use Rattle.sl_syntax.specs.Typed.{row, operator, star, literal, held, iterator, call, element, none, with, evaluates, set_scalar, set_iterator, makes}
-use Rattle.sl_syntax.specs.Typed.{block, declares, does, no_more, followed, by_value, Typed}
-use Rattle.sl_syntax.specs.declared.typed.Stmt.TheVariants.{Vector, PushBack, Begin, Dereference}
-use Rattle.sl_syntax.specs.View.{main_of}
+use Rattle.sl_syntax.specs.declared.typed.callee.Callee.TheVariants as callees
+use Rattle.sl_syntax.specs.declared.typed.operator.Operator.TheVariants as operators
+use Rattle.sl_syntax.specs.declared.typed.parameter.ParameterKind.TheVariants as parameter
+use Rattle.sl_syntax.specs.declared.typed.variable.VariableKind.TheVariants as v
+use Rattle.sl_syntax.specs.Typed.{literal, held, iterator, call, element, none, with, evaluates, set_scalar, set_iterator, makes, block, declares}
+use Rattle.sl_syntax.specs.Typed.{does, no_more, followed, Typed}
+use Rattle.sl_syntax.specs.declared.subset.Stmt.TheVariants.{Vector, PushBack, Begin, Dereference}
+use Rattle.sl_syntax.specs.SubsetView.{main_of}
 use Rattle.sl_model.specs.Values.{thrown, faulted, unbuilt}
 use Rattle.sl_model.specs.Ends.{Done, Trapped, OutOfSteps, Language, Thrown, NoMeaning}
 use Rattle.sl_model.specs.Run.{run, run_over}
@@ -14,9 +18,17 @@ use Rattle.sl_model.proofs.Examples.Short.{at, head, finish, trap}
 -- int main() {}
 abbrev pub empty : Typed
 empty = record {
-  functions = record { parameters = []; result = Some (by_value t.Int); close = at 1 13; body = block None no_more } ∷ [];
+  functions = record {
+    name = codes "main";
+    parameters = [];
+    result = Some (parameter.Value t.Int);
+    variables = [];
+    body = block None no_more;
+    close = at 1 13;
+  } ∷ [];
   main = 0;
   sites = [];
+  loops = [];
   names = [];
   constants = [];
 }
@@ -34,21 +46,25 @@ empty_is_done = refl
 abbrev pub growth : Typed
 growth = record {
   functions = record {
+    name = codes "main";
     parameters = [];
-    result = Some (by_value t.Int);
+    result = Some (parameter.Value t.Int);
+    variables = record { kind = v.Container; name = 0; place = at 2 20 } ∷ record { kind = v.Iterator; name = 1; place = at 4 8 }
+        ∷ record { kind = v.Scalar; name = 2; place = at 6 7 } ∷ [];
     close = at 7 1;
     body = block (Some 2) (
-        followed (declares (makes f.Vector (head (row 0) (at 2 3) 0 None []) none)) (
-        followed (does (evaluates (call (head (row 15) (at 3 5) 0 (Some 0) (Some 0 ∷ [])) (with (literal t.Int (pos 1)) none)))) (
-        followed (declares (set_iterator (call (head (row 7) (at 4 15) 0 (Some 0) (Some 0 ∷ [])) none))) (
-        followed (does (evaluates (call (head (row 15) (at 5 5) 1 (Some 0) (Some 0 ∷ [])) (with (literal t.Int (pos 2)) none)))) (
+        followed (declares (makes f.Vector (head (callees.Row 0) (at 2 3) None None []) none)) (
+        followed (does (evaluates (call (head (callees.Row 15) (at 3 5) (Some 0) (Some 0) (Some 0 ∷ [])) (with (literal t.Int (pos 1)) none)))) (
+        followed (declares (set_iterator (call (head (callees.Row 7) (at 4 15) None (Some 0) (Some 0 ∷ [])) none))) (
+        followed (does (evaluates (call (head (callees.Row 15) (at 5 5) (Some 1) (Some 0) (Some 0 ∷ [])) (with (literal t.Int (pos 2)) none)))) (
         followed (declares (set_scalar t.Int
-        (held (element (head (operator star) (at 6 11) 0 None (None ∷ Some 1 ∷ [])) (with (iterator 0) none)))))
+        (held (element (head (callees.Operator operators.Dereference) (at 6 11) None None (None ∷ Some 1 ∷ [])) (with (iterator 0) none)))))
         no_more)))));
   } ∷ [];
   main = 0;
   sites = at 3 5 ∷ at 5 5 ∷ at 7 1 ∷ [];
-  names = codes "v" ∷ codes "it" ∷ [];
+  loops = [];
+  names = codes "v" ∷ codes "it" ∷ codes "x" ∷ [];
   constants = [];
 }
 
@@ -76,7 +92,8 @@ growth_in_two_steps = refl
 
 -- the tree is the one that the code's typed text stands for
 growth_is_seen : growth.functions ≡ main_of
-    (Vector (at 2 3) ∷ PushBack (at 3 5) 0 0 0 1 ∷ Begin (at 4 15) 0 0 ∷ PushBack (at 5 5) 0 0 1 2 ∷ Dereference (at 6 11) 0 1 ∷ []) (at 7 1) ∷ []
+    (Vector (at 2 3) (at 2 20) ∷ PushBack (at 3 5) 0 0 0 1 ∷ Begin (at 4 15) 0 0 (at 4 8) ∷ PushBack (at 5 5) 0 0 1 2
+    ∷ Dereference (at 6 11) 0 1 (at 6 7) ∷ []) (at 7 1) ∷ []
 growth_is_seen = refl
 
 -- an exception of the library, a fault and a call that it doesn't have end the run at the call

@@ -1,13 +1,19 @@
--- Texts that use what is in scope, and one that hands a container to a function twice.
+-- Texts that use what is in scope, and one that hands a container to a function twice. Names and places that a run doesn't look at are
+-- left out.
 use Rattle.std.proofs.Common.{◌≡◌, ◌∙◌, ℕ, zero, suc, [], ◌∷◌, Some, None, pos, refl, ap, sym, subst, arith}
 use Rattle.std.specs.Prelude.{codes, slice_get}
 use Rattle.sl_base.specs.declared.scalar.Scalar.TheVariants as t
 use Rattle.sl_base.specs.declared.form.Form.TheVariants as f
 use Rattle.sl_syntax.specs.declared.operator.Access.TheVariants as a
 use Rattle.sl_syntax.specs.declared.operator.Comparison.TheVariants as c
-use Rattle.sl_syntax.specs.Typed.{Expr, row, literal, held, call, own_call, comparison, increment, rise, prefix, scalar, container, reference, none}
-use Rattle.sl_syntax.specs.Typed.{with, test, evaluates, assigns, set_scalar, makes, declares_first, block, declares, for, range_for, does, no_more}
-use Rattle.sl_syntax.specs.Typed.{followed, by_value, by_reference, a_container, Function, Typed}
+use Rattle.sl_syntax.specs.declared.typed.callee.Callee.TheVariants as callees
+use Rattle.sl_syntax.specs.declared.typed.element.Taken.TheVariants as taken
+use Rattle.sl_syntax.specs.declared.typed.parameter.ParameterKind.TheVariants as parameter
+use Rattle.sl_syntax.specs.declared.typed.step.Fix.TheVariants.{Prefix}
+use Rattle.sl_syntax.specs.declared.typed.step.Step.TheVariants.{Up}
+use Rattle.sl_syntax.specs.Typed.{Expr, literal, held, call, own_call, comparison, increment, scalar, container, handed_scalar, none, with, test}
+use Rattle.sl_syntax.specs.Typed.{evaluates, assigns, set_scalar, makes, declares_first, block, declares, for, range_for, does, no_more, followed}
+use Rattle.sl_syntax.specs.Typed.{Function, Typed}
 use Rattle.sl_model.specs.Good.{AreApart}
 use Rattle.sl_model.specs.Shapes.{Signature, lib_shape, lib_makes, signature_of}
 use Rattle.sl_model.specs.Scoped.{Counts, InExpr, AsksWell, IsScopedFunction, IsScoped}
@@ -47,15 +53,17 @@ growth_is_scoped = record {
 -- void take(std::vector<int>& a, std::vector<int>& b, int n, int& r) { r = n; }
 abbrev take : Function
 take = record {
-  parameters = a_container a.Whole f.Vector ∷ a_container a.Whole f.Vector ∷ by_value t.Int ∷ by_reference t.Int ∷ [];
+  name = [];
+  parameters = parameter.Container a.Whole f.Vector ∷ parameter.Container a.Whole f.Vector ∷ parameter.Value t.Int ∷ parameter.Reference t.Int ∷ [];
   result = None;
+  variables = [];
   close = at 1 80;
   body = block None (followed (does (assigns (scalar 1 (at 1 72)) (held (scalar 0 (at 1 76))))) no_more);
 }
 
 -- take(v, w, x, x) by the numbers of v and w
 abbrev call_of_take : ℕ → ℕ → Expr
-call_of_take v w = own_call 0 (at 6 3) (with (container v) (with (container w) (with (held (scalar 0 (at 6 14))) (with (reference 0) none))))
+call_of_take v w = own_call 0 (at 6 3) (with (container v) (with (container w) (with (held (scalar 0 (at 6 14))) (with (handed_scalar 0) none))))
 
 -- int main() {
 --   std::vector<int> v;
@@ -67,25 +75,29 @@ call_of_take v w = own_call 0 (at 6 3) (with (container v) (with (container w) (
 -- }
 abbrev user : Function
 user = record {
+  name = [];
   parameters = [];
-  result = Some (by_value t.Int);
+  result = Some (parameter.Value t.Int);
+  variables = [];
   close = at 9 1;
   body = block (Some 2) (
-      followed (declares (makes f.Vector (head (row 0) (at 3 3) 0 None []) none)) (
-      followed (declares (makes f.Vector (head (row 0) (at 4 3) 0 None []) none)) (
+      followed (declares (makes f.Vector (head (callees.Row 0) (at 3 3) None None []) none)) (
+      followed (declares (makes f.Vector (head (callees.Row 0) (at 4 3) None None []) none)) (
       followed (declares (set_scalar t.Int (literal t.Int (pos 1)))) (
       followed (does (evaluates (call_of_take 0 1))) (
-      followed (for (declares_first (set_scalar t.Int (literal t.Int (pos 0))))
+      followed (for 0 (declares_first (set_scalar t.Int (literal t.Int (pos 0))))
       (test (comparison c.Less (at 7 21) (held (scalar 1 (at 7 19))) (literal t.Int (pos 3))))
-      (Some (evaluates (increment rise prefix t.Int (at 7 26) (scalar 1 (at 7 28)))))
-      (block None (followed (does (evaluates (call (head (row 15) (at 7 35) 1 (Some 0) (Some 0 ∷ [])) (with (held (scalar 1 (at 7 45))) none))))
+      (Some (evaluates (increment Up Prefix t.Int (at 7 26) (scalar 1 (at 7 28)))))
+      (block None (followed (does (evaluates (call (head (callees.Row 15) (at 7 35) (Some 1) (Some 0) (Some 0 ∷ []))
+      (with (held (scalar 1 (at 7 45))) none))))
       no_more))) (
-      followed (range_for 0 (at 8 3) 0 (block None (followed (does (assigns (scalar 0 (at 8 21)) (held (scalar 1 (at 8 25))))) no_more)))
+      followed (range_for 1 taken.Value 0 (at 8 3) 0
+      (block None (followed (does (assigns (scalar 0 (at 8 21)) (held (scalar 1 (at 8 25))))) no_more)))
       no_more))))));
 }
 
 abbrev two : Typed
-two = record { functions = take ∷ user ∷ []; main = 1; sites = at 7 35 ∷ at 9 1 ∷ []; names = codes "v" ∷ []; constants = [] }
+two = record { functions = take ∷ user ∷ []; main = 1; sites = at 7 35 ∷ at 9 1 ∷ []; loops = []; names = codes "v" ∷ []; constants = [] }
 
 -- what is known of its calls
 abbrev calls : Signature

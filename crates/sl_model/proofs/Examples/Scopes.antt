@@ -4,9 +4,13 @@ use Rattle.std.specs.Fmt.{digits}
 use Rattle.sl_base.specs.declared.scalar.Scalar.TheVariants as t
 use Rattle.sl_syntax.specs.declared.operator.Arithmetic.TheVariants as o
 use Rattle.sl_syntax.specs.declared.operator.Comparison.TheVariants as c
-use Rattle.sl_syntax.specs.Typed.{row, rise, prefix, literal, held, arithmetic, comparison, increment, call, own_call, scalar, none, with, test}
-use Rattle.sl_syntax.specs.Typed.{number, prints, evaluates, assigns, moves_to, set_scalar, declares_first, block, declares, choice, while, for}
-use Rattle.sl_syntax.specs.Typed.{break, gives_back, does, by_value, Stmt, Typed}
+use Rattle.sl_syntax.specs.declared.typed.callee.Callee.TheVariants as callees
+use Rattle.sl_syntax.specs.declared.typed.parameter.ParameterKind.TheVariants as parameter
+use Rattle.sl_syntax.specs.declared.typed.step.Fix.TheVariants.{Prefix}
+use Rattle.sl_syntax.specs.declared.typed.step.Step.TheVariants.{Up}
+use Rattle.sl_syntax.specs.Typed.{literal, held, arithmetic, comparison, increment, call, own_call, scalar, none, with, test, number, prints}
+use Rattle.sl_syntax.specs.Typed.{evaluates, assigns, moves_to, set_scalar, declares_first, block, declares, choice, while, for, break, gives_back}
+use Rattle.sl_syntax.specs.Typed.{does, Stmt, Typed}
 use Rattle.sl_model.specs.Ends.{Done, Trapped, OutOfSteps}
 use Rattle.sl_model.specs.Run.{run}
 use Rattle.sl_model.proofs.Examples.Short.{at, head, all, vector, push, start, deref, read_from, main_of, text_of, alone, finish, trap}
@@ -49,8 +53,8 @@ shadows = text_of (
     declares (set_scalar t.Int (literal t.Int (pos 1))) ∷
     shadows_inner ∷
     does (prints (number (held (scalar 0 (at 12 16))) ∷ [])) ∷
-    for (declares_first (set_scalar t.Int (literal t.Int (pos 7)))) (test (comparison c.Less (at 13 21) (held (scalar 1 (at 13 19))) (literal t.Int
-    (pos 9)))) (Some (evaluates (increment rise prefix t.Int (at 13 26) (scalar 1 (at 13 28)))))
+    for 0 (declares_first (set_scalar t.Int (literal t.Int (pos 7)))) (test (comparison c.Less (at 13 21) (held (scalar 1 (at 13 19))) (literal t.Int
+    (pos 9)))) (Some (evaluates (increment Up Prefix t.Int (at 13 26) (scalar 1 (at 13 28)))))
     (does (prints (number (held (scalar 1 (at 13 44))) ∷ []))) ∷
     declares (set_scalar t.Int (arithmetic o.Add t.Int (at 14 13) (held (scalar 0 (at 14 11))) (literal t.Int (pos 10)))) ∷
     does (prints (number (held (scalar 1 (at 15 16))) ∷ [])) ∷
@@ -101,7 +105,7 @@ abbrev left_inner : Stmt
 left_inner = block (Some 2) (all (
     vector (at 8 7) ∷
     push (at 9 9) 1 2 3 (pos 3) ∷
-    does (moves_to 0 (call (head (row 7) (at 10 14) 0 (Some 2) (Some 3 ∷ [])) none)) ∷
+    does (moves_to 0 (call (head (callees.Row 7) (at 10 14) None (Some 2) (Some 3 ∷ [])) none)) ∷
     choice (test (comparison c.Equal (at 11 15) (held (deref (at 11 11) 0 1)) (literal t.Int (pos 3)))) break ∷
     []))
 
@@ -132,7 +136,7 @@ left_early = alone (Some 4) (
     vector (at 2 3) ∷
     push (at 3 5) 0 0 0 (pos 1) ∷
     start (at 4 15) 0 0 ∷
-    while (test (literal t.Bool (pos 1))) left_outer ∷
+    while 0 (test (literal t.Bool (pos 1))) left_outer ∷
     read_from (at 14 11) 0 1 ∷
     []) (at 15 1) (at 3 5 ∷ at 9 9 ∷ at 12 5 ∷ at 13 3 ∷ at 15 1 ∷ []) (codes "v" ∷ codes "it" ∷ codes "w" ∷ codes "u" ∷ [])
 
@@ -155,12 +159,14 @@ left_early_traps = refl
 abbrev pub local_dies : Typed
 local_dies = text_of (
     record {
-      parameters = by_value t.Int ∷ [];
-      result = Some (by_value t.Int);
+      name = [];
+      parameters = parameter.Value t.Int ∷ [];
+      result = Some (parameter.Value t.Int);
+      variables = [];
       close = at 6 1;
       body = block (Some 1) (all (
           vector (at 2 3) ∷
-          does (evaluates (call (head (row 15) (at 3 5) 0 (Some 0) (Some 1 ∷ Some 0 ∷ [])) (with (held (scalar 0 (at 3 15))) none))) ∷
+          does (evaluates (call (head (callees.Row 15) (at 3 5) (Some 0) (Some 0) (Some 1 ∷ Some 0 ∷ [])) (with (held (scalar 0 (at 3 15))) none))) ∷
           start (at 4 15) 0 1 ∷
           gives_back (Some (held (deref (at 5 10) 0 2))) ∷
           []));

@@ -7,9 +7,12 @@ use Rattle.sl_base.specs.declared.form.Form.TheVariants as f
 use Rattle.sl_syntax.specs.declared.operator.Access.TheVariants as a
 use Rattle.sl_syntax.specs.declared.operator.Arithmetic.TheVariants as o
 use Rattle.sl_syntax.specs.declared.operator.Comparison.TheVariants as c
-use Rattle.sl_syntax.specs.Typed.{row, operator, star, literal, held, arithmetic, comparison, call, own_call, container, scalar, element, none, with}
-use Rattle.sl_syntax.specs.Typed.{not_read, test, text, number, prints, evaluates, assigns, updates, moves_to, unset_scalar, set_scalar, set_iterator}
-use Rattle.sl_syntax.specs.Typed.{makes, block, declares, choice, while, break, continue, gives_back, does, by_value, a_container, Stmt, Typed}
+use Rattle.sl_syntax.specs.declared.typed.callee.Callee.TheVariants as callees
+use Rattle.sl_syntax.specs.declared.typed.operator.Operator.TheVariants as operators
+use Rattle.sl_syntax.specs.declared.typed.parameter.ParameterKind.TheVariants as parameter
+use Rattle.sl_syntax.specs.Typed.{literal, held, arithmetic, comparison, call, own_call, container, scalar, element, none, with, not_read, test, text}
+use Rattle.sl_syntax.specs.Typed.{number, prints, evaluates, assigns, updates, moves_to, unset_scalar, set_scalar, set_iterator, makes, block}
+use Rattle.sl_syntax.specs.Typed.{declares, choice, while, break, continue, gives_back, does, Stmt, Typed}
 use Rattle.sl_model.specs.Ends.{Done, Trapped, OutOfSteps, Language, NoMeaning}
 use Rattle.sl_model.specs.Run.{run}
 use Rattle.sl_model.proofs.Examples.Short.{at, head, all, deref, finish, trap}
@@ -38,18 +41,21 @@ ways_out_turn = block None (all (
 abbrev pub ways_out : Typed
 ways_out = record {
   functions = record {
+    name = [];
     parameters = [];
-    result = Some (by_value t.Int);
+    result = Some (parameter.Value t.Int);
+    variables = [];
     close = at 11 1;
     body = block None (all (
         declares (unset_scalar t.Int) ∷
         declares (set_scalar t.Int (literal t.Int (pos 0))) ∷
-        while (test (literal t.Bool (pos 1))) ways_out_turn ∷
+        while 0 (test (literal t.Bool (pos 1))) ways_out_turn ∷
         does (prints (text (codes "n=") ∷ number (held (scalar 1 (at 10 24))) ∷ text (codes "\n") ∷ [])) ∷
         []));
   } ∷ [];
   main = 0;
   sites = [];
+  loops = [];
   names = [];
   constants = [];
 }
@@ -73,8 +79,10 @@ ways_out_stops = refl
 abbrev pub overflow : Typed
 overflow = record {
   functions = record {
+    name = [];
     parameters = [];
-    result = Some (by_value t.Int);
+    result = Some (parameter.Value t.Int);
+    variables = [];
     close = at 6 1;
     body = block None (all (
         declares (set_scalar t.Int (literal t.Int (pos 2147483647))) ∷
@@ -85,6 +93,7 @@ overflow = record {
   } ∷ [];
   main = 0;
   sites = [];
+  loops = [];
   names = [];
   constants = [];
 }
@@ -95,9 +104,9 @@ overflow_faults = refl
 -- the inner block of `inner`
 abbrev inner_block : Stmt
 inner_block = block (Some 2) (all (
-    declares (makes f.Vector (head (row 0) (at 6 5) 0 None []) none) ∷
-    does (evaluates (call (head (row 15) (at 7 7) 1 (Some 1) (Some 2 ∷ [])) (with (literal t.Int (pos 2)) none))) ∷
-    does (moves_to 0 (call (head (row 7) (at 8 12) 0 (Some 1) (Some 2 ∷ [])) none)) ∷
+    declares (makes f.Vector (head (callees.Row 0) (at 6 5) None None []) none) ∷
+    does (evaluates (call (head (callees.Row 15) (at 7 7) (Some 1) (Some 1) (Some 2 ∷ [])) (with (literal t.Int (pos 2)) none))) ∷
+    does (moves_to 0 (call (head (callees.Row 7) (at 8 12) None (Some 1) (Some 2 ∷ [])) none)) ∷
     []))
 
 -- int main() {
@@ -114,19 +123,22 @@ inner_block = block (Some 2) (all (
 abbrev pub inner : Typed
 inner = record {
   functions = record {
+    name = [];
     parameters = [];
-    result = Some (by_value t.Int);
+    result = Some (parameter.Value t.Int);
+    variables = [];
     close = at 11 1;
     body = block (Some 3) (all (
-        declares (makes f.Vector (head (row 0) (at 2 3) 0 None []) none) ∷
-        does (evaluates (call (head (row 15) (at 3 5) 0 (Some 0) (Some 0 ∷ [])) (with (literal t.Int (pos 1)) none))) ∷
-        declares (set_iterator (call (head (row 7) (at 4 15) 0 (Some 0) (Some 0 ∷ [])) none)) ∷
+        declares (makes f.Vector (head (callees.Row 0) (at 2 3) None None []) none) ∷
+        does (evaluates (call (head (callees.Row 15) (at 3 5) (Some 0) (Some 0) (Some 0 ∷ [])) (with (literal t.Int (pos 1)) none))) ∷
+        declares (set_iterator (call (head (callees.Row 7) (at 4 15) None (Some 0) (Some 0 ∷ [])) none)) ∷
         inner_block ∷
         declares (set_scalar t.Int (held (deref (at 10 11) 0 1))) ∷
         []));
   } ∷ [];
   main = 0;
   sites = at 3 5 ∷ at 7 7 ∷ at 9 3 ∷ at 11 1 ∷ [];
+  loops = [];
   names = codes "v" ∷ codes "it" ∷ codes "w" ∷ [];
   constants = [];
 }
@@ -150,21 +162,25 @@ abbrev pub grown_elsewhere : Typed
 grown_elsewhere = record {
   functions =
       record {
-        parameters = a_container a.Whole f.Vector ∷ [];
+        name = [];
+        parameters = parameter.Container a.Whole f.Vector ∷ [];
         result = None;
+        variables = [];
         close = at 3 1;
         body = block None (all (
-            does (evaluates (call (head (row 15) (at 2 5) 0 (Some 0) (Some 0 ∷ [])) (with (literal t.Int (pos 1)) none))) ∷
+            does (evaluates (call (head (callees.Row 15) (at 2 5) (Some 0) (Some 0) (Some 0 ∷ [])) (with (literal t.Int (pos 1)) none))) ∷
             []));
       } ∷
       record {
+        name = [];
         parameters = [];
-        result = Some (by_value t.Int);
+        result = Some (parameter.Value t.Int);
+        variables = [];
         close = at 12 1;
         body = block (Some 1) (all (
-            declares (makes f.Vector (head (row 0) (at 5 3) 0 None []) none) ∷
+            declares (makes f.Vector (head (callees.Row 0) (at 5 3) None None []) none) ∷
             does (evaluates (own_call 0 (at 6 3) (with (container 0) none))) ∷
-            declares (set_iterator (call (head (row 7) (at 7 15) 0 (Some 0) (Some 0 ∷ [])) none)) ∷
+            declares (set_iterator (call (head (callees.Row 7) (at 7 15) None (Some 0) (Some 0 ∷ [])) none)) ∷
             does (assigns (deref (at 8 3) 0 1) (literal t.Int (pos 5))) ∷
             does (prints (number (held (deref (at 9 16) 0 1)) ∷ [])) ∷
             does (evaluates (own_call 0 (at 10 3) (with (container 0) none))) ∷
@@ -173,6 +189,7 @@ grown_elsewhere = record {
       } ∷ [];
   main = 1;
   sites = at 2 5 ∷ at 12 1 ∷ [];
+  loops = [];
   names = codes "v" ∷ codes "it" ∷ [];
   constants = [];
 }
@@ -192,18 +209,21 @@ grown_elsewhere_with_room = refl
 abbrev pub past_the_end : Typed
 past_the_end = record {
   functions = record {
+    name = [];
     parameters = [];
-    result = Some (by_value t.Int);
+    result = Some (parameter.Value t.Int);
+    variables = [];
     close = at 4 1;
     body = block (Some 0) (all (
-        declares (makes f.Vector (head (row 0) (at 2 3) 0 None []) none) ∷
+        declares (makes f.Vector (head (callees.Row 0) (at 2 3) None None []) none) ∷
         declares (set_scalar t.Int (held
-        (element (head (operator star) (at 3 11) 0 None (None ∷ None ∷ []))
-        (with (call (head (row 7) (at 3 14) 0 (Some 0) (Some 0 ∷ [])) none) none)))) ∷
+        (element (head (callees.Operator operators.Dereference) (at 3 11) None None (None ∷ None ∷ []))
+        (with (call (head (callees.Row 7) (at 3 14) None (Some 0) (Some 0 ∷ [])) none) none)))) ∷
         []));
   } ∷ [];
   main = 0;
   sites = at 4 1 ∷ [];
+  loops = [];
   names = codes "v" ∷ [];
   constants = [];
 }
@@ -218,16 +238,19 @@ past_the_end_traps = refl
 abbrev pub size_is_unbuilt : Typed
 size_is_unbuilt = record {
   functions = record {
+    name = [];
     parameters = [];
-    result = Some (by_value t.Int);
+    result = Some (parameter.Value t.Int);
+    variables = [];
     close = at 4 1;
     body = block (Some 0) (all (
-        declares (makes f.Vector (head (row 0) (at 2 3) 0 None []) none) ∷
-        declares (set_scalar t.Int (call (head (row 9) (at 3 13) 0 (Some 0) (Some 0 ∷ [])) none)) ∷
+        declares (makes f.Vector (head (callees.Row 0) (at 2 3) None None []) none) ∷
+        declares (set_scalar t.Int (call (head (callees.Row 9) (at 3 13) None (Some 0) (Some 0 ∷ [])) none)) ∷
         []));
   } ∷ [];
   main = 0;
   sites = at 4 1 ∷ [];
+  loops = [];
   names = codes "v" ∷ [];
   constants = [];
 }

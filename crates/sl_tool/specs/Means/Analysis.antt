@@ -3,8 +3,8 @@
 use Rattle.std.specs.Prelude.{ℕ, ◌==◌, Bool, true, false, List, [], ◌∷◌, ◌++◌, length, drop, slice_set, slice_index_or, Option, Some, None}
 use Rattle.std.specs.Prelude.{if◌then◌else◌}
 use Rattle.sl_base.specs.declared.place.Place.{Place}
-use Rattle.sl_syntax.specs.declared.typed.Stmt.{Stmt}
-use Rattle.sl_syntax.specs.declared.typed.Stmt.TheVariants.{Vector, PushBack, Begin, Dereference}
+use Rattle.sl_syntax.specs.declared.subset.Stmt.{Stmt}
+use Rattle.sl_syntax.specs.declared.subset.Stmt.TheVariants.{Vector, PushBack, Begin, Dereference}
 use Rattle.sl_tool.specs.declared.analysis.Standing.{Standing}
 use Rattle.sl_tool.specs.declared.analysis.Push.{Push}
 use Rattle.sl_tool.specs.declared.analysis.Warning.{Warning}
@@ -53,7 +53,7 @@ abbrev pub dereferenced : Known → Place → ℕ → Standing → List Warning
 dereferenced k place name standing = told_at place name (fault_in (killers_of k standing) standing.at_element)
 
 abbrev pub warned : Known → Stmt → List Warning
-warned k (Dereference place i name) = dereferenced k place name (standing_at k i)
+warned k (Dereference place i name named) = dereferenced k place name (standing_at k i)
 warned k s = []
 
 -- a new vector has no elements
@@ -75,14 +75,14 @@ found_valid k i standing =
 
 -- what is known behind a statement, in the runs that go on
 abbrev pub known_after : Known → Stmt → Known
-known_after k (Vector place) = with_vector k
+known_after k (Vector place named) = with_vector k
 known_after k (PushBack place v name site number) = with_push k v site
-known_after k (Begin place v name) = with_iterator k v
-known_after k (Dereference place i name) = found_valid k i (standing_at k i)
+known_after k (Begin place v name named) = with_iterator k v
+known_after k (Dereference place i name named) = found_valid k i (standing_at k i)
 
 -- Whether a run may go on behind a statement. None goes on behind `*` of an iterator that was made at the end of a vector.
 abbrev pub goes_on : Known → Stmt → Bool
-goes_on k (Dereference place i name) = (standing_at k i).at_element
+goes_on k (Dereference place i name named) = (standing_at k i).at_element
 goes_on k s = true
 
 -- what the analysis warns of in these statements

@@ -7,8 +7,8 @@ use Rattle.sl_base.specs.declared.place.Place.{Place}
 use Rattle.sl_base.specs.declared.token.Token.{Token}
 use Rattle.sl_base.specs.declared.word.Word.{Word}
 use Rattle.sl_base.specs.declared.word.Word.TheVariants.{Mark}
-use Rattle.sl_syntax.specs.declared.typed.Typed.{Typed}
-use Rattle.sl_syntax.specs.View.{is_vector}
+use Rattle.sl_syntax.specs.declared.subset.Text.{Text}
+use Rattle.sl_syntax.specs.SubsetView.{is_vector}
 use Rattle.sl_tool.specs.declared.reading.reader.Reader.{Reader}
 use Rattle.sl_tool.specs.declared.reading.read.Read.{Read}
 use Rattle.sl_tool.specs.declared.reading.read.Read.TheVariants.{Whole, Stops as ReadStops}
@@ -63,7 +63,7 @@ TakesItem old new tokens taken =
     (λ n. (i : Item) × BeginsWith (words_in tokens) i × (n ≡ length (item_words i)) × Adds old new tokens i)
 
 -- the text that is read, up to this brace
-abbrev pub text_of : Reader → Place → Typed
+abbrev pub text_of : Reader → Place → Text
 text_of r close = record {
   stmts = r.stmts;
   close = close;

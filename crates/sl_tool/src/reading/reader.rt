@@ -1,7 +1,7 @@
 //! Reads statements, one behind the other.
 ghost use Rattle.std.specs.Prelude.{◌≡◌, ◌↔◌, Contains, IsTrue, IfOk};
 ghost use Rattle.std.specs.List.{list_any};
-ghost use Rattle.sl_syntax.specs.View.{is_vector};
+ghost use Rattle.sl_syntax.specs.SubsetView.{is_vector};
 ghost use Rattle.sl_tool.specs.Subset.{begin_item, dereference_item, push_back_item, vector_item};
 
 use crate::reading::items::{
@@ -12,7 +12,7 @@ use crate::reading::names::{copy_of, number_of};
 use crate::reading::tokens::place_in;
 use sl_base::limits::{CONTAINERS, ITERATORS, SCALARS, SITES};
 use sl_base::{Items, Name, Place, Site, Token};
-use sl_syntax::typed::{Stmt, Typed};
+use sl_syntax::subset::{Stmt, Text};
 use std::alloc::{AllocError, Global};
 
 /// What is read so far: the names of vectors, of iterators, of numbers, and of all of them, each in the order in which
@@ -66,7 +66,7 @@ impl Reader {
     }
 
     /// The text that is read, which ends at this brace: a site, where it ends a vector.
-    pub fn finish(self, close: Place) -> Result<Typed, AllocError>
+    pub fn finish(self, close: Place) -> Result<Text, AllocError>
         ensures { IfOk result (λ p. p ≡ text_of self close) }
     {
         let Reader {
@@ -80,7 +80,7 @@ impl Reader {
         if has_vector(stmts.as_slice()) {
             sites.push(close)?;
         }
-        Ok(Typed {
+        Ok(Text {
             stmts,
             close,
             sites,
@@ -99,6 +99,7 @@ impl Reader {
         self.names.push(copy_of(name))?;
         self.stmts.push(Stmt::Vector {
             place: place_in(tokens, 0),
+            named: place_in(tokens, 4),
         })?;
         Ok(Some(VECTOR_TOKENS))
     }
@@ -148,6 +149,7 @@ impl Reader {
             place: place_in(tokens, 5),
             vector: k as u8,
             name: number_of(self.names.as_slice(), vector) as u16,
+            named: place_in(tokens, 1),
         })?;
         self.iterators.push(copy_of(name))?;
         self.names.push(copy_of(name))?;
@@ -172,6 +174,7 @@ impl Reader {
             place: place_in(tokens, 3),
             iterator: k as u8,
             name: number_of(self.names.as_slice(), iterator) as u16,
+            named: place_in(tokens, 1),
         })?;
         self.numbers.push(copy_of(name))?;
         self.names.push(copy_of(name))?;
