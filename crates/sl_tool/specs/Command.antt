@@ -1,18 +1,20 @@
 -- What the words of a command ask for.
-use Rattle.std.specs.Prelude.{ℕ, List, [], ◌∷◌, map, Option, Some, None, if◌then◌else◌, codes, String, string_bytes}
+use Rattle.std.specs.Prelude.{ℕ, List, [], ◌∷◌, map, if◌then◌else◌, codes, String, string_bytes}
 use Rattle.std.specs.Str.{bytes_eq}
-use Rattle.std.specs.Borrow.{Bor}
 use Rattle.std.specs.declared.alloc.Global.{Global}
 
 abbrev pub words_of : List (String Global) → List (List ℕ)
 words_of words = map string_bytes words
 
--- the file of `check FILE`; none where the words are anything else
-abbrev pub file_of : List (List ℕ) → Option (List ℕ)
-file_of (command ∷ file ∷ []) = if bytes_eq command (codes "check") then Some file else None
-file_of _ = None
+pub data Command : Type 0 where
+  -- `check FILE`
+  check : List ℕ → Command
+  -- `specs`
+  specs : Command
+  -- anything else
+  unknown : Command
 
--- the bytes that an option of a text points to
-abbrev pub text_in : Option (Bor (List ℕ)) → Option (List ℕ)
-text_in None = None
-text_in (Some text) = Some text.now
+abbrev pub command_of : List (List ℕ) → Command
+command_of (word ∷ []) = if bytes_eq word (codes "specs") then specs else unknown
+command_of (word ∷ file ∷ []) = if bytes_eq word (codes "check") then check file else unknown
+command_of _ = unknown

@@ -1,11 +1,12 @@
 -- What a run of the tool did, by what its words ask for.
-use Rattle.std.specs.Prelude.{◌≡◌, ℕ, List, take, Option, Some, None}
+use Rattle.std.specs.Prelude.{◌≡◌, ℕ, List, take, Option, Some}
 use Rattle.std.specs.Io.KnownBytes.{Appends, Keeps}
 use Rattle.sl_base.specs.declared.limits.TheConstants.{TEXT_BYTES}
 use Rattle.sl_base.specs.Outside.{Rose, NoFault, IsRead, IsReadInPart, OthersKept, AllKept}
 use Rattle.sl_tool.specs.declared.status.Status.{Status}
-use Rattle.sl_tool.specs.declared.status.Status.TheVariants.{Usage, ReadFault, WriteFault, Memory}
+use Rattle.sl_tool.specs.declared.status.Status.TheVariants.{Passed, Usage, ReadFault, WriteFault, Memory}
 use Rattle.sl_tool.specs.Answers.{AnswerTo}
+use Rattle.sl_tool.specs.Command.{Command, check, specs, unknown}
 use Rattle.sl_tool.specs.Texts.{usage_line, fault_line}
 
 -- what files tell: the bytes of each name that aren't read yet, how often a read has failed, and the name whose read failed last
@@ -53,8 +54,14 @@ pub data Checked (file : List ℕ) (result : Status) (files files' : FilesTell) 
   no_memory : result ≡ Memory → NoReadFailed files files' → IsReadInPart TEXT_BYTES (files.left file) (files'.left file)
       → NoWriteFailed out out' → Keeps out.taken out'.taken → Checked file result files files' out out'
 
--- What a run did, by the file that its words name, if they name one: no byte left another file; without a file it read none and wrote the usage
--- line.
-abbrev pub Outcome : Option (List ℕ) → Status → (files files' : FilesTell) (out out' : SinkTells) → Type 0
-Outcome None result files files' out out' = AllKept files.left files'.left × NoReadFailed files files' × Written Usage usage_line result out out'
-Outcome (Some file) result files files' out out' = OthersKept files.left files'.left file × Checked file result files files' out out'
+-- What a run of `specs` did: it wrote the tables of the library; or it ran out of memory and wrote nothing.
+pub data Listed (result : Status) (out out' : SinkTells) : Type 0 where
+  all_rows : Written Passed table_text result out out' → Listed result out out'
+  no_memory_for_rows : result ≡ Memory → NoWriteFailed out out' → Keeps out.taken out'.taken → Listed result out out'
+
+-- What a run did, by what its words ask for: no byte left another file than the one to be checked. Words that are no command are answered by
+-- the usage line.
+abbrev pub Outcome : Command → Status → (files files' : FilesTell) (out out' : SinkTells) → Type 0
+Outcome (check file) result files files' out out' = OthersKept files.left files'.left file × Checked file result files files' out out'
+Outcome specs result files files' out out' = AllKept files.left files'.left × NoReadFailed files files' × Listed result out out'
+Outcome unknown result files files' out out' = AllKept files.left files'.left × NoReadFailed files files' × Written Usage usage_line result out out'

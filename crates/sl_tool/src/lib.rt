@@ -3,6 +3,7 @@
 
 mod analysis;
 mod checking;
+mod command;
 mod laws;
 mod parsed;
 mod reading;
