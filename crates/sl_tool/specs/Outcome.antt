@@ -3,6 +3,7 @@ use Rattle.std.specs.Prelude.{◌≡◌, ℕ, List, take, Option, Some}
 use Rattle.std.specs.Io.KnownBytes.{Appends, Keeps}
 use Rattle.sl_base.specs.declared.limits.TheConstants.{TEXT_BYTES}
 use Rattle.sl_base.specs.Outside.{Rose, NoFault, IsRead, IsReadInPart, OthersKept, AllKept}
+use Rattle.sl_specs.specs.Printed.{table_text}
 use Rattle.sl_tool.specs.declared.status.Status.{Status}
 use Rattle.sl_tool.specs.declared.status.Status.TheVariants.{Passed, Usage, ReadFault, WriteFault, Memory}
 use Rattle.sl_tool.specs.Answers.{AnswerTo}
