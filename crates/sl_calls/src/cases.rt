@@ -1,6 +1,6 @@
 //! Case files that are wrong, and cases that differ.
 
-use crate::report::report_on;
+use sl_case_files::report_on;
 use std::test::Fail;
 
 /// Case files, each with what is told of it.

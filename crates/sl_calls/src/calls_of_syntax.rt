@@ -1,7 +1,7 @@
 //! Each public call of sl_syntax.
 
-use crate::kinds::word_text;
 use sl_base::{Form, Mark, Name, Place, Scalar, Word};
+use sl_case_files::word_text;
 use sl_syntax::{
     Block, ContainerType, Function, Identifier, Program, ResultType, TokenKind, write_tokens,
 };
