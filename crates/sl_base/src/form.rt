@@ -8,4 +8,6 @@ pub enum Form {
     Map,
     HashSet,
     HashMap,
+    MultiSet,
+    MultiMap,
 }

@@ -1,6 +1,5 @@
 -- The words of a block are read as that block, where those of its statements are read as they are.
-use Rattle.std.proofs.Common.{◌≡◌, ℕ, ◌+◌, ◌-◌, ◌≤◌, true, false, List, [], ◌∷◌, flat_map, Ok, refl, sym, ap, ◌∙◌, arith}
-use Rattle.std.proofs.lemmas.Bool.{lt-ltb}
+use Rattle.std.proofs.Common.{◌≡◌, ℕ, ◌+◌, ◌-◌, ◌≤◌, true, false, List, [], ◌∷◌, drop, flat_map, Ok, refl, sym, ap, ◌∙◌, arith}
 use Rattle.sl_base.specs.declared.mark.Mark.TheVariants as m
 use Rattle.sl_base.specs.declared.place.Place.{Place}
 use Rattle.sl_base.specs.declared.token.Token.{Token}
@@ -12,9 +11,10 @@ use Rattle.sl_syntax.specs.Tree.{Stmt, Item, Items, items_from}
 use Rattle.sl_syntax.specs.Written.{declaration_written, stmt_written, item_written, items_written}
 use Rattle.sl_grammar.specs.Means.Statements.{is_else, is_item, item, braced}
 use Rattle.sl_grammar.specs.Means.Steps.{Reader, Tall, kind_at, mark, all_behind}
-use Rattle.sl_grammar.proofs.CompleteBegins.{stmt-begins, item-begins, item-not_else, item-goes_on, item-some, declaration-height_some, declared-kind}
-use Rattle.sl_grammar.proofs.CompleteBegins.{stated-kind}
+use Rattle.sl_grammar.proofs.CompleteBegins.{begins_stmt, stmt-begins, stmt-no_reference, item-begins, item-not_else, item-goes_on, item-some}
+use Rattle.sl_grammar.proofs.CompleteBegins.{declaration-height_some, declaration-opens, stated-kind}
 use Rattle.sl_grammar.proofs.CompleteDeclarations.{declaration-complete}
+use Rattle.sl_grammar.proofs.CompleteEffects.{and-false}
 use Rattle.sl_grammar.proofs.CompleteLists.{zero-max}
 use Rattle.sl_grammar.proofs.CompleteSteps.{Turn, row, all-row}
 use Rattle.sl_grammar.proofs.Rows.{items-written, items-height}
@@ -58,14 +58,19 @@ module _ (inner : Reader (Tall Stmt)) (depth_left : ℕ) (i : ReadsStmts depth_l
       let e2 : us ≡ rest = c.spells in
       let some : 1 ≤ _ = declaration-height_some d in
       rw (
-        declared-kind inner depth_left d ts mid a,
-        lt-ltb 1 depth_left (omega (arith, p.1)),
+        (declaration-opens d ts mid a).reads inner depth_left (omega (arith, p.1)),
         declaration-complete (depth_left - 2) d ts mid p.0 (omega (arith, p.1)) (rw e refl) a,
         e,
         e2,
       ) refl))
   item-reads (t.states x) ts rest p f s =
-      rw (stated-kind inner depth_left (kind_at ts) (stmt-begins x ts rest p.0 s), i.reads x ts rest p.0 p.1 (λ _. f) s) refl
+      let begins : begins_stmt (kind_at ts) ≡ true = stmt-begins x ts rest p.0 s in
+      rw (
+        stmt-no_reference (kind_at ts) (kind_at (drop 1 ts)) begins,
+        and-false,
+        stated-kind inner depth_left (kind_at ts) begins,
+        i.reads x ts rest p.0 p.1 (λ _. f) s,
+      ) refl
 
   item-turn : (x : Item) (ts mid : List Token) → LowItem x → is_else (kind_at mid) ≡ false → Spelled (item_written x) ts mid
       → Turn is_item (item depth_left inner) item_height x ts mid

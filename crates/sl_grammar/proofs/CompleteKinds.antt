@@ -16,15 +16,22 @@ use Rattle.sl_syntax.specs.declared.operator.BinaryOperator.TheVariants as b
 use Rattle.sl_syntax.specs.declared.operator.Comparison.TheVariants as l
 use Rattle.sl_syntax.specs.declared.operator.PrefixOperator.{PrefixOperator}
 use Rattle.sl_syntax.specs.declared.operator.PrefixOperator.TheVariants as p
+use Rattle.sl_syntax.specs.declared.tree.element.ElementType.{ElementType}
+use Rattle.sl_syntax.specs.declared.tree.element.ElementType.TheVariants as y
 use Rattle.sl_syntax.specs.TokenKinds.{kind_of}
 use Rattle.sl_syntax.specs.Shaped.{binary_level, IsExpr}
 use Rattle.sl_syntax.specs.Tree as t
 use Rattle.sl_syntax.specs.Tree.{Expr}
-use Rattle.sl_syntax.specs.Written.{binary_mark, prefix_mark, assignment_mark, truth_word, scalar_word, form_word, written}
+use Rattle.sl_syntax.specs.Written.{binary_mark, prefix_mark, assignment_mark, truth_word, scalar_word, form_word, element_word, written}
 use Rattle.sl_grammar.specs.Means.Effects.{assignment_of}
 use Rattle.sl_grammar.specs.Means.Expressions.{infix_of, goes_on}
 use Rattle.sl_grammar.specs.Means.Steps.{kind_at, is_mark}
 use Rattle.sl_grammar.proofs.Spelling.{Spelled, split, at_word}
+
+-- what the type of an element is to the grammar
+abbrev pub element_token : ElementType → TokenKind
+element_token y.Int = k.Scalar c.Int
+element_token y.Auto = k.Auto
 
 pub truth-kind : (v : Bool) → kind_of (truth_word v) ≡ k.Truth v
 truth-kind true = refl
@@ -33,6 +40,10 @@ truth-kind false = refl
 pub scalar-kind : (s : Scalar) → kind_of (scalar_word s) ≡ k.Scalar s
 scalar-kind c.Int = refl
 scalar-kind _ = refl
+
+pub element-kind : (x : ElementType) → kind_of (element_word x) ≡ element_token x
+element-kind y.Int = refl
+element-kind y.Auto = refl
 
 pub form-kind : (x : Form) → kind_of (form_word x) ≡ k.Container x
 form-kind f.Vector = refl

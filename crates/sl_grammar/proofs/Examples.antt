@@ -11,9 +11,9 @@ use Rattle.sl_syntax.specs.declared.operator.BinaryOperator.TheVariants as b
 use Rattle.sl_syntax.specs.declared.tree.function.ResultType.TheVariants as z
 use Rattle.sl_syntax.specs.Tree as t
 use Rattle.sl_syntax.specs.Tree.{Program}
-use Rattle.sl_grammar.specs.Means.Declarations.{scalar_declaration, optional_value, params}
+use Rattle.sl_grammar.specs.Means.Declarations.{scalar_declaration, optional_value, params, result}
 use Rattle.sl_grammar.specs.Means.Expressions.{expr, from_operand, operand, climb, operation, combined}
-use Rattle.sl_grammar.specs.Means.Statements.{program, function, function_behind, braced, item, stmt}
+use Rattle.sl_grammar.specs.Means.Statements.{program, function, braced, item, stmt}
 use Rattle.sl_grammar.specs.Means.Steps.{mark, identifier, repeat}
 
 -- tokens of one line, each in the column of its number
@@ -47,7 +47,7 @@ sum_program = record {
 } ∷ []
 
 sum_is_read : program sum_words ≡ Ok ((sum_program, 6), [])
-unfolding program function function_behind params braced repeat item scalar_declaration optional_value expr from_operand operand climb operation
+unfolding program function result params braced repeat item scalar_declaration optional_value expr from_operand operand climb operation
     combined
     mark identifier stmt sum_words sum_program
 sum_is_read = refl

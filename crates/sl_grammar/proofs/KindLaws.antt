@@ -1,9 +1,10 @@
 -- What a kind tells of its word: a key, a lib or a mark that the grammar names is the kind's own word, and a name, a number and a text are what
 -- they hold.
-use Rattle.std.proofs.Common.{◌≡◌, ℕ, Bool, true, false, cond, List, [], ◌∷◌, Option, Some, None, refl, sym, ap, subst, ◌∙◌, rules}
+use Rattle.std.proofs.Common.{◌≡◌, ℕ, ◌<◌, nat_lt, Bool, true, false, cond, List, [], ◌∷◌, length, Option, Some, None, refl, sym, ap, subst, ◌∙◌}
+use Rattle.std.proofs.Common.{arith, rules}
 use Rattle.std.specs.Prelude.{codes, find, option_map, ◌&&◌}
 use Rattle.std.specs.Str.{bytes_eq}
-use Rattle.std.proofs.lemmas.Bool.{false≢true}
+use Rattle.std.proofs.lemmas.Bool.{false≢true, ltb-true}
 use Rattle.std.proofs.lemmas.Slice.Eq.{bytes_eq-Decides}
 use denote.Enum.Bare.{same_true}
 use Rattle.sl_base.specs.contracts.mark.Mark.{the_type}
@@ -75,13 +76,50 @@ only_rows : (make : List ℕ → Word) (rows : List (List ℕ × TokenKind)) →
 only_rows make [] h = tt
 only_rows make (row ∷ rows) h = (λ x e. some_one (sym h.0 ∙ e), only_rows make rows h.1)
 
+-- the bytes of a key, and those of a lib
+abbrev key_bytes : Option Word → List ℕ
+key_bytes (Some (w.Key bytes)) = bytes
+key_bytes _ = []
+
+abbrev lib_bytes : Option Word → List ℕ
+lib_bytes (Some (w.Lib bytes)) = bytes
+lib_bytes _ = []
+
+-- each row of a table has bytes, which are those of its kind's own word
+abbrev own_bytes : (Option Word → List ℕ) → List (List ℕ × TokenKind) → Bool
+own_bytes bytes_of [] = true
+own_bytes bytes_of (row ∷ rows) = nat_lt 0 (length row.0) && (bytes_eq (bytes_of (fixed row.1)) row.0 && own_bytes bytes_of rows)
+
+-- where that is so of words of one sort, each is its kind's own word
+own_rows : (bytes_of : Option Word → List ℕ) (make : List ℕ → Word)
+    → ((x : Option Word) → 0 < length (bytes_of x) → x ≡ Some (make (bytes_of x)))
+    → (rows : List (List ℕ × TokenKind)) → own_bytes bytes_of rows ≡ true
+    → Each (λ (row : List ℕ × TokenKind). fixed row.1 ≡ Some (make row.0)) rows
+own_rows bytes_of make one [] h = tt
+own_rows bytes_of make one (row ∷ rows) h =
+    let some = both (nat_lt 0 (length row.0)) _ h in
+    let same = both (bytes_eq (bytes_of (fixed row.1)) row.0) (own_bytes bytes_of rows) some.1 in
+    let e : bytes_of (fixed row.1) ≡ row.0 = (bytes_eq-Decides (bytes_of (fixed row.1)) row.0).0 same.0 in
+    let long : 0 < length (bytes_of (fixed row.1)) = rw e (ltb-true 0 (length row.0) some.0) in
+    (one (fixed row.1) long ∙ ap (λ (b : List ℕ). Some (make b)) e, own_rows bytes_of make one rows same.1)
+
+key_of_bytes : (x : Option Word) → 0 < length (key_bytes x) → x ≡ Some (w.Key (key_bytes x))
+key_of_bytes (Some (w.Key bytes)) h = refl
+key_of_bytes (Some _) h = absurd (omega (arith, h))
+key_of_bytes None h = absurd (omega (arith, h))
+
+lib_of_bytes : (x : Option Word) → 0 < length (lib_bytes x) → x ≡ Some (w.Lib (lib_bytes x))
+lib_of_bytes (Some (w.Lib bytes)) h = refl
+lib_of_bytes (Some _) h = absurd (omega (arith, h))
+lib_of_bytes None h = absurd (omega (arith, h))
+
 key_fixed : (bytes : List ℕ) → Only w.Key bytes (kind_in keys k.Other bytes)
-key_fixed bytes = in_rows (Only w.Key) bytes k.Other (none_fixed w.Key bytes k.Other refl) keys (only_rows w.Key keys
-    (refl, (refl, (refl, (refl, (refl, (refl, (refl, (refl, (refl, (refl, (refl, (refl, (refl, (refl, tt)))))))))))))))
+key_fixed bytes = in_rows (Only w.Key) bytes k.Other (none_fixed w.Key bytes k.Other refl) keys
+    (only_rows w.Key keys (own_rows key_bytes w.Key key_of_bytes keys refl))
 
 lib_fixed : (bytes : List ℕ) → Only w.Lib bytes (kind_in libs k.Library bytes)
-lib_fixed bytes = in_rows (Only w.Lib) bytes k.Library (none_fixed w.Lib bytes k.Library refl) libs (only_rows w.Lib libs
-    (refl, (refl, (refl, (refl, (refl, (refl, (refl, (refl, (refl, (refl, (refl, (refl, tt)))))))))))))
+lib_fixed bytes = in_rows (Only w.Lib) bytes k.Library (none_fixed w.Lib bytes k.Library refl) libs
+    (only_rows w.Lib libs (own_rows lib_bytes w.Lib lib_of_bytes libs refl))
 
 -- a word of a kind that has one word is that word
 pub fixed_word : (y x : Word) → fixed (kind_of y) ≡ Some x → y ≡ x

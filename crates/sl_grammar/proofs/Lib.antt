@@ -19,6 +19,8 @@ pub mod CompletePrograms
 pub mod NearSteps
 pub mod NearExpressions
 pub mod NearDeclarations
+pub mod NearHeads
+pub mod NearParams
 pub mod NearEffects
 pub mod NearStatements
 -- ## Sound: what is read is written so
@@ -39,10 +41,14 @@ pub mod ViableOperands
 pub mod ViableExpressions
 pub mod ViableEffects
 pub mod ViableDeclarations
-pub mod ViableParams
 pub mod ViableBlocks
 pub mod ViableFors
 pub mod ViableStatements
 pub mod ViablePrograms
+-- ## Both in one: what is read is written so, and the tokens before a fault begin what is read
+pub mod MeetSteps
+pub mod MeetHeads
+pub mod MeetParams
+pub mod MeetFunctions
 -- ## The laws of the reader of programs
 pub mod ProgramLaws

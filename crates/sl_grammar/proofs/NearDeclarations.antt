@@ -1,21 +1,38 @@
--- The readers of types, declarations and parameters do the same up to a point.
-use Rattle.std.proofs.Common.{ℕ, ◌+◌, nat_lt, Bool, true, false, [], ◌∷◌, drop, refl}
+-- The readers of types and declarations do the same up to a point.
+use Rattle.std.proofs.Common.{ℕ, ◌+◌, ◌≤◌, nat_lt, Bool, true, false, List, ◌∷◌, length, drop, refl}
 use Rattle.sl_base.specs.declared.form.Form.{Form}
 use Rattle.sl_base.specs.declared.mark.Mark.TheVariants as m
 use Rattle.sl_base.specs.declared.place.Place.{Place}
 use Rattle.sl_base.specs.declared.scalar.Scalar.{Scalar}
 use Rattle.sl_base.specs.declared.scalar.Scalar.TheVariants as c
+use Rattle.sl_base.specs.declared.token.Token.{Token}
 use Rattle.sl_syntax.specs.declared.token_kind.TokenKind.{TokenKind}
 use Rattle.sl_syntax.specs.declared.token_kind.TokenKind.TheVariants as k
+use Rattle.sl_syntax.specs.Tree as t
+use Rattle.sl_syntax.specs.Tree.{Declaration}
 use Rattle.sl_syntax.specs.Written.{is_map}
 use Rattle.sl_grammar.specs.Means.Declarations.{int_by, int, elements_by, container_type, optional_value, scalar_declaration, auto_declaration}
 use Rattle.sl_grammar.specs.Means.Declarations.{braces, behind_equal_by, constructed, initializer_by, initializer, container_declaration}
-use Rattle.sl_grammar.specs.Means.Declarations.{scalar_param, container_param, container_by, const_param, param_by, param, comma_param, params}
 use Rattle.sl_grammar.specs.Means.Expressions.{expr}
-use Rattle.sl_grammar.specs.Means.Steps.{is_mark}
+use Rattle.sl_grammar.specs.Means.Steps.{Reader, Tall, ◌>>=◌, ◌>>◌, pure, is_mark, mark, identifier}
 use Rattle.sl_grammar.proofs.NearExpressions.{list-near, list_before-near, expr-near}
-use Rattle.sl_grammar.proofs.NearSteps.{Twins, Level, Any, plain, tall, yields, refuses, loose, skipped, chosen, by_test, under, mark-near}
-use Rattle.sl_grammar.proofs.NearSteps.{identifier-near, repeat-near}
+use Rattle.sl_grammar.proofs.NearSteps.{left_over, left-within, Twins, Level, Any, plain, tall, yields, refuses, loose, skipped, chosen, by_test, under, mark-near}
+use Rattle.sl_grammar.proofs.NearSteps.{identifier-near}
+
+-- what is read behind the first word of a declaration
+module _ (depth_left : ℕ) where
+  abbrev scalar_behind : Place → Scalar → Reader (Tall Declaration)
+  scalar_behind place scalar = do
+    x ← identifier
+    v ← optional_value depth_left
+    pure (t.declares_scalar place scalar x v.0, v.1 + 1)
+
+  abbrev auto_behind : Place → Reader (Tall Declaration)
+  auto_behind place = do
+    x ← identifier
+    mark m.Equal
+    v ← expr (depth_left + 1) 1
+    pure (t.declares_auto place x v.0, v.1 + 1)
 
 module _ {b : ℕ} where
   int_by-near : (kind : TokenKind) → Twins b 0 Any (int_by kind) (int_by kind)
@@ -32,7 +49,7 @@ module _ {b : ℕ} where
   elements_by-near true s s' = plain (mark-near m.Less s s') (λ _ _ s s'. plain (int-near s s') (λ _ _ s s'. plain (mark-near m.Comma s s')
       (λ _ _ s s'. plain (int-near s s') (λ _ _ s s'. plain (mark-near m.Greater s s') (λ _ _ _ _. yields tt)))))
 
-  container_type-near : (form : Form) → Twins b 1 Any (container_type form) (container_type form)
+  pub container_type-near : (form : Form) → Twins b 1 Any (container_type form) (container_type form)
   unfolding container_type
   container_type-near form s s' = skipped (plain (elements_by-near (is_map form) _ _) (λ _ _ _ _. yields tt))
 
@@ -42,15 +59,22 @@ module _ {b : ℕ} where
     optional_value-near s s' = by_test (is_mark m.Equal) (skipped (loose (tall _ _ (expr-near (depth_left + 1) 1 _ _) (λ _ _ _ _ _. yields refl))))
         (yields refl)
 
+    scalar_behind-near : (place place' : Place) (scalar : Scalar)
+        → Twins b 1 Level (scalar_behind depth_left place scalar) (scalar_behind depth_left place' scalar)
+    scalar_behind-near place place' scalar s s' = plain (identifier-near s s')
+        (λ _ _ s s'. tall _ _ (optional_value-near s s') (λ _ _ _ _ _. yields refl))
+
+    auto_behind-near : (place place' : Place) → Twins b 1 Level (auto_behind depth_left place) (auto_behind depth_left place')
+    auto_behind-near place place' s s' = plain (identifier-near s s') (λ _ _ s s'. plain (mark-near m.Equal s s')
+        (λ _ _ s s'. tall _ _ (expr-near (depth_left + 1) 1 s s') (λ _ _ _ _ _. yields refl)))
+
     pub scalar_declaration-near : (scalar : Scalar) → Twins b 1 Level (scalar_declaration depth_left scalar) (scalar_declaration depth_left scalar)
     unfolding scalar_declaration
-    scalar_declaration-near scalar s s' = skipped (plain (identifier-near _ _)
-        (λ _ _ s s'. tall _ _ (optional_value-near s s') (λ _ _ _ _ _. yields refl)))
+    scalar_declaration-near scalar s s' = skipped (scalar_behind-near _ _ scalar _ _)
 
     pub auto_declaration-near : Twins b 1 Level (auto_declaration depth_left) (auto_declaration depth_left)
     unfolding auto_declaration
-    auto_declaration-near s s' = skipped (plain (identifier-near _ _) (λ _ _ s s'. plain (mark-near m.Equal s s')
-        (λ _ _ s s'. tall _ _ (expr-near (depth_left + 1) 1 s s') (λ _ _ _ _ _. yields refl))))
+    auto_declaration-near s s' = skipped (auto_behind-near _ _ _ _)
 
     braces-near : (equal : Bool) → Twins b 1 Level (braces depth_left equal) (braces depth_left equal)
     unfolding braces
@@ -88,39 +112,14 @@ module _ {b : ℕ} where
         under (nat_lt 0 depth_left) (plain (container_type-near form s s') (λ _ _ s s'. plain (identifier-near s s')
         (λ _ _ s s'. tall _ _ (initializer-near s s') (λ _ _ _ _ _. yields refl))))
 
-  scalar_param-near : (place place' : Place) (scalar : Scalar) → Twins b 1 Level (scalar_param place scalar) (scalar_param place' scalar)
-  unfolding scalar_param
-  scalar_param-near place place' scalar s s' = by_test (is_mark m.And) (skipped (plain (identifier-near _ _) (λ _ _ _ _. yields refl)))
-      (plain (identifier-near s s') (λ _ _ _ _. yields refl))
+-- the first word is taken
+pub scalar-left : (depth_left : ℕ) (scalar : Scalar) (x : Token) (ts : List Token)
+    → left_over (scalar_declaration depth_left scalar (x ∷ ts)) ≤ length ts
+unfolding scalar_declaration
+scalar-left depth_left scalar x ts = left-within 1 (length ts) (scalar_behind depth_left x.place scalar ts)
+    (scalar_behind-near {b = 0} depth_left x.place x.place scalar ts ts).within
 
-  container_param-near : (form : Form) → Twins b 1 Level (container_param form) (container_param form)
-  unfolding container_param
-  container_param-near form s s' = plain (container_type-near form s s') (λ _ _ s s'. plain (mark-near m.And s s')
-      (λ _ _ s s'. plain (identifier-near s s') (λ _ _ _ _. yields refl)))
-
-  container_by-near : (kind : TokenKind) → Twins b 1 Any (container_by kind) (container_by kind)
-  container_by-near (k.Container form) s s' = container_type-near form s s'
-  container_by-near _ s s' = refuses
-
-  const_param-near : Twins b 1 Level const_param const_param
-  unfolding const_param
-  const_param-near s s' = skipped (plain (chosen container_by container_by container_by-near (drop 1 s) (drop 1 s'))
-      (λ _ _ s s'. plain (mark-near m.And s s') (λ _ _ s s'. plain (identifier-near s s') (λ _ _ _ _. yields refl))))
-
-  param_by-near : (kind : TokenKind) → Twins b 1 Level (param_by kind) (param_by kind)
-  param_by-near (k.Scalar scalar) s s' = skipped (scalar_param-near _ _ scalar _ _)
-  param_by-near (k.Container form) s s' = container_param-near form s s'
-  param_by-near k.Const s s' = const_param-near s s'
-  param_by-near _ s s' = refuses
-
-  param-near : Twins b 1 Level param param
-  unfolding param
-  param-near s s' = chosen param_by param_by param_by-near s s'
-
-  comma_param-near : Twins b 1 Level comma_param comma_param
-  comma_param-near s s' = plain (mark-near m.Comma s s') (λ _ _ u u'. param-near u u')
-
-  pub params-near : Twins b 0 Level params params
-  unfolding params
-  params-near s s' = by_test (is_mark m.RightParenthesis) (yields refl)
-      (loose (tall _ _ (param-near s s') (λ x y z u u'. repeat-near (is_mark m.Comma) comma_param comma_param-near (x ∷ []) (y ∷ []) z u u')))
+pub auto-left : (depth_left : ℕ) (x : Token) (ts : List Token) → left_over (auto_declaration depth_left (x ∷ ts)) ≤ length ts
+unfolding auto_declaration
+auto-left depth_left x ts = left-within 1 (length ts) (auto_behind depth_left x.place ts)
+    (auto_behind-near {b = 0} depth_left x.place x.place ts ts).within

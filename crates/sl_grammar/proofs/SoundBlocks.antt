@@ -1,6 +1,6 @@
 -- What is read as a block is the words of items that follow the grammar.
 use Rattle.std.proofs.Common.{◌≡◌, ℕ, ◌+◌, ◌-◌, ◌<◌, true, false, List, [], ◌∷◌, ◌++◌, Ok, refl, ap, arith, append_assoc}
-use Rattle.std.specs.Prelude.{nat_lt}
+use Rattle.std.specs.Prelude.{nat_lt, ◌&&◌}
 use Rattle.std.proofs.lemmas.Bool.{ltb-true}
 use Rattle.sl_base.specs.declared.mark.Mark.TheVariants as m
 use Rattle.sl_base.specs.declared.place.Place.{Place}
@@ -13,14 +13,18 @@ use Rattle.sl_syntax.specs.Tree as t
 use Rattle.sl_syntax.specs.Tree.{Declaration, Cond, Stmt, Item, Items}
 use Rattle.sl_syntax.specs.Written as s
 use Rattle.sl_syntax.specs.Written.{Written, declaration_written, cond_written, tested, stmt_written, item_written}
-use Rattle.sl_grammar.specs.Means.Declarations.{scalar_declaration, auto_declaration, container_declaration}
+use Rattle.sl_grammar.specs.Means.Declarations.{scalar_declaration, auto_declaration, container_declaration, begins_reference}
+use Rattle.sl_grammar.specs.Means.Declarations.{reference_declaration}
 use Rattle.sl_grammar.specs.Means.Effects as effects
 use Rattle.sl_grammar.specs.Means.Statements.{is_else, is_item, declared, item_by, item, braced, condition}
 use Rattle.sl_grammar.specs.Means.Steps.{Reader, Tall, kind_at, mark, all_behind}
+use Rattle.sl_grammar.proofs.KindLaws.{both}
+use Rattle.sl_grammar.proofs.MeetHeads.{reference-met}
+use Rattle.sl_grammar.proofs.MeetSteps.{parts_of}
 use Rattle.sl_grammar.proofs.Rows.{items-written, items-height, are_items}
 use Rattle.sl_grammar.proofs.SoundDeclarations.{scalar-part, auto-part, container-part}
 use Rattle.sl_grammar.proofs.SoundEffects.{cond-part}
-use Rattle.sl_grammar.proofs.SoundSteps.{Took, bound, guarded, answered, mark_took, mark_plain, mark_here, Part, Parts, behind}
+use Rattle.sl_grammar.proofs.SoundSteps.{Took, bound, chosen, guarded, answered, mark_took, mark_plain, mark_here, Part, Parts, behind}
 use Rattle.sl_grammar.proofs.Spelling.{◌⨾◌, respelled}
 
 -- What is read as a statement: where it ends in an `if` that has no `else`, none follows.
@@ -93,7 +97,15 @@ module _ (inner : Reader (Tall Stmt)) (depth_left : ℕ) (f : Finds inner depth_
 
   pub item-part : Parts item_written IsItem item_height depth_left (item depth_left inner)
   unfolding item
-  item-part ts y h = item-by (kind_at ts) ts y refl h
+  item-part ts y h =
+      chosen (nat_lt 2 depth_left && begins_reference ts) _ _ _ (ItemAt depth_left ts y) h
+      (λ begins h1.
+      let deep : 2 < depth_left = ltb-true 2 depth_left (both (nat_lt 2 depth_left) (begins_reference ts) begins).0 in
+      let refers = reference_declaration (depth_left - 2) in
+      declared-part refers ts y (omega (arith, deep))
+      (parts_of declaration_written IsDeclaration declaration_height (depth_left - 2 + 1) refers (reference-met (depth_left - 2) (omega (arith, deep))) ts)
+      h1)
+      (λ other h1. item-by (kind_at ts) ts y refl h1)
 
   pub braced-part : Parts block_written IsBlock block_height (depth_left + 1) (braced inner depth_left)
   unfolding braced

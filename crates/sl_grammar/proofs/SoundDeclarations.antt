@@ -1,4 +1,4 @@
--- What is read as a type, a declaration or parameters is the words of such that follow the grammar.
+-- What is read as a type or a declaration is the words of one that follows the grammar.
 use Rattle.std.proofs.Common.{◌≡◌, ℕ, ◌+◌, ◌-◌, ◌<◌, Bool, true, false, List, [], ◌∷◌, ◌++◌, Option, Some, None, Ok, refl, arith, drop}
 use Rattle.std.specs.Prelude.{nat_lt, codes}
 use Rattle.std.proofs.lemmas.Bool.{ltb-true}
@@ -12,25 +12,21 @@ use Rattle.sl_base.specs.declared.word.Word.TheVariants as w
 use Rattle.sl_syntax.specs.declared.token_kind.TokenKind.{TokenKind}
 use Rattle.sl_syntax.specs.declared.token_kind.TokenKind.TheVariants as k
 use Rattle.sl_syntax.specs.declared.tree.declaration.ContainerType.{ContainerType}
-use Rattle.sl_syntax.specs.declared.tree.function.Param.{Param}
 use Rattle.sl_syntax.specs.declared.tree.identifier.Identifier.{Identifier}
-use Rattle.sl_syntax.specs.Depth.{height, highest, option_height, initializer_height, declaration_height, param_height}
+use Rattle.sl_syntax.specs.Depth.{height, option_height, initializer_height, declaration_height}
 use Rattle.sl_syntax.specs.Shaped.{IsExpr, IfThere, IsInitializer, IsDeclaration}
 use Rattle.sl_syntax.specs.Tree as t
 use Rattle.sl_syntax.specs.Tree.{Expr, Exprs, Initializer, Declaration}
 use Rattle.sl_syntax.specs.Written as s
 use Rattle.sl_syntax.specs.Written.{Written, at, plain, is_map, scalar_word, form_word, elements_written, container_written, written, list_written}
-use Rattle.sl_syntax.specs.Written.{initializer_written, value_written, declaration_written, option_written, param_written, params_written}
+use Rattle.sl_syntax.specs.Written.{initializer_written, value_written, declaration_written, option_written}
 use Rattle.sl_grammar.specs.Means.Declarations.{int_by, int, elements_by, container_type, optional_value, scalar_declaration, auto_declaration}
 use Rattle.sl_grammar.specs.Means.Declarations.{braces, behind_equal_by, constructed, initializer_by, initializer, container_declaration}
-use Rattle.sl_grammar.specs.Means.Declarations.{scalar_param, container_param, container_by, const_param, param_by, param, comma_param, params}
 use Rattle.sl_grammar.specs.Means.Expressions.{expr, list, list_before}
 use Rattle.sl_grammar.specs.Means.Steps.{kind_at, here, is_mark, mark, identifier}
-use Rattle.sl_grammar.proofs.Rows.{Anything, comma_param_written}
 use Rattle.sl_grammar.proofs.SoundExpressions.{sound, whole-part}
 use Rattle.sl_grammar.proofs.SoundLists.{list-part, list-before-part}
 use Rattle.sl_grammar.proofs.SoundSteps.{Took, bound, chosen, guarded, answered, one_word, one_plain, seen, mark_plain, identifier_took, Part, Parts}
-use Rattle.sl_grammar.proofs.SoundSteps.{behind}
 use Rattle.sl_grammar.proofs.Spelling.{Spelled, ◌⨾◌, no_words, respelled}
 
 -- what is read from these tokens
@@ -39,9 +35,6 @@ DeclarationAt depth_left ts y = Part declaration_written IsDeclaration declarati
 
 abbrev pub InitializerAt : ℕ → List Token → Took Initializer → Type 0
 InitializerAt depth_left ts y = Part initializer_written IsInitializer initializer_height depth_left ts y.0 y.1
-
-abbrev pub ParamAt : ℕ → List Token → Took Param → Type 0
-ParamAt depth_left ts y = Part param_written Anything param_height depth_left ts y.0 y.1
 
 int-by : (kind : TokenKind) (ts : List Token) (y : Unit {0} × List Token) → kind_at ts ≡ kind → int_by kind ts ≡ Ok y
     → Spelled (plain (scalar_word c.Int) ∷ []) ts y.1
@@ -223,92 +216,3 @@ module _ (depth_left : ℕ) where
         size = omega (arith, found.size);
         low = omega (arith, above, found.low);
       })))))
-
-scalar_param-part : (scalar : Scalar) (ts : List Token) (y : Took Param) → kind_at ts ≡ k.Scalar scalar
-    → scalar_param (here ts) scalar (drop 1 ts) ≡ Ok y
-    → ParamAt 2 ts y
-unfolding scalar_param
-scalar_param-part scalar ts y e h =
-    let P : Took Param → Type 0 = ParamAt 2 ts in
-    let first = one_word ts (k.Scalar scalar) (scalar_word scalar) e refl in
-    chosen (is_mark m.And (kind_at (drop 1 ts))) _ _ _ (P y) h
-    (λ sees h1.
-    bound (identifier (drop 1 (drop 1 ts))) _ y P h1 (λ x name h2.
-    answered _ y P h2 (record {
-      spelled = first ⨾ (seen m.And (drop 1 ts) sees ⨾ identifier_took (drop 1 (drop 1 ts)) x name);
-      fits = tt;
-      size = refl;
-      low = omega arith;
-    })))
-    (λ other h1.
-    bound (identifier (drop 1 ts)) _ y P h1 (λ x name h2.
-    answered _ y P h2 (record { spelled = first ⨾ identifier_took (drop 1 ts) x name; fits = tt; size = refl; low = omega arith })))
-
-container_param-part : (form : Form) (ts : List Token) (y : Took Param) → kind_at ts ≡ k.Container form → container_param form ts ≡ Ok y
-    → ParamAt 2 ts y
-unfolding container_param
-container_param-part form ts y e h =
-    let P : Took Param → Type 0 = ParamAt 2 ts in
-    bound (container_type form ts) _ y P h (λ type typed h1.
-    bound (mark m.And type.1) _ y P h1 (λ u and h2.
-    bound (identifier u.1) _ y P h2 (λ x name h3.
-    answered _ y P h3 (record {
-      spelled = type-took form ts type e typed ⨾ (mark_plain m.And type.1 u and ⨾ identifier_took u.1 x name);
-      fits = tt;
-      size = refl;
-      low = omega arith;
-    }))))
-
-pub by-took : (kind : TokenKind) (ts : List Token) (y : ContainerType × List Token) → kind_at ts ≡ kind → container_by kind ts ≡ Ok y
-    → Spelled (container_written y.0) ts y.1
-by-took (k.Container form) ts y e h = type-took form ts y e h
-by-took _ ts y e h = absurd cc
-
-const_param-part : (ts : List Token) (y : Took Param) → kind_at ts ≡ k.Const → const_param ts ≡ Ok y → ParamAt 2 ts y
-unfolding const_param
-const_param-part ts y e h =
-    let P : Took Param → Type 0 = ParamAt 2 ts in
-    bound (container_by (kind_at (drop 1 ts)) (drop 1 ts)) _ y P h (λ type typed h1.
-    bound (mark m.And type.1) _ y P h1 (λ u and h2.
-    bound (identifier u.1) _ y P h2 (λ x name h3.
-    answered _ y P h3 (record {
-      spelled = one_word ts k.Const (w.Key (codes "const")) e refl
-          ⨾ (by-took (kind_at (drop 1 ts)) (drop 1 ts) type refl typed ⨾ (mark_plain m.And type.1 u and ⨾ identifier_took u.1 x name));
-      fits = tt;
-      size = refl;
-      low = omega arith;
-    }))))
-
-param-by : (kind : TokenKind) (ts : List Token) (y : Took Param) → kind_at ts ≡ kind → param_by kind ts ≡ Ok y → ParamAt 2 ts y
-param-by (k.Scalar scalar) ts y e h = scalar_param-part scalar ts y e h
-param-by (k.Container form) ts y e h = container_param-part form ts y e h
-param-by k.Const ts y e h = const_param-part ts y e h
-param-by _ ts y e h = absurd cc
-
-pub param-part : Parts param_written Anything param_height 2 param
-unfolding param
-param-part ts y h = param-by (kind_at ts) ts y refl h
-
-pub comma-part : Parts comma_param_written Anything param_height 2 comma_param
-comma-part ts y h =
-    let P : Took Param → Type 0 = λ z. Part comma_param_written Anything param_height 2 ts z.0 z.1 in
-    bound (mark m.Comma ts) _ y P h (λ u comma h1.
-    let found = param-part u.1 y h1 in
-    record { spelled = mark_plain m.Comma ts u comma ⨾ found.spelled; fits = tt; size = found.size; low = found.low })
-
-pub params-part : Parts params_written Anything (highest param_height) 2 params
-unfolding params
-params-part ts y h =
-    let P : Took (List Param) → Type 0 = λ z. Part params_written Anything (highest param_height) 2 ts z.0 z.1 in
-    chosen (is_mark m.RightParenthesis (kind_at ts)) _ _ _ (P y) h
-    (λ closes h1. answered _ y P h1 (record { spelled = no_words ts; fits = tt; size = refl; low = omega arith }))
-    (λ opens h1.
-    bound (param ts) _ y P h1 (λ x one h2.
-    let first = param-part ts x one in
-    let others = behind comma_param_written Anything param_height 2 (is_mark m.Comma) comma_param comma-part (x.0.0 ∷ [], x.0.1) x.1 y h2 in
-    record {
-      spelled = rw others.all (first.spelled ⨾ others.spelled);
-      fits = tt;
-      size = rw others.all (omega (arith, first.size, others.size));
-      low = omega (arith, first.size, first.low, others.size, others.low);
-    }))

@@ -1,7 +1,7 @@
 -- What is read as a `for` is the words of one that follows the grammar.
-use Rattle.std.proofs.Common.{◌≡◌, ℕ, ◌+◌, true, List, [], ◌∷◌, Option, Some, None, Ok, refl, ap, ◌∙◌, arith, drop}
+use Rattle.std.proofs.Common.{◌≡◌, ℕ, ◌+◌, ◌<◌, ◌≤◌, true, List, [], ◌∷◌, Option, Some, None, Ok, refl, ap, ◌∙◌, arith, drop}
 use Rattle.std.specs.Prelude.{nat_lt, ◌&&◌, codes}
-use Rattle.std.proofs.lemmas.Bool.{false≢true}
+use Rattle.std.proofs.lemmas.Bool.{false≢true, ltb-true}
 use Rattle.sl_base.specs.declared.mark.Mark.TheVariants as m
 use Rattle.sl_base.specs.declared.place.Place.{Place}
 use Rattle.sl_base.specs.declared.scalar.Scalar.{Scalar}
@@ -11,21 +11,26 @@ use Rattle.sl_base.specs.declared.word.Word.{Word}
 use Rattle.sl_base.specs.declared.word.Word.TheVariants as w
 use Rattle.sl_syntax.specs.declared.token_kind.TokenKind.{TokenKind}
 use Rattle.sl_syntax.specs.declared.token_kind.TokenKind.TheVariants as k
+use Rattle.sl_syntax.specs.declared.tree.element.Element.{Element}
+use Rattle.sl_syntax.specs.declared.tree.element.Element.TheVariants as l
 use Rattle.sl_syntax.specs.declared.tree.identifier.Identifier.{Identifier}
-use Rattle.sl_syntax.specs.Depth.{height, option_height, effect_height, cond_height, first_height}
+use Rattle.sl_syntax.specs.Depth.{height, option_height, effect_height, cond_height, element_height, first_height}
 use Rattle.sl_syntax.specs.Shaped.{IsExpr, IfThere, IsEffect, IsCond, IsFirst}
 use Rattle.sl_syntax.specs.Tree as t
 use Rattle.sl_syntax.specs.Tree.{Expr, Effect, Cond, First, Stmt}
 use Rattle.sl_syntax.specs.Written as s
-use Rattle.sl_syntax.specs.Written.{Written, at, scalar_word, element_word, value_written, option_written, effect_written, cond_written}
+use Rattle.sl_syntax.specs.Written.{Written, at, scalar_word, element_word, element_written, value_written, option_written, effect_written, cond_written}
 use Rattle.sl_syntax.specs.Written.{first_written, tested}
+use Rattle.sl_grammar.specs.Means.Declarations.{begins_reference, reference_head}
 use Rattle.sl_grammar.specs.Means.Effects.{effect}
 use Rattle.sl_grammar.specs.Means.Effects as effects
 use Rattle.sl_grammar.specs.Means.Expressions.{expr}
-use Rattle.sl_grammar.specs.Means.Statements.{ranges, is_auto, first_of, optional_cond, optional_effect, for_behind, range_behind, valued_first}
-use Rattle.sl_grammar.specs.Means.Statements.{variable_behind, declared_first, for_by, for_loop}
+use Rattle.sl_grammar.specs.Means.Statements.{ranges, element_of, first_of, optional_cond, optional_effect, for_behind, range_behind, valued_first}
+use Rattle.sl_grammar.specs.Means.Statements.{variable_behind, reference_range, declared_first, for_by, for_head, for_loop}
 use Rattle.sl_grammar.specs.Means.Steps.{Reader, Tall, kind_at, here, is_mark, mark, identifier}
 use Rattle.sl_grammar.proofs.KindLaws.{fixed, both}
+use Rattle.sl_grammar.proofs.MeetHeads.{head-met}
+use Rattle.sl_grammar.proofs.MeetSteps.{took}
 use Rattle.sl_grammar.proofs.SoundBlocks.{FoundStmt, Finds}
 use Rattle.sl_grammar.proofs.SoundEffects.{effect-part, cond-part}
 use Rattle.sl_grammar.proofs.SoundExpressions.{sound}
@@ -50,10 +55,14 @@ type-fixed None = refl
 type-fixed (Some scalar) = refl
 
 -- a type that a range-for's variable may have
-pub element-word : (type : Option Scalar) → ranges type ≡ true → type_word type ≡ element_word (is_auto type)
+pub element-word : (type : Option Scalar) → ranges type ≡ true → type_word type ≡ element_word (element_of type)
 element-word None h = refl
 element-word (Some c.Int) h = refl
 element-word (Some _) h = absurd (false≢true h)
+
+pub element-low : (e : Element) → element_height e ≤ 1
+element-low (l.Value x) = omega arith
+element-low (l.Reference x) = omega arith
 
 -- a first part that declares a variable
 pub first-written : (type : Option Scalar) (place : Place) (x : Identifier) (v : Expr)
@@ -125,11 +134,11 @@ module _ (inner : Reader (Tall Stmt)) (depth_left : ℕ) (f : Finds inner depth_
         closed = body.closed;
       })))))))
 
-  range-found : (type : Option Scalar) (ts us : List Token) (x : Identifier × List Token) (y : Took Stmt) → Spelled (opened_written (here ts)) ts us
-      → kind_at us ≡ type_kind type → identifier (drop 1 us) ≡ Ok x → ranges type ≡ true
-      → range_behind inner depth_left (here ts) (is_auto type) x.0 x.1 ≡ Ok y → FoundStmt (depth_left + 1) ts y.0 y.1
+  range-found : (element : Element) (ts us vs : List Token) (x : Identifier × List Token) (y : Took Stmt) → 0 < depth_left
+      → Spelled (opened_written (here ts)) ts us → Spelled (element_written element) us vs → identifier vs ≡ Ok x
+      → range_behind inner depth_left (here ts) element x.0 x.1 ≡ Ok y → FoundStmt (depth_left + 1) ts y.0 y.1
   unfolding range_behind
-  range-found type ts us x y opened e name may h =
+  range-found element ts us vs x y high opened typed name h =
       let P : Took Stmt → Type 0 = λ z. FoundStmt (depth_left + 1) ts z.0 z.1 in
       bound (mark m.Colon x.1) _ y P h (λ u colon h1.
       bound (identifier u.1) _ y P h1 (λ v container h2.
@@ -138,15 +147,24 @@ module _ (inner : Reader (Tall Stmt)) (depth_left : ℕ) (f : Finds inner depth_
       let body = f d.1 b read in
       answered _ y P h4 (record {
         part = record {
-          spelled = opened ⨾ (one_plain us (type_kind type) (element_word (is_auto type)) e (type-fixed type ∙ ap Some (element-word type may))
-              ⨾ (identifier_took (drop 1 us) x name ⨾ (mark_plain m.Colon x.1 u colon ⨾ (identifier_took u.1 v container
+          spelled = opened ⨾ (typed ⨾ (identifier_took vs x name ⨾ (mark_plain m.Colon x.1 u colon ⨾ (identifier_took u.1 v container
               ⨾ (mark_plain m.RightParenthesis v.1 d close ⨾ body.part.spelled)))));
           fits = body.part.fits;
           size = omega (arith, body.part.size);
-          low = omega (arith, body.part.low);
+          low = omega (arith, high, element-low element, body.part.low);
         };
         closed = body.closed;
       })))))
+
+  -- from the type of a reference on
+  reference-found : (ts us : List Token) (y : Took Stmt) → 0 < depth_left → Spelled (opened_written (here ts)) ts us
+      → reference_range inner depth_left (here ts) us ≡ Ok y → FoundStmt (depth_left + 1) ts y.0 y.1
+  unfolding reference_range
+  reference-found ts us y high opened h =
+      let P : Took Stmt → Type 0 = λ z. FoundStmt (depth_left + 1) ts z.0 z.1 in
+      bound (reference_head us) _ y P h (λ head headed h1.
+      bound (identifier head.1) _ y P h1 (λ x name h2.
+      range-found (l.Reference head.0) ts us head.1 x y high opened (took (head-met us) headed).0 name h2))
 
   -- a first part that declares a variable, as it was read
   pub valued-head : (type : Option Scalar) (ts us : List Token) (x : Identifier × List Token) (u : Place × List Token) (v : Took Expr)
@@ -176,14 +194,17 @@ module _ (inner : Reader (Tall Stmt)) (depth_left : ℕ) (f : Finds inner depth_
       bound (expr depth_left 1 u.1) _ y P h1 (λ v read h2.
       for_behind-found ts v.1 _ y (valued-head type ts us x u v opened e name equal read) h2))
 
-  declared-found : (type : Option Scalar) (ts us : List Token) (y : Took Stmt) → Spelled (opened_written (here ts)) ts us
+  declared-found : (type : Option Scalar) (ts us : List Token) (y : Took Stmt) → 0 < depth_left → Spelled (opened_written (here ts)) ts us
       → kind_at us ≡ type_kind type → declared_first inner depth_left (here ts) type us ≡ Ok y → FoundStmt (depth_left + 1) ts y.0 y.1
   unfolding declared_first variable_behind
-  declared-found type ts us y opened e h =
+  declared-found type ts us y high opened e h =
       let P : Took Stmt → Type 0 = λ z. FoundStmt (depth_left + 1) ts z.0 z.1 in
       bound (identifier (drop 1 us)) _ y P h (λ x name h1.
       chosen (ranges type && is_mark m.Colon (kind_at x.1)) _ _ _ (P y) h1
-      (λ range h2. range-found type ts us x y opened e name (both (ranges type) (is_mark m.Colon (kind_at x.1)) range).0 h2)
+      (λ range h2.
+      let may : ranges type ≡ true = (both (ranges type) (is_mark m.Colon (kind_at x.1)) range).0 in
+      range-found (l.Value (element_of type)) ts us (drop 1 us) x y high opened
+      (one_plain us (type_kind type) (element_word (element_of type)) e (type-fixed type ∙ ap Some (element-word type may))) name h2)
       (λ other h2. valued-found type ts us x y opened e name h2))
 
   effect-found : (ts us : List Token) (y : Took Stmt) → Spelled (opened_written (here ts)) ts us → for_by inner depth_left (here ts) k.End us ≡ Ok y
@@ -195,18 +216,27 @@ module _ (inner : Reader (Tall Stmt)) (depth_left : ℕ) (f : Finds inner depth_
       for_behind-found ts x.1 (Some (t.first_effect x.0.0), x.0.1) y
       (record { spelled = opened ⨾ found.spelled; fits = found.fits; size = found.size; low = found.low }) h1)
 
-  for-by : (kind : TokenKind) (ts us : List Token) (y : Took Stmt) → Spelled (opened_written (here ts)) ts us → kind_at us ≡ kind
+  for-by : (kind : TokenKind) (ts us : List Token) (y : Took Stmt) → 0 < depth_left → Spelled (opened_written (here ts)) ts us → kind_at us ≡ kind
       → for_by inner depth_left (here ts) kind us ≡ Ok y → FoundStmt (depth_left + 1) ts y.0 y.1
-  for-by (k.Scalar scalar) ts us y opened e h = declared-found (Some scalar) ts us y opened e h
-  for-by k.Auto ts us y opened e h = declared-found None ts us y opened e h
-  for-by (k.Mark m.Semicolon) ts us y opened e h =
+  for-by (k.Scalar scalar) ts us y high opened e h = declared-found (Some scalar) ts us y high opened e h
+  for-by k.Auto ts us y high opened e h = declared-found None ts us y high opened e h
+  for-by (k.Mark m.Semicolon) ts us y high opened e h =
       for_behind-found ts us (None, 0) y (record { spelled = opened; fits = tt; size = refl; low = omega arith }) h
-  for-by _ ts us y opened e h = effect-found ts us y opened h
+  for-by _ ts us y high opened e h = effect-found ts us y opened h
+
+  head-found : (ts us : List Token) (y : Took Stmt) → 0 < depth_left → Spelled (opened_written (here ts)) ts us
+      → for_head inner depth_left (here ts) us ≡ Ok y → FoundStmt (depth_left + 1) ts y.0 y.1
+  unfolding for_head
+  head-found ts us y high opened h =
+      chosen (begins_reference us) _ _ _ (FoundStmt (depth_left + 1) ts y.0 y.1) h
+      (λ begins h1. reference-found ts us y high opened h1)
+      (λ other h1. for-by (kind_at us) ts us y high opened refl h1)
 
   pub for-found : (ts : List Token) (y : Took Stmt) → kind_at ts ≡ k.For → for_loop inner depth_left ts ≡ Ok y → FoundStmt (depth_left + 1) ts y.0 y.1
   unfolding for_loop
   for-found ts y e h =
       let P : Took Stmt → Type 0 = λ z. FoundStmt (depth_left + 1) ts z.0 z.1 in
-      guarded (nat_lt 0 depth_left) _ _ y P h (λ _ h1.
+      guarded (nat_lt 0 depth_left) _ _ y P h (λ high h1.
       bound (mark m.LeftParenthesis (drop 1 ts)) _ y P h1 (λ u opened h2.
-      for-by (kind_at u.1) ts u.1 y (one_word ts k.For (w.Key (codes "for")) e refl ⨾ mark_plain m.LeftParenthesis (drop 1 ts) u opened) refl h2))
+      head-found ts u.1 y (ltb-true 0 depth_left high)
+      (one_word ts k.For (w.Key (codes "for")) e refl ⨾ mark_plain m.LeftParenthesis (drop 1 ts) u opened) h2))

@@ -1,7 +1,7 @@
 -- The words before a fault in a block begin one.
 use Rattle.std.proofs.Common.{Err, List, Ok, [], arith, length, refl, ℕ, ◌+◌, ◌-◌, ◌<◌, ◌∷◌, ◌≡◌, ◌≤◌}
 use Rattle.std.proofs.lemmas.Bool.{ltb-true}
-use Rattle.std.specs.Prelude.{flat_map, nat_lt}
+use Rattle.std.specs.Prelude.{flat_map, nat_lt, ◌&&◌}
 use Rattle.sl_base.specs.declared.mark.Mark.TheVariants as m
 use Rattle.sl_base.specs.declared.place.Place.{Place}
 use Rattle.sl_base.specs.declared.token.Token.{Token}
@@ -16,15 +16,18 @@ use Rattle.sl_syntax.specs.Tree.{Cond, Declaration, Item, Items, Stmt, items_fro
 use Rattle.sl_syntax.specs.Written as s
 use Rattle.sl_syntax.specs.Written.{Written, at, declaration_written, item_written, stmt_written}
 use Rattle.sl_grammar.specs.declared.fault.Fault.TheVariants.{Grammar}
-use Rattle.sl_grammar.specs.Means.Declarations.{auto_declaration, container_declaration, scalar_declaration}
+use Rattle.sl_grammar.specs.Means.Declarations.{auto_declaration, begins_reference, container_declaration, reference_declaration, scalar_declaration}
 use Rattle.sl_grammar.specs.Means.Effects as effects
 use Rattle.sl_grammar.specs.Means.Statements.{braced, condition, declared, is_item, item, item_by}
 use Rattle.sl_grammar.specs.Means.Steps.{Reader, Tall, all_behind, here, kind_at, mark}
+use Rattle.sl_grammar.proofs.KindLaws.{both}
+use Rattle.sl_grammar.proofs.MeetHeads.{reference-met}
+use Rattle.sl_grammar.proofs.MeetSteps.{parts_of, stops_of}
 use Rattle.sl_grammar.proofs.Rows.{items-written, items-height, are_items}
 use Rattle.sl_grammar.proofs.SoundBlocks.{Finds, IsBlock, block_height, block_written, condition_written, item-part}
 use Rattle.sl_grammar.proofs.SoundDeclarations.{auto-part, container-part, scalar-part}
 use Rattle.sl_grammar.proofs.SoundEffects.{cond-part}
-use Rattle.sl_grammar.proofs.SoundSteps.{Part, Took, behind, mark_here, mark_plain}
+use Rattle.sl_grammar.proofs.SoundSteps.{Part, Took, behind, chosen, mark_here, mark_plain}
 use Rattle.sl_grammar.proofs.Spelling.{respelled}
 use Rattle.sl_grammar.proofs.ViableDeclarations.{LowDeclaration, auto-begun, container-begun, scalar-begun}
 use Rattle.sl_grammar.proofs.ViableEffects.{cond-viable}
@@ -113,7 +116,17 @@ module _ (inner : Reader (Tall Stmt)) (depth_left : ℕ) (f : Finds inner depth_
 
   item-begun : (ts : List Token) (n : ℕ) → item depth_left inner ts ≡ Err (Grammar n) → BegunItems ts n
   unfolding item
-  item-begun ts n h = item-by (kind_at ts) ts n refl h
+  item-begun ts n h =
+      chosen (nat_lt 2 depth_left && begins_reference ts) _ _ _ (BegunItems ts n) h
+      (λ begins h1.
+      let deep : 2 < depth_left = ltb-true 2 depth_left (both (nat_lt 2 depth_left) (begins_reference ts) begins).0 in
+      let above : 1 < depth_left = omega (arith, deep) in
+      let refers = reference_declaration (depth_left - 2) in
+      let meets = reference-met (depth_left - 2) (omega (arith, deep)) in
+      declared-begun refers ts n above
+      (parts_of declaration_written IsDeclaration declaration_height (depth_left - 2 + 1) refers meets ts)
+      (λ h2. declares-begun ts n above (stops_of declaration_written IsDeclaration declaration_height (depth_left - 2 + 1) refers meets ts n h2)) h1)
+      (λ other h1. item-by (kind_at ts) ts n refl h1)
 
   -- a block that is no higher
   abbrev pub LowBlock : Place × Items × Place → Type 0

@@ -9,24 +9,29 @@ use Rattle.sl_base.specs.declared.token.Token.{Token}
 use Rattle.sl_base.specs.declared.word.Word.TheVariants as w
 use Rattle.sl_syntax.specs.declared.token_kind.TokenKind.{TokenKind}
 use Rattle.sl_syntax.specs.declared.token_kind.TokenKind.TheVariants as k
+use Rattle.sl_syntax.specs.declared.tree.element.Element.{Element}
+use Rattle.sl_syntax.specs.declared.tree.element.Element.TheVariants as l
 use Rattle.sl_syntax.specs.declared.tree.identifier.Identifier.{Identifier}
-use Rattle.sl_syntax.specs.Depth.{cond_height, effect_height, first_height, height, option_height, stmt_height}
+use Rattle.sl_syntax.specs.Depth.{cond_height, effect_height, element_height, first_height, height, option_height, stmt_height}
 use Rattle.sl_syntax.specs.Shaped.{IfThere, IsCond, IsEffect, IsExpr, IsFirst, IsStmt}
 use Rattle.sl_syntax.specs.Tree as t
 use Rattle.sl_syntax.specs.Tree.{Cond, Effect, Expr, First, Stmt}
 use Rattle.sl_syntax.specs.Written as s
-use Rattle.sl_syntax.specs.Written.{Written, at, cond_written, effect_written, element_word, option_written, stmt_written, written}
+use Rattle.sl_syntax.specs.Written.{Written, at, cond_written, effect_written, element_word, element_written, option_written, stmt_written, written}
 use Rattle.sl_grammar.specs.declared.fault.Fault.TheVariants.{Grammar}
+use Rattle.sl_grammar.specs.Means.Declarations.{begins_reference, reference_head}
 use Rattle.sl_grammar.specs.Means.Effects as effects
 use Rattle.sl_grammar.specs.Means.Effects.{effect}
 use Rattle.sl_grammar.specs.Means.Expressions.{expr}
-use Rattle.sl_grammar.specs.Means.Statements.{declared_first, first_of, for_behind, for_by, for_loop, is_auto, optional_cond, optional_effect}
-use Rattle.sl_grammar.specs.Means.Statements.{range_behind, ranges, valued_first, variable_behind}
+use Rattle.sl_grammar.specs.Means.Statements.{declared_first, element_of, first_of, for_behind, for_by, for_head, for_loop, optional_cond}
+use Rattle.sl_grammar.specs.Means.Statements.{optional_effect, range_behind, ranges, reference_range, valued_first, variable_behind}
 use Rattle.sl_grammar.specs.Means.Steps.{Reader, Tall, here, identifier, is_mark, kind_at, mark}
 use Rattle.sl_grammar.proofs.KindLaws.{both}
+use Rattle.sl_grammar.proofs.MeetHeads.{head-met}
+use Rattle.sl_grammar.proofs.MeetSteps.{stuck, took}
 use Rattle.sl_grammar.proofs.SoundBlocks.{Finds}
 use Rattle.sl_grammar.proofs.SoundEffects.{effect-part}
-use Rattle.sl_grammar.proofs.SoundFors.{cond-option, effect-option, element-word, first-fits, first-height, first-written, type-fixed, type_kind}
+use Rattle.sl_grammar.proofs.SoundFors.{cond-option, effect-option, element-low, element-word, first-fits, first-height, first-written, type-fixed, type_kind}
 use Rattle.sl_grammar.proofs.SoundFors.{type_word, head_written, opened_written, valued-head}
 use Rattle.sl_grammar.proofs.SoundSteps.{Part, identifier_took, mark_plain, one_plain, one_word, chosen}
 use Rattle.sl_grammar.proofs.Spelling.{Spelled, ◌⨾◌}
@@ -126,34 +131,52 @@ module _ (inner : Reader (Tall Stmt)) (depth_left : ℕ) (f : Finds inner depth_
       (head.spelled ⨠ (one_mark ⨠ (c.spelled ⨠ (two_mark ⨠ (e.spelled ⨠ (mark_plain m.RightParenthesis b.1 d close ⨠ begun x)))))))
       (λ x read h6. no_fault _ n P h6))))))
 
-  range-begun : (type : Option Scalar) (ts us : List Token) (x : Identifier × List Token) (n : ℕ) → Spelled (opened_written (here ts)) ts us
-      → kind_at us ≡ type_kind type → identifier (drop 1 us) ≡ Ok x → ranges type ≡ true
-      → range_behind inner depth_left (here ts) (is_auto type) x.0 x.1 ≡ Err (Grammar n) → Viable (LowStmt (depth_left + 1)) stmt_written ts n
+  range-begun : (element : Element) (ts us vs : List Token) (x : Identifier × List Token) (n : ℕ) → Spelled (opened_written (here ts)) ts us
+      → Spelled (element_written element) us vs → identifier vs ≡ Ok x
+      → range_behind inner depth_left (here ts) element x.0 x.1 ≡ Err (Grammar n) → Viable (LowStmt (depth_left + 1)) stmt_written ts n
   unfolding range_behind
-  range-begun type ts us x n opened e name may h =
+  range-begun element ts us vs x n opened typed name h =
       let P : Type 0 = Viable (LowStmt (depth_left + 1)) stmt_written ts n in
-      let front = opened ⨾ (one_plain us (type_kind type) (element_word (is_auto type)) e (type-fixed type ∙ ap Some (element-word type may))
-      ⨾ identifier_took (drop 1 us) x name) in
-      let of_range = λ (v : Identifier) (body : Stmt). t.range_for (here ts) (is_auto type) x.0 v body in
+      let low : element_height element ≤ 1 = element-low element in
+      let of_range = λ (v : Identifier) (body : Stmt). t.range_for (here ts) element x.0 v body in
+      let named = identifier_took vs x name in
       faulted (mark m.Colon x.1) _ n P h
-      (λ h1. viable (of_range some_name some_stmt) (tt, omega (arith, high)) (front ⨠ at_once _ x.1 n (mark_fault m.Colon x.1 n h1)))
+      (λ h1. viable (of_range some_name some_stmt) (tt, omega (arith, high, low))
+      (opened ⨠ (typed ⨠ (named ⨠ at_once _ x.1 n (mark_fault m.Colon x.1 n h1)))))
       (λ u colon h1.
       let colon_mark = mark_plain m.Colon x.1 u colon in
       faulted (identifier u.1) _ n P h1
-      (λ h2. viable (of_range some_name some_stmt) (tt, omega (arith, high))
-      (front ⨠ (colon_mark ⨠ at_once _ u.1 n (identifier_fault u.1 n h2))))
+      (λ h2. viable (of_range some_name some_stmt) (tt, omega (arith, high, low))
+      (opened ⨠ (typed ⨠ (named ⨠ (colon_mark ⨠ at_once _ u.1 n (identifier_fault u.1 n h2))))))
       (λ v container h2.
       let given = identifier_took u.1 v container in
       faulted (mark m.RightParenthesis v.1) _ n P h2
-      (λ h3. viable (of_range v.0 some_stmt) (tt, omega (arith, high))
-      (front ⨠ (colon_mark ⨠ (given ⨠ at_once _ v.1 n (mark_fault m.RightParenthesis v.1 n h3)))))
+      (λ h3. viable (of_range v.0 some_stmt) (tt, omega (arith, high, low))
+      (opened ⨠ (typed ⨠ (named ⨠ (colon_mark ⨠ (given ⨠ at_once _ v.1 n (mark_fault m.RightParenthesis v.1 n h3)))))))
       (λ d close h3.
       faulted (inner d.1) _ n P h3
       (λ h4.
       let b = stops d.1 n h4 in
-      viable (of_range v.0 b.tree) (b.fits.0, omega (arith, b.fits.1))
-      (front ⨠ (colon_mark ⨠ (given ⨠ (mark_plain m.RightParenthesis v.1 d close ⨠ begun b)))))
+      viable (of_range v.0 b.tree) (b.fits.0, omega (arith, b.fits.1, high, low))
+      (opened ⨠ (typed ⨠ (named ⨠ (colon_mark ⨠ (given ⨠ (mark_plain m.RightParenthesis v.1 d close ⨠ begun b)))))))
       (λ b read h4. no_fault _ n P h4))))
+
+  -- from the type of a reference on
+  reference-begun : (ts us : List Token) (n : ℕ) → Spelled (opened_written (here ts)) ts us
+      → reference_range inner depth_left (here ts) us ≡ Err (Grammar n) → Viable (LowStmt (depth_left + 1)) stmt_written ts n
+  unfolding reference_range
+  reference-begun ts us n opened h =
+      let P : Type 0 = Viable (LowStmt (depth_left + 1)) stmt_written ts n in
+      faulted (reference_head us) _ n P h
+      (λ h1.
+      let v = stuck (head-met us) h1 in
+      viable (t.range_for (here ts) (l.Reference v.tree) some_name some_name some_stmt) (tt, omega (arith, high)) (opened ⨠ unfinished (begun v) _))
+      (λ head headed h1.
+      let typed = (took (head-met us) headed).0 in
+      faulted (identifier head.1) _ n P h1
+      (λ h2. viable (t.range_for (here ts) (l.Reference head.0) some_name some_name some_stmt) (tt, omega (arith, high))
+      (opened ⨠ (typed ⨠ at_once _ head.1 n (identifier_fault head.1 n h2))))
+      (λ x name h2. range-begun (l.Reference head.0) ts us head.1 x n opened typed name h2))
 
   -- a variable with a value
   value-begun : (type : Option Scalar) (ts us : List Token) (x : Identifier) (v : Expr) (n : ℕ) → IsExpr v → height v < depth_left
@@ -193,7 +216,9 @@ module _ (inner : Reader (Tall Stmt)) (depth_left : ℕ) (f : Finds inner depth_
       (λ x name h1.
       chosen (ranges type && is_mark m.Colon (kind_at x.1)) _ _ _ P h1
       (λ range h2.
-      range-begun type ts us x n opened e name (both (ranges type) (is_mark m.Colon (kind_at x.1)) range).0 h2)
+      let may : ranges type ≡ true = (both (ranges type) (is_mark m.Colon (kind_at x.1)) range).0 in
+      range-begun (l.Value (element_of type)) ts us (drop 1 us) x n opened
+      (one_plain us (type_kind type) (element_word (element_of type)) e (type-fixed type ∙ ap Some (element-word type may))) name h2)
       (λ other h2. valued-begun type ts us x n opened e name h2))
 
   effect-begun : (ts us : List Token) (n : ℕ) → Spelled (opened_written (here ts)) ts us
@@ -218,6 +243,14 @@ module _ (inner : Reader (Tall Stmt)) (depth_left : ℕ) (f : Finds inner depth_
       for_behind-begun ts us (None, 0) n (record { spelled = opened; fits = tt; size = refl; low = omega arith }) h
   for-by _ ts us n opened e h = effect-begun ts us n opened h
 
+  head-begun : (ts us : List Token) (n : ℕ) → Spelled (opened_written (here ts)) ts us
+      → for_head inner depth_left (here ts) us ≡ Err (Grammar n) → Viable (LowStmt (depth_left + 1)) stmt_written ts n
+  unfolding for_head
+  head-begun ts us n opened h =
+      chosen (begins_reference us) _ _ _ (Viable (LowStmt (depth_left + 1)) stmt_written ts n) h
+      (λ begins h1. reference-begun ts us n opened h1)
+      (λ other h1. for-by (kind_at us) ts us n opened refl h1)
+
 pub for-begun : (inner : Reader (Tall Stmt)) (depth_left : ℕ) → Finds inner depth_left → Faults inner depth_left → (ts : List Token) (n : ℕ)
     → kind_at ts ≡ k.For
     → for_loop inner depth_left ts ≡ Err (Grammar n) → Viable (LowStmt (depth_left + 1)) stmt_written ts n
@@ -232,6 +265,6 @@ for-begun inner depth_left f g ts n e h =
     (λ h2. viable (t.for (here ts) None None None some_stmt) ((tt, tt, tt, tt), omega (arith, high))
     (word ⨠ at_once _ (drop 1 ts) n (mark_fault m.LeftParenthesis (drop 1 ts) n h2)))
     (λ u opened h2.
-    for-by inner depth_left f high (inner-stops inner depth_left g high) (kind_at u.1) ts u.1 n
-    (word ⨾ mark_plain m.LeftParenthesis (drop 1 ts) u opened) refl h2))
+    head-begun inner depth_left f high (inner-stops inner depth_left g high) ts u.1 n
+    (word ⨾ mark_plain m.LeftParenthesis (drop 1 ts) u opened) h2))
     (λ _ same. viable some_stmt (tt, omega arith) (at_once _ ts n same))

@@ -1,5 +1,5 @@
 -- The words before a fault in a statement begin one.
-use Rattle.std.proofs.Common.{Err, List, Some, [], arith, drop, length, refl, suc, zero, ℕ, ◌++◌, ◌+◌, ◌<◌, ◌∙◌, ◌∷◌, ◌≡◌, ◌≤◌}
+use Rattle.std.proofs.Common.{Err, List, Some, [], arith, drop, length, refl, suc, zero, ℕ, ◌++◌, ◌+◌, ◌<◌, ◌∷◌, ◌≡◌, ◌≤◌}
 use Rattle.std.proofs.lemmas.Bool.{ltb-true}
 use Rattle.std.specs.Prelude.{codes, nat_lt}
 use Rattle.sl_base.specs.declared.mark.Mark.TheVariants as m
@@ -14,8 +14,7 @@ use Rattle.sl_syntax.specs.Shaped.{IsStmt, ends_open}
 use Rattle.sl_syntax.specs.Tree as t
 use Rattle.sl_syntax.specs.Tree.{Cond, Stmt}
 use Rattle.sl_syntax.specs.Written as s
-use Rattle.sl_syntax.specs.Written.{Written, at, from_place, plain, stmt_written, tested}
-use Rattle.sl_syntax.proofs.WrittenLaws.{words_of-from_place}
+use Rattle.sl_syntax.specs.Written.{Written, at, plain, stmt_written, tested}
 use Rattle.sl_grammar.specs.declared.fault.Fault.TheVariants.{Grammar}
 use Rattle.sl_grammar.specs.Means.Effects.{effect}
 use Rattle.sl_grammar.specs.Means.Expressions.{expr}
@@ -33,18 +32,8 @@ use Rattle.sl_grammar.proofs.ViableEffects.{effect-viable}
 use Rattle.sl_grammar.proofs.ViableExpressions.{value-stops}
 use Rattle.sl_grammar.proofs.ViableFors.{for-begun}
 use Rattle.sl_grammar.proofs.ViableSteps as steps
-use Rattle.sl_grammar.proofs.ViableSteps.{Begun, Viable, at_once, begun, faulted, mark_fault, no_fault, one_fault, rewritten, unfinished, viable, ◌⨠◌}
-
--- the place of the first word is none of the words
-placed-begun : {xs : List Written} {ts : List Token} {n : ℕ} (place : Place) → Begun xs ts n → Begun (from_place place xs) ts n
-placed-begun {xs = xs} place b = record {
-  front = b.front;
-  rest = b.rest;
-  whole = b.whole;
-  left = b.left;
-  more = b.more;
-  words = words_of-from_place place xs ∙ b.words;
-}
+use Rattle.sl_grammar.proofs.ViableSteps.{Begun, Viable, at_once, begun, faulted, mark_fault, no_fault, one_fault, placed-begun, rewritten, unfinished}
+use Rattle.sl_grammar.proofs.ViableSteps.{viable, ◌⨠◌}
 
 module _ (inner : Reader (Tall Stmt)) (depth_left : ℕ) (f : Finds inner depth_left) (g : Faults inner depth_left) where
   block-begun : (ts : List Token) (n : ℕ) → block inner depth_left ts ≡ Err (Grammar n) → Viable (LowStmt (depth_left + 1)) stmt_written ts n

@@ -17,8 +17,8 @@ use Rattle.sl_syntax.specs.Placed.{Spells}
 use Rattle.sl_syntax.specs.Shaped.{Each}
 use Rattle.sl_syntax.specs.Tree as t
 use Rattle.sl_syntax.specs.Tree.{Expr}
-use Rattle.sl_syntax.specs.Written.{Written, words_of}
-use Rattle.sl_syntax.proofs.WrittenLaws.{words_of-append}
+use Rattle.sl_syntax.specs.Written.{Written, from_place, words_of}
+use Rattle.sl_syntax.proofs.WrittenLaws.{words_of-append, words_of-from_place}
 use Rattle.sl_grammar.specs.declared.fault.Fault.TheVariants.{Grammar}
 use Rattle.sl_grammar.specs.Means.Steps.{Outcome, Reader, Tall, and_then, kind_at, is_mark, mark, identifier_by, identifier, library_by, library}
 use Rattle.sl_grammar.specs.Means.Steps.{repeat, all_behind}
@@ -123,6 +123,17 @@ ended {xs = xs} {ts = ts} {rest = rest} {n = n} a h = subst (λ (l : List Writte
 -- the same words, written in another way
 pub rewritten : {xs ys : List Written} {ts : List Token} {n : ℕ} → xs ≡ ys → Begun xs ts n → Begun ys ts n
 rewritten {ts = ts} {n = n} e b = subst (λ (l : List Written). Begun l ts n) e b
+
+-- the place of the first word is none of the words
+pub placed-begun : {xs : List Written} {ts : List Token} {n : ℕ} (place : Place) → Begun xs ts n → Begun (from_place place xs) ts n
+placed-begun {xs = xs} place b = record {
+  front = b.front;
+  rest = b.rest;
+  whole = b.whole;
+  left = b.left;
+  more = b.more;
+  words = words_of-from_place place xs ∙ b.words;
+}
 
 -- Defaults, for what is missing.
 abbrev pub some_name : Identifier

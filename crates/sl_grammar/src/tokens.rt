@@ -2,11 +2,12 @@
 ghost use Rattle.std.specs.Prelude.{◌≡◌, length, drop, IfOk};
 ghost use Rattle.sl_grammar.specs.Means.Steps as spec;
 ghost use Rattle.sl_grammar.specs.Means.Steps.{Reads};
+ghost use Rattle.sl_grammar.specs.Means.Declarations as declarations;
 ghost use Rattle.sl_grammar.specs.Means.Statements as statements;
 ghost use Rattle.sl_grammar.specs.Means.Effects as effects;
 
 use crate::fault::Fault;
-use sl_base::{Items, Mark, Name, Place, Token, Word};
+use sl_base::{Items, Mark, Name, Place, Scalar, Token, Word};
 use sl_syntax::{Identifier, TokenKind};
 use std::alloc::{AllocError, Global};
 use std::marker::Model;
@@ -121,6 +122,18 @@ impl<'a> Tokens<'a> {
             && is_input(self.kind_behind(2))
     }
 
+    /// Whether the type of a reference begins here: `const`, or `int` or `auto` before a `&`.
+    pub fn sees_reference(&self) -> bool
+        ensures { result ≡ declarations.begins_reference self.now }
+    {
+        match self.kind() {
+            TokenKind::Const => true,
+            TokenKind::Scalar(Scalar::Int) => is_mark(Mark::And, self.kind_behind(1)),
+            TokenKind::Auto => is_mark(Mark::And, self.kind_behind(1)),
+            _ => false,
+        }
+    }
+
     /// Takes this mark, and gives its place.
     #[tactic(auto, unfolding(crate::specs::Means::Steps::mark))]
     pub fn mark(&mut self, mark: Mark) -> Result<Place, Fault>
@@ -144,10 +157,7 @@ impl<'a> Tokens<'a> {
             [token, rest @ ..] => match &token.word {
                 Word::Name(name) => {
                     self.rest = rest;
-                    Ok(Identifier {
-                        name: Name::new(name.as_slice()),
-                        place: token.place,
-                    })
+                    Ok(identifier_at(name, token.place))
                 }
                 _ => Err(self.refuse()),
             },
@@ -164,10 +174,7 @@ impl<'a> Tokens<'a> {
             [token, rest @ ..] => match &token.word {
                 Word::Lib(name) => {
                     self.rest = rest;
-                    Ok(Identifier {
-                        name: Name::new(name.as_slice()),
-                        place: token.place,
-                    })
+                    Ok(identifier_at(name, token.place))
                 }
                 _ => Err(self.refuse()),
             },
@@ -199,6 +206,16 @@ impl<'a> Tokens<'a> {
             },
             [] => Ok(Items::new(alloc)),
         }
+    }
+}
+
+// A name with its place.
+fn identifier_at(name: &Name, place: Place) -> Identifier
+    ensures { (result.name ≡ name.now) × (result.place ≡ place) }
+{
+    Identifier {
+        name: Name::new(name.as_slice()),
+        place,
     }
 }
 

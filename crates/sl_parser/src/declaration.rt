@@ -7,6 +7,7 @@ ghost use Rattle.sl_parser.specs.Means.DeclarationViews.{tall_value, tall_initia
 ghost use Rattle.sl_parser.specs.Means.Reader as spec;
 
 use crate::container::container_type;
+use crate::reference::reference_head;
 use sl_base::{Form, Mark, Scalar};
 use sl_expressions::expression::expr;
 use sl_expressions::expression::list::{list, list_before};
@@ -53,6 +54,23 @@ pub fn auto_declaration(
     tokens.mark(Mark::Equal)?;
     let value = expr(alloc, tokens, depth_left + 1, 1)?;
     Ok(Declaration::Auto { place, name, value })
+}
+
+/// The declaration of a reference.
+#[tactic(auto, unfolding(crate::specs::Means::Reader::reference_declaration))]
+pub fn reference_declaration(
+    alloc: Global,
+    tokens: &mut Tokens<'_>,
+    depth_left: usize,
+) -> Result<Declaration, Fault>
+    requires small { depth_left ≤ TREE_DEPTH }
+    ensures { Reads tall_declaration (spec.reference_declaration depth_left tokens.old) result tokens.new }
+{
+    let head = reference_head(tokens)?;
+    let name = tokens.identifier()?;
+    tokens.mark(Mark::Equal)?;
+    let value = expr(alloc, tokens, depth_left + 1, 1)?;
+    Ok(Declaration::Reference { head, name, value })
 }
 
 /// The declaration of a container of this form.

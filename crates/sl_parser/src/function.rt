@@ -2,9 +2,10 @@
 ghost use Rattle.std.specs.Prelude.{◌≡◌, length};
 ghost use Rattle.sl_grammar.specs.Means.Statements as steps;
 ghost use Rattle.sl_grammar.specs.Means.Steps.{Reads};
-ghost use Rattle.sl_parser.specs.Means.FunctionViews.{tall_function, tall_functions};
+ghost use Rattle.sl_parser.specs.Means.FunctionViews.{tall_result, tall_function, tall_functions};
 ghost use Rattle.sl_parser.specs.Means.Reader as spec;
 
+use crate::container::{container_type, iterator_behind};
 use crate::params::params;
 use crate::statement::braced;
 use sl_base::Mark;
@@ -52,24 +53,8 @@ fn others(
 fn function(alloc: Global, tokens: &mut Tokens<'_>) -> Result<Function, Fault>
     ensures { Reads tall_function (spec.function tokens.old) result tokens.new }
 {
-    match tokens.kind() {
-        TokenKind::Void => function_behind(alloc, tokens, ResultType::Void),
-        TokenKind::Scalar(scalar) => function_behind(alloc, tokens, ResultType::Scalar(scalar)),
-        _ => Err(tokens.refuse()),
-    }
-}
-
-// A function, whose first word is this type.
-#[tactic(auto, unfolding(crate::specs::Means::Reader::function_behind))]
-fn function_behind(
-    alloc: Global,
-    tokens: &mut Tokens<'_>,
-    gives: ResultType,
-) -> Result<Function, Fault>
-    ensures { Reads tall_function (spec.function_behind gives tokens.old) result tokens.new }
-{
     let place = tokens.place();
-    tokens.skip();
+    let gives = result_type(tokens)?;
     let name = tokens.identifier()?;
     tokens.mark(Mark::LeftParenthesis)?;
     let params = params(alloc, tokens)?;
@@ -82,4 +67,27 @@ fn function_behind(
         params,
         body,
     })
+}
+
+// What a function gives back.
+#[tactic(auto, unfolding(crate::specs::Means::Reader::result))]
+fn result_type(tokens: &mut Tokens<'_>) -> Result<ResultType, Fault>
+    ensures { Reads tall_result (spec.result tokens.old) result tokens.new }
+{
+    match tokens.kind() {
+        TokenKind::Void => {
+            tokens.skip();
+            Ok(ResultType::Void)
+        }
+        TokenKind::Scalar(scalar) => {
+            tokens.skip();
+            Ok(ResultType::Scalar(scalar))
+        }
+        TokenKind::Container(form) => {
+            let container = container_type(tokens, form)?;
+            let iterator = iterator_behind(tokens, container)?;
+            Ok(ResultType::Iterator(iterator))
+        }
+        _ => Err(tokens.refuse()),
+    }
 }

@@ -7,6 +7,7 @@ mod error;
 mod function;
 mod params;
 mod program;
+mod reference;
 mod statement;
 
 pub use error::ParseErr;

@@ -6,8 +6,8 @@ ghost use Rattle.sl_grammar.specs.Means.Declarations.{comma_param, container_by}
 ghost use Rattle.sl_parser.specs.Means.DeclarationViews.{tall_param, tall_params};
 ghost use Rattle.sl_parser.specs.Means.Reader as spec;
 
-use crate::container::container_type;
-use sl_base::{Form, Mark, Place, Scalar};
+use crate::container::{container_type, iterator_behind};
+use sl_base::{Mark, Place, Scalar};
 use sl_grammar::{Fault, Tokens};
 use sl_syntax::{ContainerType, Param, TokenKind};
 use std::alloc::Global;
@@ -63,7 +63,10 @@ fn param(tokens: &mut Tokens<'_>) -> Result<Param, Fault>
             tokens.skip();
             scalar_param(tokens, place, scalar)
         }
-        TokenKind::Container(form) => container_param(tokens, form),
+        TokenKind::Container(form) => {
+            let container = container_type(tokens, form)?;
+            type_param(tokens, container)
+        }
         TokenKind::Const => const_param(tokens),
         _ => Err(tokens.refuse()),
     }
@@ -91,12 +94,16 @@ fn scalar_param(tokens: &mut Tokens<'_>, place: Place, scalar: Scalar) -> Result
     })
 }
 
-// A container that may be changed.
-#[tactic(auto, unfolding(crate::specs::Means::Reader::container_param))]
-fn container_param(tokens: &mut Tokens<'_>, form: Form) -> Result<Param, Fault>
-    ensures { Reads tall_param (spec.container_param form tokens.old) result tokens.new }
+// What stands behind the type of a container: a container that may be changed, or an iterator.
+#[tactic(auto, unfolding(crate::specs::Means::Reader::type_param))]
+fn type_param(tokens: &mut Tokens<'_>, container: ContainerType) -> Result<Param, Fault>
+    ensures { Reads tall_param (spec.type_param container tokens.old) result tokens.new }
 {
-    let container = container_type(tokens, form)?;
+    if tokens.sees(Mark::ColonColon) {
+        let iterator = iterator_behind(tokens, container)?;
+        let name = tokens.identifier()?;
+        return Ok(Param::Iterator { iterator, name });
+    }
     tokens.mark(Mark::And)?;
     let name = tokens.identifier()?;
     Ok(Param::Container { container, name })

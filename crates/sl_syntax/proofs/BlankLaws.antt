@@ -8,17 +8,25 @@ use Rattle.sl_base.specs.declared.token.Token.{Token}
 use Rattle.sl_base.specs.declared.word.Word.TheVariants as w
 use Rattle.sl_syntax.specs.declared.tree.declaration.ContainerType.{ContainerType}
 use Rattle.sl_syntax.specs.declared.tree.effect.Read.{Read}
+use Rattle.sl_syntax.specs.declared.tree.element.Element.{Element}
+use Rattle.sl_syntax.specs.declared.tree.element.Element.TheVariants as l
+use Rattle.sl_syntax.specs.declared.tree.element.ElementType.{ElementType}
+use Rattle.sl_syntax.specs.declared.tree.element.ReferenceHead.{ReferenceHead}
+use Rattle.sl_syntax.specs.declared.tree.function.IteratorType.{IteratorType}
 use Rattle.sl_syntax.specs.declared.tree.function.Param.{Param}
 use Rattle.sl_syntax.specs.declared.tree.function.Param.TheVariants as r
+use Rattle.sl_syntax.specs.declared.tree.function.ResultType.{ResultType}
+use Rattle.sl_syntax.specs.declared.tree.function.ResultType.TheVariants as z
 use Rattle.sl_syntax.specs.declared.tree.identifier.Identifier.{Identifier}
 use Rattle.sl_syntax.specs.Tree as t
 use Rattle.sl_syntax.specs.Tree.{Expr, Exprs, Initializer, Declaration, Out, Effect, Cond, First, Stmt, Item, Items, Function, Program}
 use Rattle.sl_syntax.specs.Blank.{nowhere, blank_token, blank_identifier, blank_container, blank_expr, blank_exprs, blank_initializer}
 use Rattle.sl_syntax.specs.Blank.{blank_declaration, blank_read, blank_out, blank_effect, blank_cond, blank_first, blank_stmt, blank_item}
-use Rattle.sl_syntax.specs.Blank.{blank_items, blank_param, blank_function, blank}
+use Rattle.sl_syntax.specs.Blank.{blank_items, blank_param, blank_function, blank, blank_iterator, blank_reference, blank_element, blank_result}
 use Rattle.sl_syntax.specs.Placed.{Spells, Placed}
 use Rattle.sl_syntax.specs.Shaped.{Each}
-use Rattle.sl_syntax.specs.Written.{Written, at, plain, mark, named, from_place, form_word, is_map, elements_written, result_word, container_written}
+use Rattle.sl_syntax.specs.Written.{Written, at, plain, mark, named, from_place, form_word, is_map, elements_written, container_written}
+use Rattle.sl_syntax.specs.Written.{iterator_written, reference_words, reference_written, element_written, result_written}
 use Rattle.sl_syntax.specs.Written.{written, list_written, rest_written, initializer_written, declaration_written, out_written, read_written}
 use Rattle.sl_syntax.specs.Written.{effect_written, cond_written, first_written, option_written, tested, stmt_written, item_written, items_written}
 use Rattle.sl_syntax.specs.Written.{param_written, params_written, function_written, program_written, words_of, words}
@@ -73,10 +81,33 @@ after_container : (c : ContainerType) (ys vs : List Written) → vs ≡ map blan
     → container_written (blank_container c) ++ vs ≡ map blank_written (container_written c ++ ys)
 after_container c ys vs h = beside (container_written c) ys (container_written (blank_container c)) vs (blank-container_written c) h
 
+blank-from_place : (place : Place) (xs : List Written) → from_place nowhere (map blank_written xs) ≡ map blank_written (from_place place xs)
+blank-from_place place [] = refl
+blank-from_place place (x ∷ xs) = refl
+
+blank-iterator_written : (x : IteratorType) → iterator_written (blank_iterator x) ≡ map blank_written (iterator_written x)
+blank-iterator_written x = after_container x.container (mark m.ColonColon ∷ named x.name ∷ []) (mark m.ColonColon ∷ named (blank_identifier x.name) ∷ [])
+    refl
+
+blank-reference_words : (is_const : Bool) (x : ElementType) → reference_words is_const x ≡ map blank_written (reference_words is_const x)
+blank-reference_words false x = refl
+blank-reference_words true x = refl
+
+blank-reference_written : (x : ReferenceHead) → reference_written (blank_reference x) ≡ map blank_written (reference_written x)
+blank-reference_written x =
+    ap (from_place nowhere) (blank-reference_words x.is_const x.element) ∙ blank-from_place x.place (reference_words x.is_const x.element)
+
+blank-element_written : (x : Element) → element_written (blank_element x) ≡ map blank_written (element_written x)
+blank-element_written (l.Value x) = refl
+blank-element_written (l.Reference x) = blank-reference_written x
+
 pub blank-declaration_written : (x : Declaration) → declaration_written (blank_declaration x) ≡ map blank_written (declaration_written x)
 blank-declaration_written (t.declares_scalar place s x None) = refl
 blank-declaration_written (t.declares_scalar place s x (Some v)) = rw (blank-written v) refl
 blank-declaration_written (t.declares_auto place x v) = rw (blank-written v) refl
+blank-declaration_written (t.declares_reference head x v) =
+    beside (reference_written head) (named x ∷ mark m.Equal ∷ written v) (reference_written (blank_reference head))
+    (named (blank_identifier x) ∷ mark m.Equal ∷ written (blank_expr v)) (blank-reference_written head) (rw (blank-written v) refl)
 blank-declaration_written (t.declares_container c x i) =
     after_container c (named x ∷ initializer_written i) (named (blank_identifier x) ∷ initializer_written (blank_initializer i))
     (rw (blank-initializer_written i) refl)
@@ -125,10 +156,6 @@ blank-option write clear each (Some x) = each x
 blank-tested : (c : Cond) (xs ys : List Written) → xs ≡ map blank_written ys → tested (blank_cond c) xs ≡ map blank_written (tested c ys)
 blank-tested c xs ys h = rw (map-append blank_written, blank-cond_written c, h) refl
 
-blank-from_place : (place : Place) (xs : List Written) → from_place nowhere (map blank_written xs) ≡ map blank_written (from_place place xs)
-blank-from_place place [] = refl
-blank-from_place place (x ∷ xs) = refl
-
 mutual
   pub blank-stmt_written : (x : Stmt) → stmt_written (blank_stmt x) ≡ map blank_written (stmt_written x)
   blank-stmt_written (t.block opens items closes) = rw (map-append blank_written, blank-items_written items) refl
@@ -146,7 +173,11 @@ mutual
         blank-option effect_written blank_effect blank-effect_written step,
         blank-stmt_written x,
       ) refl
-  blank-stmt_written (t.range_for place is_auto x v body) = rw (blank-stmt_written body) refl
+  blank-stmt_written (t.range_for place e x v body) = ap (λ (l : List Written). at nowhere (w.Key (codes "for")) ∷ mark m.LeftParenthesis ∷ l)
+      (beside (element_written e) (named x ∷ mark m.Colon ∷ named v ∷ mark m.RightParenthesis ∷ stmt_written body)
+      (element_written (blank_element e))
+      (named (blank_identifier x) ∷ mark m.Colon ∷ named (blank_identifier v) ∷ mark m.RightParenthesis ∷ stmt_written (blank_stmt body))
+      (blank-element_written e) (rw (blank-stmt_written body) refl))
   blank-stmt_written (t.break place) = refl
   blank-stmt_written (t.continue place) = refl
   blank-stmt_written (t.gives_back place v) = rw (map-append blank_written, blank-option written blank_expr blank-written v) refl
@@ -169,6 +200,13 @@ blank-param_written (r.Reference place s x) = refl
 blank-param_written (r.Container c x) = after_container c (mark m.And ∷ named x ∷ []) (mark m.And ∷ named (blank_identifier x) ∷ []) refl
 blank-param_written (r.ConstContainer place c x) = ap (λ (l : List Written). at nowhere (w.Key (codes "const")) ∷ l)
     (after_container c (mark m.And ∷ named x ∷ []) (mark m.And ∷ named (blank_identifier x) ∷ []) refl)
+blank-param_written (r.Iterator i x) =
+    beside (iterator_written i) (named x ∷ []) (iterator_written (blank_iterator i)) (named (blank_identifier x) ∷ []) (blank-iterator_written i) refl
+
+blank-result_written : (x : ResultType) → result_written (blank_result x) ≡ map blank_written (result_written x)
+blank-result_written z.Void = refl
+blank-result_written (z.Scalar s) = refl
+blank-result_written (z.Iterator i) = blank-iterator_written i
 
 params_from : (xs : List Param)
     → flat_map (λ y. mark m.Comma ∷ param_written y) (map blank_param xs) ≡ map blank_written (flat_map (λ y. mark m.Comma ∷ param_written y) xs)
@@ -182,10 +220,14 @@ blank-params_written (x ∷ xs) = rw (map-append blank_written, blank-param_writ
 pub blank-function_written : (f : Function) → function_written (blank_function f) ≡ map blank_written (function_written f)
 blank-function_written f =
     let body : List Written = stmt_written (t.block f.opens f.items f.closes) in
-    ap (λ (l : List Written). at nowhere (result_word f.result) ∷ named (blank_identifier f.name) ∷ mark m.LeftParenthesis ∷ l)
+    let params : List Written = params_written f.params ++ mark m.RightParenthesis ∷ body in
+    beside (from_place f.place (result_written f.result)) (named f.name ∷ mark m.LeftParenthesis ∷ params)
+    (from_place nowhere (result_written (blank_result f.result))) _
+    (ap (from_place nowhere) (blank-result_written f.result) ∙ blank-from_place f.place (result_written f.result))
+    (ap (λ (l : List Written). named (blank_identifier f.name) ∷ mark m.LeftParenthesis ∷ l)
     (beside (params_written f.params) (mark m.RightParenthesis ∷ body) (params_written (map blank_param f.params))
     (mark m.RightParenthesis ∷ stmt_written (t.block nowhere (blank_items f.items) nowhere))
-    (blank-params_written f.params) (ap (λ (l : List Written). mark m.RightParenthesis ∷ l) (blank-stmt_written (t.block f.opens f.items f.closes))))
+    (blank-params_written f.params) (ap (λ (l : List Written). mark m.RightParenthesis ∷ l) (blank-stmt_written (t.block f.opens f.items f.closes)))))
 
 pub blank-program_written : (p : Program) → program_written (blank p) ≡ map blank_written (program_written p)
 blank-program_written [] = refl

@@ -2,15 +2,20 @@
 use Rattle.std.proofs.Common.{◌≡◌, refl, ◌∙◌, ℕ, List, [], ◌∷◌, map, Option, Some, None, option_map}
 use Rattle.std.proofs.lemmas.List.{length-map}
 use Rattle.sl_syntax.specs.declared.tree.effect.Read.{Read}
+use Rattle.sl_syntax.specs.declared.tree.element.Element.{Element}
+use Rattle.sl_syntax.specs.declared.tree.element.Element.TheVariants as l
 use Rattle.sl_syntax.specs.declared.tree.function.Param.{Param}
 use Rattle.sl_syntax.specs.declared.tree.function.Param.TheVariants as r
+use Rattle.sl_syntax.specs.declared.tree.function.ResultType.{ResultType}
+use Rattle.sl_syntax.specs.declared.tree.function.ResultType.TheVariants as z
 use Rattle.sl_syntax.specs.Tree as t
 use Rattle.sl_syntax.specs.Tree.{Expr, Exprs, Initializer, Declaration, Out, Effect, Cond, First, Stmt, Item, Items, Function, Program}
 use Rattle.sl_syntax.specs.Blank.{blank_identifier, blank_expr, blank_exprs, blank_initializer, blank_declaration, blank_read, blank_out}
 use Rattle.sl_syntax.specs.Blank.{blank_effect, blank_cond, blank_first, blank_stmt, blank_item, blank_items, blank_param, blank_function, blank}
+use Rattle.sl_syntax.specs.Blank.{blank_element, blank_result}
 use Rattle.sl_syntax.specs.Depth.{height, list_height, rest_height, highest, option_height, initializer_height, declaration_height, out_height}
 use Rattle.sl_syntax.specs.Depth.{effect_height, cond_height, first_height, stmt_height, item_height, items_height, param_height, function_height}
-use Rattle.sl_syntax.specs.Depth.{depth}
+use Rattle.sl_syntax.specs.Depth.{element_height, result_height, depth}
 use Rattle.sl_syntax.specs.Shaped.{level, IsExpr, AreExprs, IfThere, Each, AreSome, IsSomeList, IsInitializer, IsDeclaration, IsRead, IsOut, IsEffect}
 use Rattle.sl_syntax.specs.Shaped.{IsCond, IsFirst, ends_open, IsStmt, IsItem, AreItems, IsFunction, Shaped}
 
@@ -57,6 +62,7 @@ blank-initializer_height (t.arguments xs) = blank-list_height xs
 pub blank-declaration_height : (x : Declaration) → declaration_height (blank_declaration x) ≡ declaration_height x
 blank-declaration_height (t.declares_scalar place s x v) = rw (blank-option_height height blank_expr blank-height v) refl
 blank-declaration_height (t.declares_auto place x v) = rw (blank-height v) refl
+blank-declaration_height (t.declares_reference head x v) = rw (blank-height v) refl
 blank-declaration_height (t.declares_container c x i) = rw (blank-initializer_height i) refl
 
 pub blank-out_height : (x : Out) → out_height (blank_out x) ≡ out_height x
@@ -80,6 +86,10 @@ blank-first_height (t.first_scalar place s x v) = rw (blank-height v) refl
 blank-first_height (t.first_auto place x v) = rw (blank-height v) refl
 blank-first_height (t.first_effect e) = blank-effect_height e
 
+pub blank-element_height : (x : Element) → element_height (blank_element x) ≡ element_height x
+blank-element_height (l.Value x) = refl
+blank-element_height (l.Reference x) = refl
+
 mutual
   pub blank-stmt_height : (x : Stmt) → stmt_height (blank_stmt x) ≡ stmt_height x
   blank-stmt_height (t.block opens items closes) = rw (blank-items_height items) refl
@@ -93,7 +103,7 @@ mutual
         blank-option_height effect_height blank_effect blank-effect_height step,
         blank-stmt_height x,
       ) refl
-  blank-stmt_height (t.range_for place is_auto x v body) = rw (blank-stmt_height body) refl
+  blank-stmt_height (t.range_for place e x v body) = rw (blank-element_height e, blank-stmt_height body) refl
   blank-stmt_height (t.break place) = refl
   blank-stmt_height (t.continue place) = refl
   blank-stmt_height (t.gives_back place v) = rw (blank-option_height height blank_expr blank-height v) refl
@@ -112,9 +122,16 @@ blank-param_height (r.Value place s x) = refl
 blank-param_height (r.Reference place s x) = refl
 blank-param_height (r.Container c x) = refl
 blank-param_height (r.ConstContainer place c x) = refl
+blank-param_height (r.Iterator i x) = refl
+
+pub blank-result_height : (x : ResultType) → result_height (blank_result x) ≡ result_height x
+blank-result_height z.Void = refl
+blank-result_height (z.Scalar s) = refl
+blank-result_height (z.Iterator i) = refl
 
 pub blank-function_height : (f : Function) → function_height (blank_function f) ≡ function_height f
-blank-function_height f = rw (blank-highest param_height blank_param blank-param_height f.params, blank-items_height f.items) refl
+blank-function_height f =
+    rw (blank-result_height f.result, blank-highest param_height blank_param blank-param_height f.params, blank-items_height f.items) refl
 
 pub blank-depth : (p : Program) → depth (blank p) ≡ depth p
 blank-depth p = blank-highest function_height blank_function blank-function_height p
@@ -178,6 +195,7 @@ blank-is_initializer (t.arguments xs) h = (blank-is_some_list xs h.0, blank-are_
 pub blank-is_declaration : (x : Declaration) → IsDeclaration x → IsDeclaration (blank_declaration x)
 blank-is_declaration (t.declares_scalar place s x v) h = blank-if_there IsExpr blank_expr blank-is_expr v h
 blank-is_declaration (t.declares_auto place x v) h = blank-is_expr v h
+blank-is_declaration (t.declares_reference head x v) h = blank-is_expr v h
 blank-is_declaration (t.declares_container c x i) h = blank-is_initializer i h
 
 pub blank-is_read : (x : Read) → IsRead x → IsRead (blank_read x)
@@ -210,7 +228,7 @@ blank-ends_open (t.choice place c x) = refl
 blank-ends_open (t.choice_else place c x y) = blank-ends_open y
 blank-ends_open (t.while place c x) = blank-ends_open x
 blank-ends_open (t.for place first c step x) = blank-ends_open x
-blank-ends_open (t.range_for place is_auto x v body) = blank-ends_open body
+blank-ends_open (t.range_for place e x v body) = blank-ends_open body
 blank-ends_open (t.break place) = refl
 blank-ends_open (t.continue place) = refl
 blank-ends_open (t.gives_back place v) = refl
@@ -228,7 +246,7 @@ mutual
     blank-if_there IsEffect blank_effect blank-is_effect step h.2,
     blank-is_stmt x h.3,
   )
-  blank-is_stmt (t.range_for place is_auto x v body) h = blank-is_stmt body h
+  blank-is_stmt (t.range_for place e x v body) h = blank-is_stmt body h
   blank-is_stmt (t.break place) h = tt
   blank-is_stmt (t.continue place) h = tt
   blank-is_stmt (t.gives_back place v) h = blank-if_there IsExpr blank_expr blank-is_expr v h

@@ -7,7 +7,7 @@ use Rattle.sl_syntax.specs.declared.tree.function.Param.{Param}
 use Rattle.sl_syntax.specs.declared.tree.function.Program.{Program as ProgramCode}
 use Rattle.sl_syntax.specs.TreeView.{function_of, program_of}
 use Rattle.sl_syntax.specs.Written.{words_of, words, mark, param_written, params_written, function_written}
-use Rattle.sl_syntax.proofs.WrittenLaws.{words_of-append, words_of-flat_map, words_of-flat_map-map, separated}
+use Rattle.sl_syntax.proofs.WrittenLaws.{words_of-append, words_of-from_place, words_of-flat_map, words_of-flat_map-map, separated}
 
 abbrev pub param_words_of : Param → List Word
 param_words_of x = words_of (param_written x)
@@ -17,6 +17,8 @@ params_words [] = refl
 params_words (x ∷ xs) =
     words_of-append (param_written x) (flat_map (λ y. mark m.Comma ∷ param_written y) xs)
     ∙ ap (λ (l : List Word). param_words_of x ++ l) (words_of-flat_map (λ y. mark m.Comma ∷ param_written y) xs)
+
+pub ruleset function_words = (words_of-append, words_of-from_place)
 
 abbrev pub function_words_of : FunctionCode → List Word
 function_words_of x = words_of (function_written (function_of x))

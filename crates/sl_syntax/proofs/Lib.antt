@@ -7,6 +7,7 @@ pub mod BlankShape
 -- ## Trees, their words and depths, by hand
 pub mod TreeExamples
 pub mod StatementExamples
+pub mod ReferenceExamples
 -- ## What is written, piece by piece
 pub mod WrittenLaws
 pub mod ExprWords

@@ -11,6 +11,8 @@ use Rattle.sl_syntax.specs.declared.operator.BinaryOperator.TheVariants as b
 use Rattle.sl_syntax.specs.declared.operator.Comparison.TheVariants as l
 use Rattle.sl_syntax.specs.declared.operator.PrefixOperator.TheVariants as p
 use Rattle.sl_syntax.specs.declared.operator.Selector.TheVariants as s
+use Rattle.sl_syntax.specs.declared.tree.element.Element.TheVariants as e
+use Rattle.sl_syntax.specs.declared.tree.element.ElementType.TheVariants as y
 use Rattle.sl_syntax.specs.Tree as t
 use Rattle.sl_syntax.specs.Tree.{Expr, Initializer, Item, Program}
 use Rattle.sl_syntax.specs.Written as v
@@ -84,7 +86,7 @@ endless_is = record { says = refl; deep = refl; placed = search rules; shaped = 
 
 -- int main() { for (auto x : v) continue; }
 abbrev ranged : Program
-ranged = main_of 15 (single (t.range_for (at 6) true (name_at 9 (codes "x")) (name_at 11 (codes "v")) (t.continue (at 13))))
+ranged = main_of 15 (single (t.range_for (at 6) (e.Value y.Auto) (name_at 9 (codes "x")) (name_at 11 (codes "v")) (t.continue (at 13))))
 
 abbrev ranged_words : List Word
 ranged_words = main_words (w.Key (codes "for") ∷ w.Mark m.LeftParenthesis ∷ w.Key (codes "auto") ∷ w.Name (codes "x") ∷ w.Mark m.Colon

@@ -1,5 +1,5 @@
 -- The words of a statement of the code, variant by variant.
-use Rattle.std.proofs.Common.{◌≡◌, Bool, List, [], ◌∷◌, ◌++◌, Box, flat_map, refl, ap, ◌∙◌, append_assoc, codes, Option, Some, None, option_map}
+use Rattle.std.proofs.Common.{◌≡◌, List, [], ◌∷◌, ◌++◌, Box, flat_map, refl, ap, ◌∙◌, append_assoc, codes, Option, Some, None, option_map}
 use Rattle.std.specs.declared.alloc.Global.{Global}
 use Rattle.sl_base.specs.declared.mark.Mark.TheVariants as m
 use Rattle.sl_base.specs.declared.place.Place.{Place}
@@ -7,6 +7,7 @@ use Rattle.sl_base.specs.declared.word.Word.{Word}
 use Rattle.sl_base.specs.declared.word.Word.TheVariants as w
 use Rattle.sl_syntax.specs.declared.tree.effect.Cond.{Cond as CondCode}
 use Rattle.sl_syntax.specs.declared.tree.effect.Effect.{Effect as EffectCode}
+use Rattle.sl_syntax.specs.declared.tree.element.Element.{Element}
 use Rattle.sl_syntax.specs.declared.tree.identifier.Identifier.{Identifier}
 use Rattle.sl_syntax.specs.declared.tree.statement.Block.{Block as BlockCode}
 use Rattle.sl_syntax.specs.declared.tree.statement.First.{First as FirstCode}
@@ -16,7 +17,8 @@ use Rattle.sl_syntax.specs.declared.tree.statement.Stmt.TheVariants as s
 use Rattle.sl_syntax.specs.Tree as t
 use Rattle.sl_syntax.specs.Tree.{Stmt, Cond}
 use Rattle.sl_syntax.specs.TreeView.{cond_of, first_of, effect_of, stmt_of, item_of, items_of}
-use Rattle.sl_syntax.specs.Written.{Written, words_of, mark, tested, option_written, first_written, cond_written, effect_written, element_word}
+use Rattle.sl_syntax.specs.Written.{Written, words_of, mark, tested, option_written, first_written, cond_written, effect_written}
+use Rattle.sl_syntax.specs.Written.{element_written, named}
 use Rattle.sl_syntax.specs.Written.{stmt_written, item_written, items_written}
 use Rattle.sl_syntax.proofs.TreeViews.{stmt_of-Block, stmt_of-If, stmt_of-If_else, stmt_of-While, stmt_of-For, stmt_of-RangeFor}
 use Rattle.sl_syntax.proofs.WrittenLaws.{words_of-append, words_of-from_place}
@@ -64,10 +66,13 @@ pub words-For : (p : Place) (x : Option FirstCode) (y : Option CondCode) (z : Op
     → stmt_words_of (s.For p x y z a) ≡ w.Key (codes "for") ∷ (parts_words x y z ++ stmt_words_of a.value)
 words-For p x y z a = as_data (s.For p x y z a) _ (stmt_of-For p x y z a) ∙ simp (words_of-append, append_assoc)
 
-pub words-RangeFor : (p : Place) (is_auto : Bool) (x v : Identifier) (a : Box StmtCode Global)
-    → stmt_words_of (s.RangeFor p is_auto x v a) ≡ w.Key (codes "for") ∷ w.Mark m.LeftParenthesis ∷ element_word is_auto ∷ w.Name x.name
-    ∷ w.Mark m.Colon ∷ w.Name v.name ∷ w.Mark m.RightParenthesis ∷ stmt_words_of a.value
-words-RangeFor p is_auto x v a = as_data (s.RangeFor p is_auto x v a) _ (stmt_of-RangeFor p is_auto x v a)
+pub words-RangeFor : (p : Place) (l : Element) (x v : Identifier) (a : Box StmtCode Global)
+    → stmt_words_of (s.RangeFor p l x v a) ≡ w.Key (codes "for") ∷ w.Mark m.LeftParenthesis ∷ (words_of (element_written l) ++ w.Name x.name
+    ∷ w.Mark m.Colon ∷ w.Name v.name ∷ w.Mark m.RightParenthesis ∷ stmt_words_of a.value)
+words-RangeFor p l x v a =
+    as_data (s.RangeFor p l x v a) _ (stmt_of-RangeFor p l x v a)
+    ∙ ap (λ (ws : List Word). w.Key (codes "for") ∷ w.Mark m.LeftParenthesis ∷ ws)
+    (words_of-append (element_written l) (named x ∷ mark m.Colon ∷ named v ∷ mark m.RightParenthesis ∷ stmt_written (stmt_of a.value)))
 
 pub words-Effect : (p : Place) (x : EffectCode) → stmt_words_of (s.Effect p x) ≡ words_of (effect_written (effect_of x)) ++ w.Mark m.Semicolon ∷ []
 words-Effect p x =

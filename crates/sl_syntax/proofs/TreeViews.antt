@@ -1,5 +1,5 @@
 -- What a tree of the code is as data, variant by variant.
-use Rattle.std.proofs.Common.{◌≡◌, Bool, rules, Box, Vec, refl, ap, Option, Some, None, option_map}
+use Rattle.std.proofs.Common.{◌≡◌, rules, Box, Vec, refl, ap, Option, Some, None, option_map}
 use Rattle.std.specs.declared.alloc.Global.{Global}
 use Rattle.sl_base.specs.declared.place.Place.{Place}
 use Rattle.sl_syntax.specs.declared.operator.BinaryOperator.{BinaryOperator}
@@ -8,6 +8,7 @@ use Rattle.sl_syntax.specs.declared.operator.PrefixOperator.{PrefixOperator}
 use Rattle.sl_syntax.specs.declared.operator.Selector.{Selector}
 use Rattle.sl_syntax.specs.declared.tree.effect.Cond.{Cond as CondCode}
 use Rattle.sl_syntax.specs.declared.tree.effect.Effect.{Effect as EffectCode}
+use Rattle.sl_syntax.specs.declared.tree.element.Element.{Element}
 use Rattle.sl_syntax.specs.declared.tree.expr.Expr.{Expr as ExprCode, Row_of-Expr, end_of-Expr, more_of-Expr, items-the_row-Expr}
 use Rattle.sl_syntax.specs.declared.tree.expr.Expr.{the_lemmas as expr_lemmas}
 use Rattle.sl_syntax.specs.declared.tree.expr.Expr.TheVariants as e
@@ -76,9 +77,9 @@ pub stmt_of-For : (p : Place) (x : Option FirstCode) (y : Option CondCode) (z : 
     → stmt_of (s.For p x y z a) ≡ t.for p (option_map first_of x) (option_map cond_of y) (option_map effect_of z) (stmt_of a.value)
 stmt_of-For p x y z a = search (rules, stmt_lemmas)
 
-pub stmt_of-RangeFor : (p : Place) (is_auto : Bool) (x v : Identifier) (a : Box StmtCode Global)
-    → stmt_of (s.RangeFor p is_auto x v a) ≡ t.range_for p is_auto x v (stmt_of a.value)
-stmt_of-RangeFor p is_auto x v a = search (rules, stmt_lemmas)
+pub stmt_of-RangeFor : (p : Place) (l : Element) (x v : Identifier) (a : Box StmtCode Global)
+    → stmt_of (s.RangeFor p l x v a) ≡ t.range_for p l x v (stmt_of a.value)
+stmt_of-RangeFor p l x v a = search (rules, stmt_lemmas)
 
 pub ruleset expr_views = (
   expr_of-Call,

@@ -6,8 +6,14 @@ use Rattle.sl_base.specs.declared.token.Token.{Token}
 use Rattle.sl_base.specs.declared.word.Word.{Word}
 use Rattle.sl_syntax.specs.declared.tree.declaration.ContainerType.{ContainerType}
 use Rattle.sl_syntax.specs.declared.tree.effect.Read.{Read}
+use Rattle.sl_syntax.specs.declared.tree.element.Element.{Element}
+use Rattle.sl_syntax.specs.declared.tree.element.Element.TheVariants as l
+use Rattle.sl_syntax.specs.declared.tree.element.ReferenceHead.{ReferenceHead}
+use Rattle.sl_syntax.specs.declared.tree.function.IteratorType.{IteratorType}
 use Rattle.sl_syntax.specs.declared.tree.function.Param.{Param}
 use Rattle.sl_syntax.specs.declared.tree.function.Param.TheVariants as r
+use Rattle.sl_syntax.specs.declared.tree.function.ResultType.{ResultType}
+use Rattle.sl_syntax.specs.declared.tree.function.ResultType.TheVariants as z
 use Rattle.sl_syntax.specs.declared.tree.identifier.Identifier.{Identifier}
 use Rattle.sl_syntax.specs.Tree as t
 use Rattle.sl_syntax.specs.Tree.{Expr, Exprs, Initializer, Declaration, Out, Effect, Cond, First, Stmt, Item, Items, Function, Program}
@@ -21,6 +27,16 @@ blank_identifier x = record { name = x.name; place = nowhere }
 
 abbrev pub blank_container : ContainerType → ContainerType
 blank_container x = record { place = nowhere; form = x.form }
+
+abbrev pub blank_iterator : IteratorType → IteratorType
+blank_iterator x = record { container = blank_container x.container; name = blank_identifier x.name }
+
+abbrev pub blank_reference : ReferenceHead → ReferenceHead
+blank_reference x = record { place = nowhere; is_const = x.is_const; element = x.element }
+
+abbrev pub blank_element : Element → Element
+blank_element (l.Value x) = l.Value x
+blank_element (l.Reference x) = l.Reference (blank_reference x)
 
 abbrev mutual
   pub blank_expr : Expr → Expr
@@ -50,6 +66,7 @@ blank_initializer (t.arguments xs) = t.arguments (blank_exprs xs)
 abbrev pub blank_declaration : Declaration → Declaration
 blank_declaration (t.declares_scalar place s x v) = t.declares_scalar nowhere s (blank_identifier x) (option_map blank_expr v)
 blank_declaration (t.declares_auto place x v) = t.declares_auto nowhere (blank_identifier x) (blank_expr v)
+blank_declaration (t.declares_reference head x v) = t.declares_reference (blank_reference head) (blank_identifier x) (blank_expr v)
 blank_declaration (t.declares_container c x i) = t.declares_container (blank_container c) (blank_identifier x) (blank_initializer i)
 
 abbrev pub blank_read : Read → Read
@@ -84,7 +101,8 @@ abbrev mutual
   blank_stmt (t.while place c x) = t.while nowhere (blank_cond c) (blank_stmt x)
   blank_stmt (t.for place first c step x) =
       t.for nowhere (option_map blank_first first) (option_map blank_cond c) (option_map blank_effect step) (blank_stmt x)
-  blank_stmt (t.range_for place is_auto x v body) = t.range_for nowhere is_auto (blank_identifier x) (blank_identifier v) (blank_stmt body)
+  blank_stmt (t.range_for place e x v body) =
+      t.range_for nowhere (blank_element e) (blank_identifier x) (blank_identifier v) (blank_stmt body)
   blank_stmt (t.break place) = t.break nowhere
   blank_stmt (t.continue place) = t.continue nowhere
   blank_stmt (t.gives_back place v) = t.gives_back nowhere (option_map blank_expr v)
@@ -103,11 +121,17 @@ blank_param (r.Value place s x) = r.Value nowhere s (blank_identifier x)
 blank_param (r.Reference place s x) = r.Reference nowhere s (blank_identifier x)
 blank_param (r.Container c x) = r.Container (blank_container c) (blank_identifier x)
 blank_param (r.ConstContainer place c x) = r.ConstContainer nowhere (blank_container c) (blank_identifier x)
+blank_param (r.Iterator i x) = r.Iterator (blank_iterator i) (blank_identifier x)
+
+abbrev pub blank_result : ResultType → ResultType
+blank_result z.Void = z.Void
+blank_result (z.Scalar s) = z.Scalar s
+blank_result (z.Iterator i) = z.Iterator (blank_iterator i)
 
 abbrev pub blank_function : Function → Function
 blank_function f = record {
   place = nowhere;
-  result = f.result;
+  result = blank_result f.result;
   name = blank_identifier f.name;
   params = map blank_param f.params;
   opens = nowhere;

@@ -2,8 +2,12 @@
 -- more than one part; a word by itself and a rule that hands on its one part are none. In an expression each operator and each piece behind an
 -- operand is one, and holds all to its left.
 use Rattle.std.specs.Prelude.{ℕ, ◌+◌, max, List, [], ◌∷◌, Option, Some, None}
+use Rattle.sl_syntax.specs.declared.tree.element.Element.{Element}
+use Rattle.sl_syntax.specs.declared.tree.element.Element.TheVariants as element
 use Rattle.sl_syntax.specs.declared.tree.function.Param.{Param}
 use Rattle.sl_syntax.specs.declared.tree.function.Param.TheVariants as param
+use Rattle.sl_syntax.specs.declared.tree.function.ResultType.{ResultType}
+use Rattle.sl_syntax.specs.declared.tree.function.ResultType.TheVariants as result
 use Rattle.sl_syntax.specs.Tree as t
 use Rattle.sl_syntax.specs.Tree.{Expr, Exprs, Initializer, Declaration, Out, Effect, Cond, First, Stmt, Item, Items, Function, Program}
 
@@ -48,10 +52,11 @@ initializer_height (t.copies x) = 0
 initializer_height (t.braces equal xs) = list_height xs
 initializer_height (t.arguments xs) = list_height xs
 
--- a container's type is a node
+-- the type of a container and that of a reference are nodes
 abbrev pub declaration_height : Declaration → ℕ
 declaration_height (t.declares_scalar place s x v) = option_height height v + 1
 declaration_height (t.declares_auto place x v) = height v + 1
+declaration_height (t.declares_reference head x v) = max 1 (height v) + 1
 declaration_height (t.declares_container c x i) = max 1 (initializer_height i) + 1
 
 abbrev pub out_height : Out → ℕ
@@ -76,6 +81,10 @@ first_height (t.first_scalar place s x v) = height v + 1
 first_height (t.first_auto place x v) = height v + 1
 first_height (t.first_effect e) = effect_height e
 
+abbrev pub element_height : Element → ℕ
+element_height (element.Value x) = 0
+element_height (element.Reference head) = 1
+
 abbrev mutual
   pub stmt_height : Stmt → ℕ
   stmt_height (t.block opens items closes) = items_height items + 1
@@ -84,7 +93,7 @@ abbrev mutual
   stmt_height (t.while place c x) = max (cond_height c) (stmt_height x) + 1
   stmt_height (t.for place first c step x) =
       max (option_height first_height first) (max (option_height cond_height c) (max (option_height effect_height step) (stmt_height x))) + 1
-  stmt_height (t.range_for place is_auto x v body) = stmt_height body + 1
+  stmt_height (t.range_for place e x v body) = max (element_height e) (stmt_height body) + 1
   stmt_height (t.break place) = 1
   stmt_height (t.continue place) = 1
   stmt_height (t.gives_back place v) = option_height height v + 1
@@ -104,9 +113,16 @@ param_height (param.Value place s x) = 1
 param_height (param.Reference place s x) = 1
 param_height (param.Container c x) = 2
 param_height (param.ConstContainer place c x) = 2
+param_height (param.Iterator i x) = 2
+
+-- the type of an iterator is a node, with its container's type below it
+abbrev pub result_height : ResultType → ℕ
+result_height result.Void = 0
+result_height (result.Scalar s) = 0
+result_height (result.Iterator i) = 2
 
 abbrev pub function_height : Function → ℕ
-function_height f = max (highest param_height f.params) (stmt_height (t.block f.opens f.items f.closes)) + 1
+function_height f = max (result_height f.result) (max (highest param_height f.params) (stmt_height (t.block f.opens f.items f.closes))) + 1
 
 abbrev pub depth : Program → ℕ
 depth p = highest function_height p

@@ -100,6 +100,7 @@ IsInitializer (t.arguments xs) = IsSomeList xs × AreExprs xs
 abbrev pub IsDeclaration : Declaration → Type 0
 IsDeclaration (t.declares_scalar place s x v) = IfThere IsExpr v
 IsDeclaration (t.declares_auto place x v) = IsExpr v
+IsDeclaration (t.declares_reference head x v) = IsExpr v
 IsDeclaration (t.declares_container c x i) = IsInitializer i
 
 abbrev pub IsRead : Read → Type 0
@@ -133,7 +134,7 @@ ends_open (t.choice place c x) = true
 ends_open (t.choice_else place c x y) = ends_open y
 ends_open (t.while place c x) = ends_open x
 ends_open (t.for place first c step x) = ends_open x
-ends_open (t.range_for place is_auto x v body) = ends_open body
+ends_open (t.range_for place e x v body) = ends_open body
 ends_open (t.break place) = false
 ends_open (t.continue place) = false
 ends_open (t.gives_back place v) = false
@@ -146,7 +147,7 @@ abbrev mutual
   IsStmt (t.choice_else place c x y) = IsCond c × IsStmt x × (ends_open x ≡ false) × IsStmt y
   IsStmt (t.while place c x) = IsCond c × IsStmt x
   IsStmt (t.for place first c step x) = IfThere IsFirst first × IfThere IsCond c × IfThere IsEffect step × IsStmt x
-  IsStmt (t.range_for place is_auto x v body) = IsStmt body
+  IsStmt (t.range_for place e x v body) = IsStmt body
   IsStmt (t.break place) = ⊤
   IsStmt (t.continue place) = ⊤
   IsStmt (t.gives_back place v) = IfThere IsExpr v

@@ -23,7 +23,8 @@ libs =
     ∷ (codes "deque", kind.Container form.Deque)
     ∷ (codes "list", kind.Container form.List) ∷ (codes "set", kind.Container form.Set) ∷ (codes "map", kind.Container form.Map)
     ∷ (codes "unordered_set", kind.Container form.HashSet)
-    ∷ (codes "unordered_map", kind.Container form.HashMap) ∷ (codes "cin", kind.Input) ∷ (codes "cout", kind.Output) ∷ (codes "endl", kind.EndLine)
+    ∷ (codes "unordered_map", kind.Container form.HashMap) ∷ (codes "multiset", kind.Container form.MultiSet)
+    ∷ (codes "multimap", kind.Container form.MultiMap) ∷ (codes "cin", kind.Input) ∷ (codes "cout", kind.Output) ∷ (codes "endl", kind.EndLine)
     ∷ []
 
 abbrev pub kind_or : TokenKind → Option TokenKind → TokenKind

@@ -10,6 +10,8 @@ use Rattle.sl_syntax.specs.declared.operator.PrefixOperator.{PrefixOperator}
 use Rattle.sl_syntax.specs.declared.operator.Selector.{Selector}
 use Rattle.sl_syntax.specs.declared.tree.declaration.ContainerType.{ContainerType}
 use Rattle.sl_syntax.specs.declared.tree.effect.Read.{Read}
+use Rattle.sl_syntax.specs.declared.tree.element.Element.{Element}
+use Rattle.sl_syntax.specs.declared.tree.element.ReferenceHead.{ReferenceHead}
 use Rattle.sl_syntax.specs.declared.tree.function.Param.{Param}
 use Rattle.sl_syntax.specs.declared.tree.function.ResultType.{ResultType}
 use Rattle.sl_syntax.specs.declared.tree.identifier.Identifier.{Identifier}
@@ -51,6 +53,7 @@ pub data Initializer : Type 0 where
 pub data Declaration : Type 0 where
   declares_scalar : Place → Scalar → Identifier → Option Expr → Declaration
   declares_auto : Place → Identifier → Expr → Declaration
+  declares_reference : ReferenceHead → Identifier → Expr → Declaration
   declares_container : ContainerType → Identifier → Initializer → Declaration
 
 -- an item of a print
@@ -86,8 +89,8 @@ mutual
     choice_else : Place → Cond → Stmt → Stmt → Stmt
     while : Place → Cond → Stmt → Stmt
     for : Place → Option First → Option Cond → Option Effect → Stmt → Stmt
-    -- whether its type is `auto`; the variable, and the container
-    range_for : Place → Bool → Identifier → Identifier → Stmt → Stmt
+    -- how its variable takes an element; the variable, and the container
+    range_for : Place → Element → Identifier → Identifier → Stmt → Stmt
     break : Place → Stmt
     continue : Place → Stmt
     gives_back : Place → Option Expr → Stmt

@@ -54,6 +54,7 @@ initializer_of (n.Arguments xs) = t.arguments (exprs_of xs.items)
 abbrev pub declaration_of : DeclarationCode → Declaration
 declaration_of (d.Scalar p s x v) = t.declares_scalar p s x (option_map expr_of v)
 declaration_of (d.Auto p x v) = t.declares_auto p x (expr_of v)
+declaration_of (d.Reference h x v) = t.declares_reference h x (expr_of v)
 declaration_of (d.Container ct x i) = t.declares_container ct x (initializer_of i)
 
 abbrev pub out_of : OutCode → Out
@@ -84,7 +85,7 @@ abbrev mutual
   stmt_of (s.If' p x q a (Some' r b)) = t.choice_else p (cond_of x) (stmt_of a) (stmt_of b)
   stmt_of (s.While' p x q a) = t.while p (cond_of x) (stmt_of a)
   stmt_of (s.For' p x y z q a) = t.for p (option_map first_of x) (option_map cond_of y) (option_map effect_of z) (stmt_of a)
-  stmt_of (s.RangeFor' p b x y q a) = t.range_for p b x y (stmt_of a)
+  stmt_of (s.RangeFor' p e x y q a) = t.range_for p e x y (stmt_of a)
   stmt_of (s.Break p) = t.break p
   stmt_of (s.Continue p) = t.continue p
   stmt_of (s.Return p v) = t.gives_back p (option_map expr_of v)

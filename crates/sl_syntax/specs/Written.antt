@@ -26,6 +26,12 @@ use Rattle.sl_syntax.specs.declared.operator.Selector.{Selector}
 use Rattle.sl_syntax.specs.declared.operator.Selector.TheVariants as selector
 use Rattle.sl_syntax.specs.declared.tree.declaration.ContainerType.{ContainerType}
 use Rattle.sl_syntax.specs.declared.tree.effect.Read.{Read}
+use Rattle.sl_syntax.specs.declared.tree.element.Element.{Element}
+use Rattle.sl_syntax.specs.declared.tree.element.Element.TheVariants as element
+use Rattle.sl_syntax.specs.declared.tree.element.ElementType.{ElementType}
+use Rattle.sl_syntax.specs.declared.tree.element.ElementType.TheVariants as type
+use Rattle.sl_syntax.specs.declared.tree.element.ReferenceHead.{ReferenceHead}
+use Rattle.sl_syntax.specs.declared.tree.function.IteratorType.{IteratorType}
 use Rattle.sl_syntax.specs.declared.tree.function.Param.{Param}
 use Rattle.sl_syntax.specs.declared.tree.function.Param.TheVariants as param
 use Rattle.sl_syntax.specs.declared.tree.function.ResultType.{ResultType}
@@ -112,10 +118,6 @@ scalar_word scalar.Bool = w.Key (codes "bool")
 scalar_word scalar.Size = w.Lib (codes "size_t")
 scalar_word scalar.Diff = w.Lib (codes "ptrdiff_t")
 
-abbrev pub result_word : ResultType → Word
-result_word result.Void = w.Key (codes "void")
-result_word (result.Scalar s) = scalar_word s
-
 abbrev pub form_word : Form → Word
 form_word form.Vector = w.Lib (codes "vector")
 form_word form.Deque = w.Lib (codes "deque")
@@ -124,6 +126,8 @@ form_word form.Set = w.Lib (codes "set")
 form_word form.Map = w.Lib (codes "map")
 form_word form.HashSet = w.Lib (codes "unordered_set")
 form_word form.HashMap = w.Lib (codes "unordered_map")
+form_word form.MultiSet = w.Lib (codes "multiset")
+form_word form.MultiMap = w.Lib (codes "multimap")
 
 -- whether its elements are pairs of a key and a value
 abbrev pub is_map : Form → Bool
@@ -134,6 +138,8 @@ is_map form.Set = false
 is_map form.Map = true
 is_map form.HashSet = false
 is_map form.HashMap = true
+is_map form.MultiSet = false
+is_map form.MultiMap = true
 
 -- `<int>` or `<int, int>`
 abbrev pub elements_written : Bool → List Written
@@ -142,6 +148,23 @@ elements_written true = mark m.Less ∷ plain (scalar_word scalar.Int) ∷ mark 
 
 abbrev pub container_written : ContainerType → List Written
 container_written x = at x.place (form_word x.form) ∷ elements_written (is_map x.form)
+
+-- `std::vector<int>::iterator`
+abbrev pub iterator_written : IteratorType → List Written
+iterator_written x = container_written x.container ++ mark m.ColonColon ∷ named x.name ∷ []
+
+-- the type of an element
+abbrev pub element_word : ElementType → Word
+element_word type.Int = w.Key (codes "int")
+element_word type.Auto = w.Key (codes "auto")
+
+-- `int&`, and with `const` before it
+abbrev pub reference_words : Bool → ElementType → List Written
+reference_words false x = plain (element_word x) ∷ mark m.And ∷ []
+reference_words true x = plain (w.Key (codes "const")) ∷ plain (element_word x) ∷ mark m.And ∷ []
+
+abbrev pub reference_written : ReferenceHead → List Written
+reference_written x = from_place x.place (reference_words x.is_const x.element)
 
 abbrev mutual
   pub written : Expr → List Written
@@ -182,6 +205,7 @@ abbrev pub declaration_written : Declaration → List Written
 declaration_written (t.declares_scalar place s x None) = at place (scalar_word s) ∷ named x ∷ []
 declaration_written (t.declares_scalar place s x (Some v)) = at place (scalar_word s) ∷ named x ∷ value_written v
 declaration_written (t.declares_auto place x v) = at place (w.Key (codes "auto")) ∷ named x ∷ value_written v
+declaration_written (t.declares_reference head x v) = reference_written head ++ named x ∷ value_written v
 declaration_written (t.declares_container c x i) = container_written c ++ named x ∷ initializer_written i
 
 abbrev pub out_written : Out → List Written
@@ -220,10 +244,10 @@ option_written f (Some x) = f x
 abbrev pub tested : Cond → List Written → List Written
 tested c rest = mark m.LeftParenthesis ∷ (cond_written c ++ mark m.RightParenthesis ∷ rest)
 
--- the type of a range-for's variable
-abbrev pub element_word : Bool → Word
-element_word false = w.Key (codes "int")
-element_word true = w.Key (codes "auto")
+-- how the variable of a range-for takes an element
+abbrev pub element_written : Element → List Written
+element_written (element.Value x) = plain (element_word x) ∷ []
+element_written (element.Reference head) = reference_written head
 
 abbrev mutual
   pub stmt_written : Stmt → List Written
@@ -235,9 +259,9 @@ abbrev mutual
   stmt_written (t.for place first c step x) =
       at place (w.Key (codes "for")) ∷ mark m.LeftParenthesis ∷ (option_written first_written first ++ mark m.Semicolon
       ∷ (option_written cond_written c ++ mark m.Semicolon ∷ (option_written effect_written step ++ mark m.RightParenthesis ∷ stmt_written x)))
-  stmt_written (t.range_for place is_auto x v body) =
-      at place (w.Key (codes "for")) ∷ mark m.LeftParenthesis ∷ plain (element_word is_auto) ∷ named x ∷ mark m.Colon ∷ named v
-      ∷ mark m.RightParenthesis ∷ stmt_written body
+  stmt_written (t.range_for place e x v body) =
+      at place (w.Key (codes "for")) ∷ mark m.LeftParenthesis ∷ (element_written e ++ named x ∷ mark m.Colon ∷ named v
+      ∷ mark m.RightParenthesis ∷ stmt_written body)
   stmt_written (t.break place) = at place (w.Key (codes "break")) ∷ mark m.Semicolon ∷ []
   stmt_written (t.continue place) = at place (w.Key (codes "continue")) ∷ mark m.Semicolon ∷ []
   stmt_written (t.gives_back place v) = at place (w.Key (codes "return")) ∷ (option_written written v ++ mark m.Semicolon ∷ [])
@@ -256,14 +280,20 @@ param_written (param.Value place s x) = at place (scalar_word s) ∷ named x ∷
 param_written (param.Reference place s x) = at place (scalar_word s) ∷ mark m.And ∷ named x ∷ []
 param_written (param.Container c x) = container_written c ++ mark m.And ∷ named x ∷ []
 param_written (param.ConstContainer place c x) = at place (w.Key (codes "const")) ∷ (container_written c ++ mark m.And ∷ named x ∷ [])
+param_written (param.Iterator i x) = iterator_written i ++ named x ∷ []
 
 abbrev pub params_written : List Param → List Written
 params_written [] = []
 params_written (x ∷ xs) = param_written x ++ flat_map (λ y. mark m.Comma ∷ param_written y) xs
 
+abbrev pub result_written : ResultType → List Written
+result_written result.Void = plain (w.Key (codes "void")) ∷ []
+result_written (result.Scalar s) = plain (scalar_word s) ∷ []
+result_written (result.Iterator i) = iterator_written i
+
 abbrev pub function_written : Function → List Written
 function_written f =
-    at f.place (result_word f.result) ∷ named f.name ∷ mark m.LeftParenthesis
+    from_place f.place (result_written f.result) ++ named f.name ∷ mark m.LeftParenthesis
     ∷ (params_written f.params ++ mark m.RightParenthesis ∷ stmt_written (t.block f.opens f.items f.closes))
 
 abbrev pub program_written : Program → List Written

@@ -1,4 +1,4 @@
-// Trees of texts.
+//! Trees of texts.
 #![tactic(auto)]
 
 mod operator;
@@ -13,7 +13,8 @@ pub use operator::{
 };
 pub use token_kind::TokenKind;
 pub use tree::{
-    Block, Cond, ContainerType, Declaration, Effect, Expr, First, Function, Identifier,
-    Initializer, Item, Out, Param, Print, Program, Read, ResultType, Stmt,
+    Block, Cond, ContainerType, Declaration, Effect, Element, ElementType, Expr, First, Function,
+    Identifier, Initializer, Item, IteratorType, Out, Param, Print, Program, Read, ReferenceHead,
+    ResultType, Stmt,
 };
 pub use write::write_tokens;

@@ -60,7 +60,7 @@ const KEYS: [(&str, TokenKind); 14] = [
 ];
 
 /// The libs that the grammar names.
-const LIBS: [(&str, TokenKind); 12] = [
+const LIBS: [(&str, TokenKind); 14] = [
     ("size_t", TokenKind::Scalar(Scalar::Size)),
     ("ptrdiff_t", TokenKind::Scalar(Scalar::Diff)),
     ("vector", TokenKind::Container(Form::Vector)),
@@ -70,6 +70,8 @@ const LIBS: [(&str, TokenKind); 12] = [
     ("map", TokenKind::Container(Form::Map)),
     ("unordered_set", TokenKind::Container(Form::HashSet)),
     ("unordered_map", TokenKind::Container(Form::HashMap)),
+    ("multiset", TokenKind::Container(Form::MultiSet)),
+    ("multimap", TokenKind::Container(Form::MultiMap)),
     ("cin", TokenKind::Input),
     ("cout", TokenKind::Output),
     ("endl", TokenKind::EndLine),

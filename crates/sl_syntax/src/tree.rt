@@ -3,6 +3,7 @@
 
 mod declaration;
 mod effect;
+mod element;
 mod expr;
 mod function;
 mod identifier;
@@ -10,7 +11,8 @@ mod statement;
 
 pub use declaration::{ContainerType, Declaration, Initializer};
 pub use effect::{Cond, Effect, Out, Print, Read};
+pub use element::{Element, ElementType, ReferenceHead};
 pub use expr::Expr;
-pub use function::{Function, Param, Program, ResultType};
+pub use function::{Function, IteratorType, Param, Program, ResultType};
 pub use identifier::Identifier;
 pub use statement::{Block, First, Item, Stmt};

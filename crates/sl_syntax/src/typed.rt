@@ -1,4 +1,4 @@
-//! A typed text, as far as the form that is checked so far needs it.
+//! A typed text, as far as the subset needs it.
 use sl_base::{Items, Name, Place, Site};
 
 /// A statement of the body of `main`. Variables are numbered from 0 in the order in which they are declared, vectors,

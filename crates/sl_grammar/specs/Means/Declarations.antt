@@ -1,15 +1,22 @@
--- How types, declarations and parameters are read. The number is how many nodes may stand on a way below the declaration.
-use Rattle.std.specs.Prelude.{ℕ, ◌+◌, max, nat_lt, Bool, true, false, List, [], ◌∷◌, Option, Some, None, if◌then◌else◌, Ok}
+-- How types, declarations, parameters and results are read. The number is how many nodes may stand on a way below the declaration.
+use Rattle.std.specs.Prelude.{ℕ, ◌+◌, max, nat_lt, drop, Bool, true, false, List, [], ◌∷◌, Option, Some, None, if◌then◌else◌, Ok}
 use Rattle.sl_base.specs.declared.form.Form.{Form}
 use Rattle.sl_base.specs.declared.mark.Mark.TheVariants as m
 use Rattle.sl_base.specs.declared.place.Place.{Place}
 use Rattle.sl_base.specs.declared.scalar.Scalar.{Scalar}
 use Rattle.sl_base.specs.declared.scalar.Scalar.TheVariants as c
+use Rattle.sl_base.specs.declared.token.Token.{Token}
 use Rattle.sl_syntax.specs.declared.token_kind.TokenKind.{TokenKind}
 use Rattle.sl_syntax.specs.declared.token_kind.TokenKind.TheVariants as k
 use Rattle.sl_syntax.specs.declared.tree.declaration.ContainerType.{ContainerType}
+use Rattle.sl_syntax.specs.declared.tree.element.ElementType.{ElementType}
+use Rattle.sl_syntax.specs.declared.tree.element.ElementType.TheVariants as y
+use Rattle.sl_syntax.specs.declared.tree.element.ReferenceHead.{ReferenceHead}
+use Rattle.sl_syntax.specs.declared.tree.function.IteratorType.{IteratorType}
 use Rattle.sl_syntax.specs.declared.tree.function.Param.{Param}
 use Rattle.sl_syntax.specs.declared.tree.function.Param.TheVariants as r
+use Rattle.sl_syntax.specs.declared.tree.function.ResultType.{ResultType}
+use Rattle.sl_syntax.specs.declared.tree.function.ResultType.TheVariants as z
 use Rattle.sl_syntax.specs.Tree as t
 use Rattle.sl_syntax.specs.Tree.{Expr, Exprs, Initializer, Declaration}
 use Rattle.sl_syntax.specs.Written.{is_map}
@@ -45,7 +52,54 @@ container_type form = λ ts. (do
   elements_by (is_map form)
   pure (record { place = here ts; form = form })) ts
 
+-- `::iterator` behind a container's type
+unfoldable pub iterator_behind : ContainerType → Reader IteratorType
+iterator_behind type = do
+  mark m.ColonColon
+  name ← identifier
+  pure (record { container = type; name = name })
+
+-- `int` or `auto`
+abbrev pub element_by : TokenKind → Reader ElementType
+element_by (k.Scalar c.Int) = λ ts. Ok (y.Int, drop 1 ts)
+element_by k.Auto = λ ts. Ok (y.Auto, drop 1 ts)
+element_by _ = refuse
+
+-- `int&`, whose first word may be `const`, and stands at this place
+abbrev pub open_head : Bool → Place → Reader ReferenceHead
+open_head is_const place = do
+  element ← (λ ts. element_by (kind_at ts) ts)
+  mark m.And
+  pure (record { place = place; is_const = is_const; element = element })
+
+abbrev pub head_by : TokenKind → Place → Reader ReferenceHead
+head_by k.Const place = skip >> open_head true place
+head_by _ place = open_head false place
+
+-- the type of a reference
+unfoldable pub reference_head : Reader ReferenceHead
+reference_head = λ ts. head_by (kind_at ts) (here ts) ts
+
+-- a word and the next begin the type of a reference
+abbrev pub begins_head : TokenKind → TokenKind → Bool
+begins_head k.Const second = true
+begins_head (k.Scalar c.Int) second = is_mark m.And second
+begins_head k.Auto second = is_mark m.And second
+begins_head _ second = false
+
+abbrev pub begins_reference : List Token → Bool
+begins_reference ts = begins_head (kind_at ts) (kind_at (drop 1 ts))
+
 module _ (depth_left : ℕ) where
+  -- a reference's type is a node below the declaration
+  unfoldable pub reference_declaration : Reader (Tall Declaration)
+  reference_declaration = do
+    head ← reference_head
+    x ← identifier
+    mark m.Equal
+    v ← expr (depth_left + 1) 1
+    pure (t.declares_reference head x v.0, max 1 v.1 + 1)
+
   -- `= x`, which may be left out
   unfoldable pub optional_value : Reader (Tall (Option Expr))
   optional_value = λ ts. if is_mark m.Equal (kind_at ts) then (do
@@ -115,12 +169,17 @@ scalar_param place scalar = λ ts.
       x ← identifier
       pure (r.Value place scalar x, 1)) ts
 
-unfoldable pub container_param : Form → Reader (Tall Param)
-container_param form = do
-  type ← container_type form
-  mark m.And
-  x ← identifier
-  pure (r.Container type x, 2)
+-- behind the type of a container
+unfoldable pub type_param : ContainerType → Reader (Tall Param)
+type_param type = λ ts.
+    if is_mark m.ColonColon (kind_at ts) then (do
+      i ← iterator_behind type
+      x ← identifier
+      pure (r.Iterator i x, 2)) ts
+    else (do
+      mark m.And
+      x ← identifier
+      pure (r.Container type x, 2)) ts
 
 abbrev pub container_by : TokenKind → Reader ContainerType
 container_by (k.Container form) = container_type form
@@ -136,7 +195,7 @@ const_param = λ ts. (do
 
 abbrev pub param_by : TokenKind → Reader (Tall Param)
 param_by (k.Scalar scalar) = λ ts. (skip >> scalar_param (here ts) scalar) ts
-param_by (k.Container form) = container_param form
+param_by (k.Container form) = container_type form >>= type_param
 param_by k.Const = const_param
 param_by _ = refuse
 
@@ -151,3 +210,16 @@ unfoldable pub params : Reader (Tall (List Param))
 params = λ ts.
     if is_mark m.RightParenthesis (kind_at ts) then Ok (([], 0), ts)
     else (param >>= (λ x. all_behind (is_mark m.Comma) comma_param (x.0 ∷ [], x.1))) ts
+
+-- the type that a function gives back, with its height
+abbrev pub result_by : TokenKind → Reader (Tall ResultType)
+result_by k.Void = λ ts. Ok ((z.Void, 0), drop 1 ts)
+result_by (k.Scalar scalar) = λ ts. Ok ((z.Scalar scalar, 0), drop 1 ts)
+result_by (k.Container form) = do
+  type ← container_type form
+  i ← iterator_behind type
+  pure (z.Iterator i, 2)
+result_by _ = refuse
+
+unfoldable pub result : Reader (Tall ResultType)
+result = λ ts. result_by (kind_at ts) ts

@@ -7,12 +7,16 @@ use Rattle.sl_base.specs.declared.scalar.Scalar.{Scalar}
 use Rattle.sl_base.specs.declared.scalar.Scalar.TheVariants as c
 use Rattle.sl_syntax.specs.declared.token_kind.TokenKind.{TokenKind}
 use Rattle.sl_syntax.specs.declared.token_kind.TokenKind.TheVariants as k
-use Rattle.sl_syntax.specs.declared.tree.function.ResultType.{ResultType}
-use Rattle.sl_syntax.specs.declared.tree.function.ResultType.TheVariants as z
+use Rattle.sl_syntax.specs.declared.tree.element.Element.{Element}
+use Rattle.sl_syntax.specs.declared.tree.element.Element.TheVariants as l
+use Rattle.sl_syntax.specs.declared.tree.element.ElementType.{ElementType}
+use Rattle.sl_syntax.specs.declared.tree.element.ElementType.TheVariants as y
 use Rattle.sl_syntax.specs.declared.tree.identifier.Identifier.{Identifier}
+use Rattle.sl_syntax.specs.Depth.{element_height}
 use Rattle.sl_syntax.specs.Tree as t
 use Rattle.sl_syntax.specs.Tree.{Expr, Effect, Cond, Declaration, First, Stmt, Item, Items, items_from, Function, Program}
-use Rattle.sl_grammar.specs.Means.Declarations.{scalar_declaration, auto_declaration, container_declaration, params}
+use Rattle.sl_grammar.specs.Means.Declarations.{scalar_declaration, auto_declaration, container_declaration, params, reference_head}
+use Rattle.sl_grammar.specs.Means.Declarations.{begins_reference, reference_declaration, result}
 use Rattle.sl_grammar.specs.Means.Effects.{effect, cond}
 use Rattle.sl_grammar.specs.Means.Expressions.{expr}
 use Rattle.sl_grammar.specs.Means.Steps.{Reader, Tall, and_then, ◌>>=◌, ◌>>◌, pure, refuse, only, skip, kind_at, here, is_mark, mark, identifier}
@@ -40,9 +44,10 @@ ranges None = true
 ranges (Some c.Int) = true
 ranges (Some _) = false
 
-abbrev pub is_auto : Option Scalar → Bool
-is_auto None = true
-is_auto (Some s) = false
+-- the type of a range-for's variable, where it may be one
+abbrev pub element_of : Option Scalar → ElementType
+element_of None = y.Auto
+element_of (Some s) = y.Int
 
 -- the first part of a `for` that declares a variable of this type, whose first token stands at this place
 abbrev pub first_of : Option Scalar → Place → Identifier → Expr → First
@@ -63,8 +68,11 @@ module _ (depth_left : ℕ) where
   item_by stmt (k.Container f) = only (nat_lt 1 depth_left) (declared (container_declaration (depth_left - 2) f))
   item_by stmt _ = stmt >>= (λ s. pure (t.states s.0, s.1))
 
+  -- a reference has three nodes on a way at least: the declaration with its `;`, the declaration and its type
   unfoldable pub item : Reader (Tall Stmt) → Reader (Tall Item)
-  item stmt = λ ts. item_by stmt (kind_at ts) ts
+  item stmt = λ ts.
+      if nat_lt 2 depth_left && begins_reference ts then declared (reference_declaration (depth_left - 2)) ts
+      else item_by stmt (kind_at ts) ts
 
 -- The reader of statements one node deeper, and how many nodes may still stand on a way in what is read below.
 module _ (inner : Reader (Tall Stmt)) (depth_left : ℕ) where
@@ -128,13 +136,20 @@ module _ (inner : Reader (Tall Stmt)) (depth_left : ℕ) where
     pure (t.for place first.0 c.0 e.0 x.0, max first.1 (max c.1 (max e.1 x.1)) + 1)
 
   -- a range-for behind its variable
-  unfoldable pub range_behind : Place → Bool → Identifier → Reader (Tall Stmt)
-  range_behind place auto x = do
+  unfoldable pub range_behind : Place → Element → Identifier → Reader (Tall Stmt)
+  range_behind place element x = do
     mark m.Colon
     v ← identifier
     mark m.RightParenthesis
     body ← inner
-    pure (t.range_for place auto x v body.0, body.1 + 1)
+    pure (t.range_for place element x v body.0, max (element_height element) body.1 + 1)
+
+  -- a range-for from the type of a reference on
+  unfoldable pub reference_range : Place → Reader (Tall Stmt)
+  reference_range place = do
+    head ← reference_head
+    x ← identifier
+    range_behind place (l.Reference head) x
 
   unfoldable pub valued_first : Place → Place → Option Scalar → Identifier → Reader (Tall Stmt)
   valued_first place at type x = do
@@ -145,7 +160,7 @@ module _ (inner : Reader (Tall Stmt)) (depth_left : ℕ) where
   -- a `for` behind the variable that its head declares
   unfoldable pub variable_behind : Place → Place → Option Scalar → Identifier → Reader (Tall Stmt)
   variable_behind place at type x = λ ts.
-      if ranges type && is_mark m.Colon (kind_at ts) then range_behind place (is_auto type) x ts
+      if ranges type && is_mark m.Colon (kind_at ts) then range_behind place (l.Value (element_of type)) x ts
       else valued_first place at type x ts
 
   unfoldable pub declared_first : Place → Option Scalar → Reader (Tall Stmt)
@@ -160,11 +175,15 @@ module _ (inner : Reader (Tall Stmt)) (depth_left : ℕ) where
   for_by place (k.Mark m.Semicolon) = for_behind place (None, 0)
   for_by place _ = effect depth_left >>= (λ e. for_behind place (Some (t.first_effect e.0), e.1))
 
+  -- a `for` behind its parenthesis
+  unfoldable pub for_head : Place → Reader (Tall Stmt)
+  for_head place = λ ts. if begins_reference ts then reference_range place ts else for_by place (kind_at ts) ts
+
   unfoldable pub for_loop : Reader (Tall Stmt)
   for_loop = λ ts. only (nat_lt 0 depth_left) (do
     skip
     mark m.LeftParenthesis
-    (λ us. for_by (here ts) (kind_at us) us)) ts
+    for_head (here ts)) ts
 
   abbrev pub returned : Place → Reader (Tall Stmt)
   returned place = λ ts.
@@ -207,24 +226,19 @@ unfoldable pub stmt : ℕ → Reader (Tall Stmt)
 stmt zero = refuse
 stmt (suc depth_left) = λ ts. stmt_by (stmt depth_left) depth_left (kind_at ts) ts
 
-unfoldable pub function_behind : ResultType → Reader (Tall Function)
-function_behind result = λ ts. (do
-  skip
+-- a function of a depth of at most 64: itself, its block, and what stands in that
+unfoldable pub function : Reader (Tall Function)
+function = λ ts. (do
+  given ← result
   f ← identifier
   mark m.LeftParenthesis
   ps ← params
   mark m.RightParenthesis
   b ← braced (stmt (TREE_DEPTH - 2)) (TREE_DEPTH - 2)
-  pure (record { place = here ts; result = result; name = f; params = ps.0; opens = b.0.0; items = b.0.1; closes = b.0.2 }, max ps.1 b.1 + 1)) ts
-
-abbrev pub function_by : TokenKind → Reader (Tall Function)
-function_by k.Void = function_behind z.Void
-function_by (k.Scalar s) = function_behind (z.Scalar s)
-function_by _ = refuse
-
--- a function of a depth of at most 64: itself, its block, and what stands in that
-unfoldable pub function : Reader (Tall Function)
-function = λ ts. function_by (kind_at ts) ts
+  pure (
+    record { place = here ts; result = given.0; name = f; params = ps.0; opens = b.0.0; items = b.0.1; closes = b.0.2 },
+    max given.1 (max ps.1 b.1) + 1,
+  )) ts
 
 -- all the tokens as a program
 unfoldable pub program : Reader (Tall Program)

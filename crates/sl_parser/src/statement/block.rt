@@ -1,13 +1,16 @@
 //! Blocks and their items.
-ghost use Rattle.std.specs.Prelude.{◌≡◌, ◌<◌, [], length};
+ghost use Rattle.std.specs.Prelude.{◌≡◌, ◌<◌, ◌-◌, [], length};
 ghost use Rattle.sl_base.specs.declared.limits.TheConstants.{TREE_DEPTH};
 ghost use Rattle.sl_syntax.specs.declared.token_kind.TokenKind.TheVariants as k;
 ghost use Rattle.sl_grammar.specs.Means.Steps.{Reads};
-ghost use Rattle.sl_grammar.specs.Means.Statements.{block, is_item, item_by, stmt};
+ghost use Rattle.sl_grammar.specs.Means.Declarations.{reference_declaration as refers};
+ghost use Rattle.sl_grammar.specs.Means.Statements.{block, declared, is_item, item_by, stmt};
 ghost use Rattle.sl_parser.specs.Means.Reader as spec;
 ghost use Rattle.sl_parser.specs.Means.StatementViews.{Holds, tall_block, tall_item, tall_items, tall_stmt, within};
 
-use crate::declaration::{auto_declaration, container_declaration, scalar_declaration};
+use crate::declaration::{
+    auto_declaration, container_declaration, reference_declaration, scalar_declaration,
+};
 use crate::statement::within::Within;
 use sl_base::{Form, Mark, Scalar};
 use sl_grammar::{Fault, Tokens};
@@ -67,7 +70,7 @@ impl<F: Fn(Global, &mut Tokens<'_>, usize) -> Result<Stmt, Fault>> Within<F> {
         Ok(list)
     }
 
-    // An item, by its first word.
+    // An item, by its first word and, where that is a type, by whether a `&` is behind it.
     #[tactic(auto, unfolding(crate::specs::Means::Reader::item))]
     fn item(&self, tokens: &mut Tokens<'_>) -> Result<Item, Fault>
         requires reader { Holds self.now.depth_left (F.pre self.now.inner) (F.post self.now.inner) }
@@ -76,6 +79,9 @@ impl<F: Fn(Global, &mut Tokens<'_>, usize) -> Result<Stmt, Fault>> Within<F> {
             (spec.item self.now.depth_left (stmt self.now.depth_left) tokens.old)
             result tokens.new }
     {
+        if self.depth_left > 2 && tokens.sees_reference() {
+            return self.reference_item(tokens);
+        }
         match tokens.kind() {
             TokenKind::Scalar(scalar) => self.scalar_item(tokens, scalar),
             TokenKind::Auto => self.auto_item(tokens),
@@ -92,6 +98,18 @@ impl<F: Fn(Global, &mut Tokens<'_>, usize) -> Result<Stmt, Fault>> Within<F> {
     {
         let stmt = self.inner(tokens)?;
         Ok(Item::Statement(stmt))
+    }
+
+    fn reference_item(&self, tokens: &mut Tokens<'_>) -> Result<Item, Fault>
+        requires deep { 2 < self.now.depth_left }
+        requires small { self.now.depth_left < TREE_DEPTH }
+        ensures { Reads tall_item
+            (declared self.now.depth_left (refers (self.now.depth_left - 2)) tokens.old)
+            result tokens.new }
+    {
+        let tree = reference_declaration(self.alloc, tokens, self.depth_left - 2)?;
+        tokens.mark(Mark::Semicolon)?;
+        Ok(Item::Declaration(tree))
     }
 
     fn scalar_item(&self, tokens: &mut Tokens<'_>, scalar: Scalar) -> Result<Item, Fault>

@@ -8,12 +8,13 @@ ghost use Rattle.sl_parser.specs.Means.StatementViews.{Holds, tall_first, tall_s
 ghost use Rattle.sl_parser.specs.Means.StatementViews.{tall_optional_cond, tall_optional_effect};
 ghost use Rattle.sl_syntax.specs.TreeView.{expr_of, first_of};
 
+use crate::reference::reference_head;
 use crate::statement::within::Within;
 use sl_base::{Mark, Place, Scalar};
 use sl_expressions::effect::{cond, effect};
 use sl_expressions::expression::expr;
 use sl_grammar::{Fault, Tokens};
-use sl_syntax::{Cond, Effect, Expr, First, Identifier, Stmt, TokenKind};
+use sl_syntax::{Cond, Effect, Element, ElementType, Expr, First, Identifier, Stmt, TokenKind};
 use std::alloc::Global;
 
 // Whether the variable may be that of a `for` over a container. Without a scalar its type is `auto`.
@@ -26,12 +27,13 @@ fn ranges(scalar: Option<Scalar>) -> bool
     }
 }
 
-fn is_auto(scalar: Option<Scalar>) -> bool
-    ensures { result ≡ steps.is_auto scalar }
+// The type of such a variable.
+fn element_of(scalar: Option<Scalar>) -> ElementType
+    ensures { result ≡ steps.element_of scalar }
 {
     match scalar {
-        None => true,
-        Some(_) => false,
+        None => ElementType::Auto,
+        Some(_) => ElementType::Int,
     }
 }
 
@@ -63,12 +65,37 @@ impl<F: Fn(Global, &mut Tokens<'_>, usize) -> Result<Stmt, Fault>> Within<F> {
         let place = tokens.place();
         tokens.skip();
         tokens.mark(Mark::LeftParenthesis)?;
+        self.for_head(tokens, place)
+    }
+
+    // Behind the parenthesis.
+    #[tactic(auto, unfolding(crate::specs::Means::Reader::for_head))]
+    fn for_head(&self, tokens: &mut Tokens<'_>, place: Place) -> Result<Stmt, Fault>
+        requires reader { Holds self.now.depth_left (F.pre self.now.inner) (F.post self.now.inner) }
+        requires small { self.now.depth_left < TREE_DEPTH }
+        ensures { Reads tall_stmt (within spec.for_head self.now.depth_left place tokens.old) result tokens.new }
+    {
+        if tokens.sees_reference() {
+            return self.reference_range(tokens, place);
+        }
         match tokens.kind() {
             TokenKind::Scalar(scalar) => self.declared_first(tokens, place, Some(scalar)),
             TokenKind::Auto => self.declared_first(tokens, place, None),
             TokenKind::Mark(Mark::Semicolon) => self.for_behind(tokens, place, None),
             _ => self.effect_first(tokens, place),
         }
+    }
+
+    // A `for` over a container by reference, from the type of its variable on.
+    #[tactic(auto, unfolding(crate::specs::Means::Reader::reference_range))]
+    fn reference_range(&self, tokens: &mut Tokens<'_>, place: Place) -> Result<Stmt, Fault>
+        requires { Holds self.now.depth_left (F.pre self.now.inner) (F.post self.now.inner) }
+        ensures { Reads tall_stmt (within spec.reference_range self.now.depth_left place tokens.old)
+            result tokens.new }
+    {
+        let head = reference_head(tokens)?;
+        let name = tokens.identifier()?;
+        self.range_behind(tokens, place, Element::Reference(head), name)
     }
 
     // A `for` whose first part is an effect.
@@ -120,7 +147,7 @@ impl<F: Fn(Global, &mut Tokens<'_>, usize) -> Result<Stmt, Fault>> Within<F> {
             result tokens.new }
     {
         if ranges(scalar) && tokens.sees(Mark::Colon) {
-            self.range_behind(tokens, place, is_auto(scalar), name)
+            self.range_behind(tokens, place, Element::Value(element_of(scalar)), name)
         } else {
             self.valued_first(tokens, place, at, scalar, name)
         }
@@ -153,12 +180,12 @@ impl<F: Fn(Global, &mut Tokens<'_>, usize) -> Result<Stmt, Fault>> Within<F> {
         &self,
         tokens: &mut Tokens<'_>,
         place: Place,
-        is_auto: bool,
+        element: Element,
         name: Identifier,
     ) -> Result<Stmt, Fault>
         requires { Holds self.now.depth_left (F.pre self.now.inner) (F.post self.now.inner) }
         ensures { Reads tall_stmt
-            (within spec.range_behind self.now.depth_left place is_auto name tokens.old)
+            (within spec.range_behind self.now.depth_left place element name tokens.old)
             result tokens.new }
     {
         tokens.mark(Mark::Colon)?;
@@ -168,7 +195,7 @@ impl<F: Fn(Global, &mut Tokens<'_>, usize) -> Result<Stmt, Fault>> Within<F> {
         let body = Box::new(self.alloc, tree)?;
         Ok(Stmt::RangeFor {
             place,
-            is_auto,
+            element,
             name,
             container,
             body,

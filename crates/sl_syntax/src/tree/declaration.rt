@@ -1,6 +1,6 @@
 ghost use Rattle.std.specs.Prelude.{◌≡◌};
 
-use crate::tree::{Expr, Identifier};
+use crate::tree::{Expr, Identifier, ReferenceHead};
 use sl_base::{Form, Place, Scalar};
 
 /// The type of a container of `int`, at its first token: `std::vector<int>`, `std::map<int, int>`.
@@ -17,7 +17,7 @@ impl ContainerType {
     pub fn is_map(self) -> bool
         ensures { result ≡ is_map self.form }
     {
-        matches!(self.form, Form::Map | Form::HashMap)
+        matches!(self.form, Form::Map | Form::HashMap | Form::MultiMap)
     }
 }
 
@@ -47,6 +47,12 @@ pub enum Declaration {
     /// `auto x = ..`, at its first token
     Auto {
         place: Place,
+        name: Identifier,
+        value: Expr,
+    },
+    /// `const int& r = ..`
+    Reference {
+        head: ReferenceHead,
         name: Identifier,
         value: Expr,
     },

@@ -1,11 +1,19 @@
 use crate::tree::{Block, ContainerType, Identifier};
 use sl_base::{Place, Scalar};
 
+/// The type of an iterator, at its first token: `std::vector<int>::iterator`. The name behind the `::` may be any.
+#[derive(Drop)]
+pub struct IteratorType {
+    pub container: ContainerType,
+    pub name: Identifier,
+}
+
 /// What a function gives back.
-#[derive(Clone, Copy)]
+#[derive(Drop)]
 pub enum ResultType {
     Void,
     Scalar(Scalar),
+    Iterator(IteratorType),
 }
 
 /// A parameter, at its first token.
@@ -32,6 +40,11 @@ pub enum Param {
     ConstContainer {
         place: Place,
         container: ContainerType,
+        name: Identifier,
+    },
+    /// `std::vector<int>::iterator it`
+    Iterator {
+        iterator: IteratorType,
         name: Identifier,
     },
 }

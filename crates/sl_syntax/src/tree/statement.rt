@@ -1,4 +1,4 @@
-use crate::tree::{Cond, Declaration, Effect, Expr, Identifier};
+use crate::tree::{Cond, Declaration, Effect, Element, Expr, Identifier};
 use sl_base::{Place, Scalar};
 
 /// `{..}`, at its first brace, and the place of its closing brace.
@@ -61,10 +61,10 @@ pub enum Stmt {
         step: Option<Effect>,
         body: Box<Stmt>,
     },
-    /// `for (int x : v)`; `auto` in place of `int` says the same
+    /// `for (int x : v)`, `for (const auto& x : v)`
     RangeFor {
         place: Place,
-        is_auto: bool,
+        element: Element,
         name: Identifier,
         container: Identifier,
         body: Box<Stmt>,

@@ -2,11 +2,11 @@
 ghost use Rattle.std.specs.Prelude.{◌≡◌, ◌++◌, [], ◌∷◌, OnOk};
 ghost use Rattle.sl_syntax.specs.TreeView.{expr_of, exprs_of, initializer_of, declaration_of};
 ghost use Rattle.sl_syntax.specs.Written.{words_of, list_written, value_written, initializer_written};
-ghost use Rattle.sl_syntax.specs.Written.{declaration_written};
+ghost use Rattle.sl_syntax.specs.Written.{declaration_written, reference_written};
 
-use crate::tree::{Declaration, Expr, Initializer};
+use crate::tree::{Declaration, Expr, Initializer, ReferenceHead};
 use crate::write::expr::{write_expr, write_list};
-use crate::write::word::{key, scalar_word, write_container, write_mark, write_name};
+use crate::write::word::{element_word, key, scalar_word, write_container, write_mark, write_name};
 use sl_base::{Items, Mark, Word};
 use std::alloc::AllocError;
 
@@ -16,6 +16,17 @@ pub fn write_value(out: &mut Items<Word>, x: &Expr) -> Result<(), AllocError>
 {
     write_mark(out, Mark::Equal)?;
     write_expr(out, x)
+}
+
+/// Writes the type of a reference.
+pub fn write_reference(out: &mut Items<Word>, x: ReferenceHead) -> Result<(), AllocError>
+    ensures { OnOk result (out.new ≡ out.old ++ words_of (reference_written x)) }
+{
+    if x.is_const {
+        out.push(key(b"const"))?;
+    }
+    out.push(element_word(x.element))?;
+    write_mark(out, Mark::And)
 }
 
 /// Writes expressions between two marks.
@@ -80,6 +91,11 @@ pub fn write_declaration(out: &mut Items<Word>, x: &Declaration) -> Result<(), A
         }
         Declaration::Auto { name, value, .. } => {
             out.push(key(b"auto"))?;
+            write_name(out, name)?;
+            write_value(out, value)
+        }
+        Declaration::Reference { head, name, value } => {
+            write_reference(out, *head)?;
             write_name(out, name)?;
             write_value(out, value)
         }

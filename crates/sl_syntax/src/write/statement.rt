@@ -6,8 +6,8 @@ ghost use Rattle.sl_syntax.specs.Written as spec;
 ghost use Rattle.sl_syntax.specs.Written.{words_of, written, effect_written, cond_written, first_written};
 ghost use Rattle.sl_syntax.specs.Written.{option_written, tested, stmt_written, item_written, items_written};
 
-use crate::tree::{Block, Cond, Effect, Expr, First, Identifier, Item, Stmt};
-use crate::write::declaration::{write_declaration, write_value};
+use crate::tree::{Block, Cond, Effect, Element, Expr, First, Identifier, Item, Stmt};
+use crate::write::declaration::{write_declaration, write_reference, write_value};
 use crate::write::effect::{write_cond, write_effect};
 use crate::write::expr::write_expr;
 use crate::write::word::{element_word, key, scalar_word, write_mark, write_name};
@@ -127,21 +127,31 @@ fn write_ended(out: &mut Items<Word>, word: Word) -> Result<(), AllocError>
     write_mark(out, Mark::Semicolon)
 }
 
+/// Writes how a range-for takes an element.
+fn write_element(out: &mut Items<Word>, x: Element) -> Result<(), AllocError>
+    ensures { OnOk result (out.new ≡ out.old ++ words_of (spec.element_written x)) }
+{
+    match x {
+        Element::Value(element) => out.push(element_word(element)),
+        Element::Reference(head) => write_reference(out, head),
+    }
+}
+
 /// Writes the head of a range-for.
 fn write_range(
     out: &mut Items<Word>,
-    is_auto: bool,
+    element: Element,
     name: &Identifier,
     container: &Identifier,
 ) -> Result<(), AllocError>
     ensures { OnOk result
         (out.new ≡ out.old ++ (Word.Key (codes "for") ∷ Word.Mark Mark.LeftParenthesis
-        ∷ spec.element_word is_auto ∷ Word.Name name.now.name ∷ Word.Mark Mark.Colon
-        ∷ Word.Name container.now.name ∷ Word.Mark Mark.RightParenthesis ∷ [])) }
+        ∷ (words_of (spec.element_written element) ++ Word.Name name.now.name ∷ Word.Mark Mark.Colon
+        ∷ Word.Name container.now.name ∷ Word.Mark Mark.RightParenthesis ∷ []))) }
 {
     out.push(key(b"for"))?;
     write_mark(out, Mark::LeftParenthesis)?;
-    out.push(element_word(is_auto))?;
+    write_element(out, element)?;
     write_name(out, name)?;
     write_mark(out, Mark::Colon)?;
     write_name(out, container)?;
@@ -188,13 +198,13 @@ fn write_stmt(alloc: Global, out: &mut Items<Word>, x: &Stmt) -> Result<(), Allo
             write_stmt(alloc, out, body)
         }
         Stmt::RangeFor {
-            is_auto,
+            element,
             name,
             container,
             body,
             ..
         } => {
-            write_range(out, *is_auto, name, container)?;
+            write_range(out, *element, name, container)?;
             write_stmt(alloc, out, body)
         }
         Stmt::Break { .. } => write_ended(out, key(b"break")),

@@ -3,7 +3,7 @@ ghost use Rattle.std.specs.Prelude.{◌≡◌, ◌==◌, if◌then◌else◌, �
 ghost use Rattle.sl_base.specs.declared.limits.TheConstants.{NAME_BYTES};
 ghost use Rattle.sl_syntax.specs.Written as spec;
 
-use crate::tree::{ContainerType, Identifier, ResultType};
+use crate::tree::{ContainerType, ElementType, Identifier};
 use sl_base::{Form, Items, Mark, Name, Scalar, Word};
 use std::alloc::AllocError;
 
@@ -75,21 +75,14 @@ pub fn scalar_word(scalar: Scalar) -> Word
     }
 }
 
-/// What a function gives back.
-pub fn result_word(result_type: ResultType) -> Word
-    ensures { result ≡ spec.result_word result_type }
+/// The type of an element.
+pub fn element_word(element: ElementType) -> Word
+    ensures { result ≡ spec.element_word element }
 {
-    match result_type {
-        ResultType::Void => key(b"void"),
-        ResultType::Scalar(scalar) => scalar_word(scalar),
+    match element {
+        ElementType::Int => key(b"int"),
+        ElementType::Auto => key(b"auto"),
     }
-}
-
-/// The type of a range-for's variable.
-pub fn element_word(is_auto: bool) -> Word
-    ensures { result ≡ spec.element_word is_auto }
-{
-    if is_auto { key(b"auto") } else { key(b"int") }
 }
 
 fn form_word(form: Form) -> Word
@@ -103,6 +96,8 @@ fn form_word(form: Form) -> Word
         Form::Map => lib(b"map"),
         Form::HashSet => lib(b"unordered_set"),
         Form::HashMap => lib(b"unordered_map"),
+        Form::MultiSet => lib(b"multiset"),
+        Form::MultiMap => lib(b"multimap"),
     }
 }
 
