@@ -1,13 +1,10 @@
 //! Each public call of sl_lexer.
 
-use sl_lexer::{lex, one_answer, one_cut, tokens_ascend};
-use std::test::Fail;
+use crate::expected::expect_that;
+use sl_lexer::lex;
 
 #[test]
-fn calls_of_lexer(rt: HostRuntime) -> Result<(), Fail> {
-    one_answer();
-    one_cut();
-    tokens_ascend();
-    assert_eq!(rt; lex(rt.alloc(), b"int main() {}")?.len(), 6);
-    Ok(())
+fn calls_of_lexer(rt: HostRuntime) {
+    let tokens = lex(rt.alloc(), b"int main() {}").expect(&rt, "tokens");
+    expect_that(&rt, "six tokens", tokens.len() == 6);
 }

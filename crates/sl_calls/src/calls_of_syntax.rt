@@ -1,12 +1,12 @@
 //! Each public call of sl_syntax.
 
+use crate::expected::{expect_bytes, expect_that};
 use sl_base::{Form, Mark, Name, Place, Scalar, Word};
 use sl_case_files::word_text;
 use sl_syntax::{
     Block, ContainerType, Function, Identifier, Program, ResultType, TokenKind, write_tokens,
 };
 use std::alloc::{AllocError, Global};
-use std::test::Fail;
 
 // `int main() {}`
 fn least_program(alloc: Global) -> Result<Program, AllocError> {
@@ -29,27 +29,51 @@ fn least_program(alloc: Global) -> Result<Program, AllocError> {
     Ok(Program { functions })
 }
 
-#[test]
-fn calls_of_syntax(rt: HostRuntime) -> Result<(), Fail> {
-    let mut text = String::new(rt.alloc());
-    for word in write_tokens(rt.alloc(), &least_program(rt.alloc())?)?.as_slice() {
-        text.push_str(&word_text(rt.alloc(), word)?)?;
+// Words as cases show them, each with a semicolon.
+fn text_of(alloc: Global, words: &[Word]) -> Result<String, AllocError> {
+    let mut text = String::new(alloc);
+    for word in words {
+        text.push_str(&word_text(alloc, word)?)?;
         text.push_str(";")?;
     }
-    assert_eq!(rt;
-        text.as_str(),
-        "key int;name main;mark (;mark );mark {;mark };"
+    Ok(text)
+}
+
+#[test]
+fn words_of_a_tree(rt: HostRuntime) {
+    let program = least_program(rt.alloc()).expect(&rt, "a program");
+    let words = write_tokens(rt.alloc(), &program).expect(&rt, "its words");
+    let text = text_of(rt.alloc(), words.as_slice()).expect(&rt, "a text");
+    expect_bytes(
+        &rt,
+        text.as_bytes(),
+        b"key int;name main;mark (;mark );mark {;mark };",
     );
+}
+
+#[test]
+fn kinds_of_words(rt: HostRuntime) {
     let kind = TokenKind::of(&Word::Lib(Name::new(b"multiply")));
-    assert!(rt; matches!(kind, TokenKind::Library));
+    expect_that(
+        &rt,
+        "a name of the library",
+        matches!(kind, TokenKind::Library),
+    );
     let kind = TokenKind::of(&Word::Mark(Mark::Arrow));
-    assert!(rt; matches!(kind, TokenKind::Mark(Mark::Arrow)));
-    for (form, is_map) in [(Form::HashMap, true), (Form::Set, false)] {
-        let container = ContainerType {
-            place: Place::FIRST,
-            form,
-        };
-        assert_eq!(rt; container.is_map(), is_map);
-    }
-    Ok(())
+    expect_that(
+        &rt,
+        "an arrow",
+        matches!(kind, TokenKind::Mark(Mark::Arrow)),
+    );
+}
+
+fn is_map(form: Form) -> bool {
+    let place = Place::FIRST;
+    ContainerType { place, form }.is_map()
+}
+
+#[test]
+fn maps(rt: HostRuntime) {
+    expect_that(&rt, "a map", is_map(Form::HashMap));
+    expect_that(&rt, "no map", !is_map(Form::Set));
 }

@@ -13,6 +13,8 @@ mod calls_of_grammar;
 #[cfg(test)]
 mod calls_of_kind;
 #[cfg(test)]
+mod calls_of_laws;
+#[cfg(test)]
 mod calls_of_lexer;
 #[cfg(test)]
 mod calls_of_parser;
@@ -24,5 +26,9 @@ mod calls_of_tool;
 mod calls_of_warnings;
 #[cfg(test)]
 mod cases;
+#[cfg(test)]
+mod expected;
+#[cfg(test)]
+mod given;
 #[cfg(test)]
 mod outside;
