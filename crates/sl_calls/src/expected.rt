@@ -10,5 +10,7 @@ pub fn expect_that(rt: &impl Abort, what: &str, so: bool) {
 
 /// That these bytes came.
 pub fn expect_bytes(rt: &impl Abort, came: &[u8], due: &[u8]) {
-    assert_eq!(rt; came, due);
+    let came_text = came.escape_ascii();
+    let due_text = due.escape_ascii();
+    assert!(rt; came == due, "came: {came_text}, due: {due_text}");
 }
