@@ -2,17 +2,8 @@
 //! due.
 #![tactic(auto)]
 
-mod case;
-mod case_file;
-mod kinds;
-mod report;
-mod section;
-#[cfg(test)]
-mod tests;
-
 use anyhow::{Context, Result};
-use case_file::CaseFileErr;
-use report::{Report, report_on};
+use sl_case_files::{CaseFileErr, Report, report_on};
 use std::alloc::AllocError;
 use std::io::Write;
 use std::process::ExitCode;

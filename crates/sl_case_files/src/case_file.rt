@@ -19,7 +19,7 @@
 //! bytes and a line feed. In place of `words`, `status` and `out` a case with one file has one of `tokens`, `tree`,
 //! `groups` and `refusal`, and below it what is due.
 ghost use Rattle.std.specs.Prelude.{◌≡◌};
-ghost use Rattle.sl_cases.specs.declared.case_file.CaseFileErr.TheVariants.{Memory};
+ghost use Rattle.sl_case_files.specs.declared.case_file.CaseFileErr.TheVariants.{Memory};
 
 use crate::case::{Asked, Case, SourceFile, TextKind};
 use crate::section::{Heading, Section, Sections};

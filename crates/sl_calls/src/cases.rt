@@ -1,7 +1,9 @@
 //! Case files that are wrong, and cases that differ.
 
-use crate::report::report_on;
-use std::test::Fail;
+use crate::expected::{expect_bytes, expect_that};
+use sl_case_files::report_on;
+use std::alloc::Global;
+use std::process::Abort;
 
 /// Case files, each with what is told of it.
 const WRONG: [(&[u8], &str); 14] = [
@@ -51,16 +53,18 @@ const WRONG: [(&[u8], &str); 14] = [
     ),
 ];
 
+// That this is told of a case file.
+fn expect_told(rt: &impl Abort, alloc: Global, text: &[u8], due: &str) {
+    let error = report_on(alloc, "x.cases", text).err().expect(rt, due);
+    let told = format!(in alloc; "{error}").expect(rt, "memory");
+    expect_bytes(rt, told.as_bytes(), due.as_bytes());
+}
+
 #[test]
-fn wrong_case_files(rt: HostRuntime) -> Result<(), Fail> {
-    for (text, want) in WRONG {
-        let Err(error) = report_on(rt.alloc(), "x.cases", text) else {
-            return Err("a wrong case file has cases".into());
-        };
-        let told = format!(in rt.alloc(); "{error}")?;
-        assert_eq!(rt; told.as_str(), want, "{text:?}");
+fn wrong_case_files(rt: HostRuntime) {
+    for (text, due) in &WRONG {
+        expect_told(&rt, rt.alloc(), text, due);
     }
-    Ok(())
 }
 
 /// One case of each kind that differs, between two that don't.
@@ -134,10 +138,9 @@ a.cpp: passed
 ";
 
 #[test]
-fn differing_cases(rt: HostRuntime) -> Result<(), Fail> {
-    let report = report_on(rt.alloc(), "x.cases", DIFFERING)?;
-    assert_eq!(rt; report.cases, 7);
-    assert_eq!(rt; report.differ, 5);
-    assert_eq!(rt; report.text.as_slice(), TOLD.as_bytes());
-    Ok(())
+fn differing_cases(rt: HostRuntime) {
+    let report = report_on(rt.alloc(), "x.cases", DIFFERING).expect(&rt, "a report");
+    expect_that(&rt, "seven cases", report.cases == 7);
+    expect_that(&rt, "five that differ", report.differ == 5);
+    expect_bytes(&rt, &report.text, TOLD.as_bytes());
 }

@@ -1,0 +1,40 @@
+//! Each law of the crates.
+
+use sl_base::limits::the_limits;
+use sl_grammar::{one_program, one_shape};
+use sl_lexer::{one_answer, one_cut, tokens_ascend};
+use sl_model::{
+    dropped_has_its_site, longer_runs, none_vanishes, one_place, push_back_kills, runs_stay_good,
+};
+use sl_tool::{each_text_is_reported, each_text_is_scoped, one_refusal};
+use sl_warnings::{covers_more, stays_ascending, tells_its_sites};
+
+#[test]
+fn laws_of_texts() {
+    the_limits();
+    one_answer();
+    one_cut();
+    tokens_ascend();
+    one_program();
+    one_shape();
+}
+
+#[test]
+fn laws_of_runs() {
+    push_back_kills();
+    one_place();
+    dropped_has_its_site();
+    none_vanishes();
+    longer_runs();
+    runs_stay_good();
+}
+
+#[test]
+fn laws_of_answers() {
+    covers_more();
+    stays_ascending();
+    tells_its_sites();
+    each_text_is_reported();
+    each_text_is_scoped();
+    one_refusal();
+}
