@@ -8,7 +8,7 @@ use sl_base::{
 };
 
 #[test]
-fn items_of_base(rt: HostRuntime) {
+fn items_and_values_of_base(rt: HostRuntime) {
     let mut items = Items::from_slice(rt.alloc(), &[1u8, 2]).expect(&rt, "two items");
     items.push(3).expect(&rt, "a third item");
     items
@@ -18,10 +18,6 @@ fn items_of_base(rt: HostRuntime) {
     expect_bytes(&rt, items.as_slice(), &[1, 2, 3, 4, 5]);
     let none: Items<u8> = Items::new(rt.alloc());
     expect_that(&rt, "no items", none.len() == 0);
-}
-
-#[test]
-fn values_of_base(rt: HostRuntime) {
     expect_bytes(&rt, Name::new(b"it").as_slice(), b"it");
     expect_that(&rt, "the last site", Site::new(4_095).number() == 4_095);
     let place = place_of(b"int\n  x", 6);

@@ -22,7 +22,7 @@ fn operators(rt: HostRuntime) {
 }
 
 #[test]
-fn first_words(rt: HostRuntime) {
+fn words_in_turn(rt: HostRuntime) {
     let tokens = lex(rt.alloc(), b"{ x 7 \"t\" std::f else !(std::cin").expect(&rt, "tokens");
     let mut cursor = Tokens::new(tokens.as_slice());
     expect_that(&rt, "nine tokens", cursor.left() == 9);
@@ -31,12 +31,6 @@ fn first_words(rt: HostRuntime) {
     cursor.mark(Mark::LeftBrace).ok().expect(&rt, "a brace");
     cursor.identifier().ok().expect(&rt, "x");
     expect_that(&rt, "seven tokens", cursor.left() == 7);
-}
-
-#[test]
-fn words_that_say_more(rt: HostRuntime) {
-    let tokens = lex(rt.alloc(), b"7 \"t\" std::f").expect(&rt, "tokens");
-    let mut cursor = Tokens::new(tokens.as_slice());
     expect_that(&rt, "the number 7", cursor.number() == 7);
     expect_that(&rt, "a number", matches!(cursor.kind(), TokenKind::Number));
     cursor.skip();

@@ -6,31 +6,26 @@ use sl_lexer::{one_answer, one_cut, tokens_ascend};
 use sl_model::{
     dropped_has_its_site, longer_runs, none_vanishes, one_place, push_back_kills, runs_stay_good,
 };
+use sl_specs::{numbers_are_places, rows_differ};
 use sl_tool::{each_text_is_reported, each_text_is_scoped, one_refusal};
 use sl_warnings::{covers_more, stays_ascending, tells_its_sites};
 
 #[test]
-fn laws_of_texts() {
+fn laws() {
     the_limits();
+    rows_differ();
+    numbers_are_places();
     one_answer();
     one_cut();
     tokens_ascend();
     one_program();
     one_shape();
-}
-
-#[test]
-fn laws_of_runs() {
     push_back_kills();
     one_place();
     dropped_has_its_site();
     none_vanishes();
     longer_runs();
     runs_stay_good();
-}
-
-#[test]
-fn laws_of_answers() {
     covers_more();
     stays_ascending();
     tells_its_sites();

@@ -65,15 +65,11 @@ fn kinds_of_words(rt: HostRuntime) {
         "an arrow",
         matches!(kind, TokenKind::Mark(Mark::Arrow)),
     );
+    expect_that(&rt, "a map", is_map(Form::HashMap));
+    expect_that(&rt, "no map", !is_map(Form::Set));
 }
 
 fn is_map(form: Form) -> bool {
     let place = Place::FIRST;
     ContainerType { place, form }.is_map()
-}
-
-#[test]
-fn maps(rt: HostRuntime) {
-    expect_that(&rt, "a map", is_map(Form::HashMap));
-    expect_that(&rt, "no map", !is_map(Form::Set));
 }

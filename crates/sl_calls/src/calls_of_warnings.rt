@@ -31,14 +31,6 @@ fn blame(warning: &mut Warning, site: u16)
     warning.join(&Kills::empty().with(Site::new(site)));
 }
 
-#[test]
-fn joined_warnings(rt: HostRuntime) {
-    let mut joined = warning(7, 1, b"*", 1);
-    blame(&mut joined, 2);
-    expect_that(&rt, "the site", joined.killers.has(Site::new(2)));
-    expect_that(&rt, "its column", joined.spot().col == 5);
-}
-
 // Adds a warning that a site has caused.
 fn add_blamed(
     report: &mut Report,
@@ -98,4 +90,8 @@ fn reports_of_warnings(rt: HostRuntime) {
     expect_that(&rt, "nothing behind it", report.get(4).is_none());
     let text = render(rt.alloc(), "a.cpp", &SITES_AT, &report).expect(&rt, "a text");
     expect_bytes(&rt, text.as_slice(), LINES.as_bytes());
+    let mut joined = warning(7, 1, b"*", 1);
+    blame(&mut joined, 2);
+    expect_that(&rt, "the site", joined.killers.has(Site::new(2)));
+    expect_that(&rt, "its column", joined.spot().col == 5);
 }

@@ -19,6 +19,8 @@ mod calls_of_lexer;
 #[cfg(test)]
 mod calls_of_parser;
 #[cfg(test)]
+mod calls_of_specs;
+#[cfg(test)]
 mod calls_of_syntax;
 #[cfg(test)]
 mod calls_of_tool;

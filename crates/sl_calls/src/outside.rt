@@ -37,9 +37,9 @@ struct Ended {
     write_faults: u64,
 }
 
-// Runs `check a.cpp`.
-fn run(alloc: Global, outside: &Outside) -> Result<Ended, AllocError> {
-    let words = words_of(alloc, &["check", "a.cpp"])?;
+// Runs the tool on these words.
+fn run(alloc: Global, words: &[&str], outside: &Outside) -> Result<Ended, AllocError> {
+    let words = words_of(alloc, words)?;
     let mut files = file_in_memory(
         alloc,
         "a.cpp",
@@ -59,7 +59,7 @@ fn run(alloc: Global, outside: &Outside) -> Result<Ended, AllocError> {
 
 // That `check a.cpp` ends and writes so. A status that tells of a fault has one fault.
 fn expect_run(rt: &impl Abort, alloc: Global, outside: &Outside, status: u8, text: &str) {
-    let ended = run(alloc, outside).expect(rt, "memory");
+    let ended = run(alloc, &["check", "a.cpp"], outside).expect(rt, "memory");
     expect_bytes(rt, &ended.text, text.as_bytes());
     expect_that(rt, text, ended.status == status);
     let write_faults = u64::from(status == 5);
@@ -133,6 +133,17 @@ fn answers_that_are_cut(rt: HostRuntime) {
         ..HONEST
     };
     expect_run(&rt, rt.alloc(), &outside, 5, "");
+}
+
+#[test]
+fn rows_that_are_cut(rt: HostRuntime) {
+    let outside = Outside {
+        write_fails: &[2],
+        ..HONEST
+    };
+    let ended = run(rt.alloc(), &["specs"], &outside).expect(&rt, "memory");
+    expect_that(&rt, "a failed write", ended.status == 5);
+    expect_bytes(&rt, &ended.text, b"vector.constructor()");
 }
 
 #[test]

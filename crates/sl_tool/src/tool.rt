@@ -45,12 +45,7 @@ pub fn run_tool<F: Files, K: Sink>(
 }
 
 // Reads a file and writes the answer to its text.
-fn check_file<F: Files, K: Sink>(
-    alloc: Global,
-    file: &str,
-    files: &mut F,
-    out: &mut K,
-) -> Status
+fn check_file<F: Files, K: Sink>(alloc: Global, file: &str, files: &mut F, out: &mut K) -> Status
     ensures others { OthersKept (F.left files.old) (F.left files.new) file.now }
     ensures checked { Checked file.now result
         (record { left = F.left files.old; faults = F.faults files.old; blamed = F.blamed files.old })
