@@ -56,7 +56,7 @@ pub const LIST_ELEMENTS: usize = 64;
 pub const STATEMENTS: usize = 20_000;
 
 /// Elements of a container that the checker knows one by one.
-pub const WINDOW: usize = 16;
+pub const WINDOW: usize = 64;
 
 /// Elements of a container in a run.
 pub const ELEMENTS: usize = 1_000_000;
@@ -81,7 +81,7 @@ pub fn the_limits()
     ensures parameters { PARAMETERS ≡ 8 }
     ensures list { LIST_ELEMENTS ≡ 64 }
     ensures statements { STATEMENTS ≡ 20000 }
-    ensures window { WINDOW ≡ 16 }
+    ensures window { WINDOW ≡ 64 }
     ensures elements { ELEMENTS ≡ 1000000 }
     ensures calls { CALLS ≡ 256 }
     ensures output { OUTPUT_BYTES ≡ 65536 }
