@@ -4,7 +4,8 @@ use Rattle.std.proofs.Common.{◌≡◌, ◌≢◌, ℕ, ◌+◌, ◌-◌, ◌<�
 use Rattle.std.specs.List.{slice_get}
 use Rattle.sl_base.specs.declared.limits.TheConstants.{ELEMENTS}
 use Rattle.sl_model.specs.Containers.{Cont, Memory, size, cont_at, stamps, killer}
-use Rattle.sl_model.specs.Edits.{Class, Edit, Fits, theirs, kills, change_of, shifted, changed, after}
+use Rattle.sl_specs.specs.declared.class.Class.{Class}
+use Rattle.sl_model.specs.Edits.{Edit, Fits, theirs, kills, change_of, shifted, changed, after}
 use Rattle.sl_model.specs.Good.{IsAt, IsSound}
 use Rattle.sl_model.proofs.Standing.{HasStamp, stands_as, element_stands, end_stands, stamp_within}
 use Rattle.sl_model.proofs.CameFrom.{kept}

@@ -14,7 +14,8 @@ use Rattle.sl_syntax.specs.declared.typed.callee.Callee.TheVariants as callees
 use Rattle.sl_syntax.specs.declared.typed.operator.Operator.{Operator}
 use Rattle.sl_syntax.specs.declared.typed.operator.Operator.TheVariants as operators
 use Rattle.sl_model.specs.Containers.{Cont, Memory, cont_at}
-use Rattle.sl_model.specs.Edits.{Class, Edit, Fits}
+use Rattle.sl_specs.specs.declared.class.Class.{Class}
+use Rattle.sl_model.specs.Edits.{Edit, Fits}
 use Rattle.sl_model.specs.Values.{Value, Args, Lib, LibOut, trapped, thrown, faulted, gives, unbuilt}
 use Rattle.sl_model.specs.Situation.{Situation, own, own_size, number_of}
 use Rattle.sl_model.specs.Needs.{first_failure, all_failures}

@@ -5,7 +5,8 @@ use Rattle.std.specs.List.{slice_get}
 use Rattle.std.proofs.lemmas.Bool.{cases_lt}
 use Rattle.std.proofs.lemmas.Bool.Decides.{nat_tests}
 use Rattle.sl_model.specs.Containers.{Cont, size}
-use Rattle.sl_model.specs.Edits.{Class, Edit, Fits, old, olds, news, change_of, shifted}
+use Rattle.sl_specs.specs.declared.class.Class.{Class}
+use Rattle.sl_model.specs.Edits.{Edit, Fits, old, olds, news, change_of, shifted}
 use Rattle.sl_model.proofs.Getting.{get_left, get_right}
 
 -- n old places are n sources

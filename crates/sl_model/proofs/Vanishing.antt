@@ -4,7 +4,8 @@ use Rattle.std.proofs.Common.{◌≡◌, ℕ, ◌+◌, ◌<◌, ◌≤◌, Bool,
 use Rattle.std.specs.List.{slice_get}
 use Rattle.std.proofs.lemmas.Bool.{cases_eq, cases_lt, both_ways}
 use Rattle.sl_model.specs.Containers.{Cont, Memory, size}
-use Rattle.sl_model.specs.Edits.{Class, Edit, Fits, kills, change_of, shifted, after}
+use Rattle.sl_specs.specs.declared.class.Class.{Class}
+use Rattle.sl_model.specs.Edits.{Edit, Fits, kills, change_of, shifted, after}
 use Rattle.sl_model.specs.Good.{IsAt, IsSound, StandsOrDropped, NoneVanishes}
 use Rattle.sl_model.proofs.Buried.{dropped-killer}
 use Rattle.sl_model.proofs.AfterEdit.{after-killed, after-at-own, after-at-other}

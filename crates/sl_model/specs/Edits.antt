@@ -6,6 +6,8 @@
 -- Chosen here: an operation that may invalidate an iterator does so, and where growth does, the room decides.
 use Rattle.std.specs.Prelude.{ℕ, zero, suc, ◌≤◌, ◌+◌, ◌-◌, ◌==◌, ◌&&◌, nat_lt, nat_le, Bool, true, false, not, List, [], ◌∷◌, ◌++◌, map, length, ℤ}
 use Rattle.std.specs.Prelude.{pos, Some, None, slice_get, slice_set, if◌then◌else◌}
+use Rattle.sl_specs.specs.declared.class.Class.{Class}
+use Rattle.sl_specs.specs.declared.class.Class.TheVariants as classes
 use Rattle.sl_model.specs.Containers.{Cell, Cont, Grave, Memory, size, stamps}
 
 -- `gone` elements go from place `from`, and these come there; then the container has this room
@@ -33,33 +35,6 @@ pub record Change : Type 0 where
   pub sources : List Source
   pub room : ℕ
 
--- the classes of what operations invalidate
-pub data Class : Type 0 where
-  -- no iterators
-  Nothing : Class
-  -- insertion into a vector: all where it grows, else those at and behind the place
-  VectorInsert : Class
-  -- erasing from a vector: those at and behind the place
-  VectorErase : Class
-  -- `reserve` of a vector: all where it grows
-  VectorReserve : Class
-  -- `resize` of a vector: an insertion at the end, or erasing from it
-  VectorResize : Class
-  -- `resize` of a deque: an insertion at the end, or erasing from it
-  DequeResize : Class
-  -- insertion into a deque: all
-  DequeInsert : Class
-  -- erasing from a deque: the erased ones at the beginning, these and the end at the end, else all
-  DequeErase : Class
-  -- those of the erased elements
-  ErasedOnly : Class
-  -- insertion into a hash form: all where it grows
-  HashInsert : Class
-  -- all
-  AllAndEnd : Class
-  -- the end alone
-  Swap : Class
-
 -- an insertion of `come` elements at `from` into a vector of a size and a room invalidates place k
 abbrev pub vector_insert_kills : ℕ → ℕ → ℕ → ℕ → ℕ → Bool
 vector_insert_kills n room from come k = if come == 0 then false else if nat_lt room (n + come) then true else nat_le from k
@@ -79,18 +54,19 @@ deque_erase_kills n from gone k =
 
 -- an edit of a container of this size and room invalidates what stands at place k
 abbrev pub kills : Class → ℕ → ℕ → Edit → ℕ → Bool
-kills Nothing n room e k = false
-kills VectorInsert n room e k = vector_insert_kills n room e.from (length e.come) k
-kills VectorErase n room e k = vector_erase_kills e.from e.gone k
-kills VectorReserve n room e k = nat_lt room e.room
-kills VectorResize n room e k = if e.gone == 0 then vector_insert_kills n room e.from (length e.come) k else vector_erase_kills e.from e.gone k
-kills DequeResize n room e k = if e.gone == 0 then deque_insert_kills (length e.come) else deque_erase_kills n e.from e.gone k
-kills DequeInsert n room e k = deque_insert_kills (length e.come)
-kills DequeErase n room e k = deque_erase_kills n e.from e.gone k
-kills ErasedOnly n room e k = nat_le e.from k && nat_lt k (e.from + e.gone)
-kills HashInsert n room e k = if length e.come == 0 then false else nat_lt room (n + length e.come)
-kills AllAndEnd n room e k = true
-kills Swap n room e k = k == n
+kills classes.Nothing n room e k = false
+kills classes.VectorInsert n room e k = vector_insert_kills n room e.from (length e.come) k
+kills classes.VectorErase n room e k = vector_erase_kills e.from e.gone k
+kills classes.VectorReserve n room e k = nat_lt room e.room
+kills classes.VectorResize n room e k = if e.gone == 0 then vector_insert_kills n room e.from (length e.come) k else vector_erase_kills e.from e.gone k
+kills classes.DequeResize n room e k = if e.gone == 0 then deque_insert_kills (length e.come) else deque_erase_kills n e.from e.gone k
+kills classes.DequeInsert n room e k = deque_insert_kills (length e.come)
+kills classes.DequeErase n room e k = deque_erase_kills n e.from e.gone k
+kills classes.ErasedOnly n room e k = nat_le e.from k && nat_lt k (e.from + e.gone)
+kills classes.HashInsert n room e k = if length e.come == 0 then false else nat_lt room (n + length e.come)
+kills classes.HashReserve n room e k = true
+kills classes.AllAndEnd n room e k = true
+kills classes.Swap n room e k = k == n
 
 -- n numbers from i on
 abbrev pub numbers : ℕ → ℕ → List ℕ

@@ -16,7 +16,9 @@ use Rattle.sl_syntax.specs.declared.typed.operator.Operator.TheVariants as opera
 use Rattle.sl_syntax.specs.SubsetView.{vector_row, begin_row, push_back_row}
 use Rattle.sl_model.specs.Containers.{Cont, Memory, size, begin_of, key_part}
 use Rattle.sl_model.specs.Schedule.{pick}
-use Rattle.sl_model.specs.Edits.{Edit, Class, Nothing, VectorInsert}
+use Rattle.sl_specs.specs.declared.class.Class.{Class}
+use Rattle.sl_specs.specs.declared.class.Class.TheVariants.{Nothing, VectorInsert}
+use Rattle.sl_model.specs.Edits.{Edit}
 use Rattle.sl_model.specs.Values.{Value, nothing, iterator, element_at, Shape, no_value, a_stamp, an_element}
 use Rattle.sl_model.specs.Situation.{Situation, own, own_size, place_of, number_of}
 use Rattle.sl_model.specs.Needs.{Need, Dereferenceable}

@@ -3,7 +3,8 @@ ghost use Rattle.std.specs.Prelude.{◌≡◌, ◌≢◌, ◌+◌, ◌<◌, ◌�
 ghost use Rattle.sl_syntax.specs.declared.typed.callee.Callee.{Callee};
 ghost use Rattle.sl_syntax.specs.Typed.{Typed};
 ghost use Rattle.sl_model.specs.Containers.{Cont, Memory, Dropped, size, stamps};
-ghost use Rattle.sl_model.specs.Edits.{Change, Edit, VectorInsert, kills, after};
+ghost use Rattle.sl_specs.specs.declared.class.Class.TheVariants.{VectorInsert};
+ghost use Rattle.sl_model.specs.Edits.{Change, Edit, kills, after};
 ghost use Rattle.sl_model.specs.Situation.{Situation, own_size};
 ghost use Rattle.sl_model.specs.Rows.{edits, push_back};
 ghost use Rattle.sl_model.specs.Values.{Args, Value, gives};

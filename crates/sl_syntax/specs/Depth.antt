@@ -81,6 +81,7 @@ first_height (t.first_scalar place s x v) = height v + 1
 first_height (t.first_auto place x v) = height v + 1
 first_height (t.first_effect e) = effect_height e
 
+-- the type of a reference is a node beside the body
 abbrev pub element_height : Element → ℕ
 element_height (element.Value x) = 0
 element_height (element.Reference head) = 1

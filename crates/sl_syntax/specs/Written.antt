@@ -286,6 +286,7 @@ abbrev pub params_written : List Param → List Written
 params_written [] = []
 params_written (x ∷ xs) = param_written x ++ flat_map (λ y. mark m.Comma ∷ param_written y) xs
 
+-- what a function gives back; its first word has the function's place
 abbrev pub result_written : ResultType → List Written
 result_written result.Void = plain (w.Key (codes "void")) ∷ []
 result_written (result.Scalar s) = plain (scalar_word s) ∷ []

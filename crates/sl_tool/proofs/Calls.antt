@@ -9,7 +9,8 @@ use Rattle.sl_syntax.specs.declared.typed.operator.Operator.TheVariants as opera
 use Rattle.sl_syntax.specs.SubsetView.{vector_row, begin_row, push_back_row}
 use Rattle.sl_model.specs.Containers.{Memory, Cont, size, cont_at, begin_of, locate, made, key_part}
 use Rattle.sl_model.specs.Schedule.{pick}
-use Rattle.sl_model.specs.Edits.{Edit, VectorInsert, change_of, after}
+use Rattle.sl_specs.specs.declared.class.Class.TheVariants.{VectorInsert}
+use Rattle.sl_model.specs.Edits.{Edit, change_of, after}
 use Rattle.sl_model.specs.Values.{number, iterator, nothing, element_at, LibOut, trapped, thrown, gives}
 use Rattle.sl_model.specs.Situation.{Situation}
 use Rattle.sl_model.specs.Library.{lib, of_form, same_form, object_in, on_object, carried_out}

@@ -6,7 +6,8 @@ use Rattle.std.proofs.lemmas.Option.{slice_get_within}
 use Rattle.std.proofs.lemmas.Bool.{cases_eq, lt-ltb, cond-true}
 use Rattle.sl_base.specs.declared.form.Form.TheVariants as f
 use Rattle.sl_model.specs.Containers.{Memory, Cont, size, made, killer}
-use Rattle.sl_model.specs.Edits.{VectorInsert, change_of, changed, kills}
+use Rattle.sl_specs.specs.declared.class.Class.TheVariants.{VectorInsert}
+use Rattle.sl_model.specs.Edits.{change_of, changed, kills}
 use Rattle.sl_model.specs.Schedule.{pick}
 use Rattle.sl_model.specs.Good.{IsAt, IsSound}
 use Rattle.sl_model.specs.State.{State, Frame}

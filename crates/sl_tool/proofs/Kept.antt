@@ -12,7 +12,8 @@ use Rattle.std.proofs.lemmas.Bool.Decides.{nat_tests}
 use Rattle.sl_base.specs.declared.form.Form.TheVariants as f
 use Rattle.sl_base.specs.declared.limits.TheConstants.{ELEMENTS}
 use Rattle.sl_model.specs.Containers.{Memory, Cont, size, stamps, made, begin_of}
-use Rattle.sl_model.specs.Edits.{numbers, Edit, VectorInsert, change_of, after, changed, kills, shifted, vector_insert_kills}
+use Rattle.sl_specs.specs.declared.class.Class.TheVariants.{VectorInsert}
+use Rattle.sl_model.specs.Edits.{numbers, Edit, change_of, after, changed, kills, shifted, vector_insert_kills}
 use Rattle.sl_model.specs.Good.{IsAt, IsSound}
 use Rattle.sl_model.specs.State.{Frame}
 use Rattle.sl_model.specs.Rows.{insertion}

@@ -3,7 +3,8 @@
 use Rattle.std.proofs.Common.{◌≡◌, [], ◌∷◌, Some, refl, arith}
 use Rattle.std.specs.Prelude.{true, false, codes}
 use Rattle.sl_base.specs.declared.form.Form.TheVariants as f
-use Rattle.sl_model.specs.Edits.{Class, Nothing, AllAndEnd}
+use Rattle.sl_specs.specs.declared.class.Class.{Class}
+use Rattle.sl_specs.specs.declared.class.Class.TheVariants.{Nothing, AllAndEnd}
 use Rattle.sl_model.specs.Values.{nothing, gives, no_value}
 use Rattle.sl_model.specs.Situation.{Situation, own, own_size}
 use Rattle.sl_model.specs.Rows.{edits, Row}

@@ -6,7 +6,7 @@ use Rattle.sl_syntax.specs.declared.typed.callee.Callee.TheVariants as callees
 use Rattle.sl_syntax.specs.declared.typed.operator.Operator.TheVariants as operators
 use Rattle.sl_model.specs.Containers.{Cell, Memory, empty_memory, end_from, locate, killer, key_part}
 use Rattle.sl_model.specs.Values.{Value, nothing, number, iterator, element_at, Args, trapped, thrown, gives, unbuilt, no_value}
-use Rattle.sl_model.specs.Edits.{AllAndEnd}
+use Rattle.sl_specs.specs.declared.class.Class.TheVariants.{AllAndEnd}
 use Rattle.sl_model.specs.Situation.{Situation}
 use Rattle.sl_model.specs.Needs.{Dereferenceable, first_failure}
 use Rattle.sl_model.specs.Rows.{an_iterator, Effect, throws, keeps, edits, Row, unless_too_many, call_name}
