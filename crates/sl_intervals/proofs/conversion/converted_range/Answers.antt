@@ -1,0 +1,16 @@
+use Rattle.std.proofs.Common.{◌≡◌, ℤ, ◌≤ℤ◌, arith, IsTrue}
+use Rattle.std.proofs.lemmas.Int.{ints}
+use Rattle.sl_intervals.proofs.Images.{named, near_image, far_image}
+use Rattle.sl_intervals.proofs.conversion.converted_range.Goals as goal
+
+pub returns-then-is_near : goal.returns-then-is_near
+returns-then-is_near c =
+    near_image c.args.to c.args.a c.between.result c.first_in-first.result c.requires.numbers c.requires.filled
+    (named c.args.to c.args.a.low c.first_in-first.result c.requires.numbers c.first_in-first.ensures)
+    (omega (arith, ints)) (omega (arith, ints)) (omega (arith, ints))
+
+pub returns-else-is_near : goal.returns-else-is_near
+returns-else-is_near c =
+    far_image c.args.to c.args.a c.between-else-is_near.result c.first_in-first.result c.requires.numbers
+    (named c.args.to c.args.a.low c.first_in-first.result c.requires.numbers c.first_in-first.ensures)
+    (omega (arith, ints)) (omega (arith, ints)) (omega (arith, ints))

@@ -1,0 +1,4 @@
+pub mod Images
+pub mod Intervals
+pub mod SizeTable
+pub mod Stops

@@ -1,0 +1,21 @@
+//! Intervals of numbers with their operators, and facts on numbers and sizes. No call takes memory.
+#![tactic(auto)]
+
+mod comparison;
+mod conversion;
+mod interval;
+mod lattice;
+mod numbers;
+mod outcome;
+mod size_fact;
+mod size_facts;
+mod sure;
+
+pub use comparison::less;
+pub use conversion::convert;
+pub use interval::Interval;
+pub use lattice::{join, meet};
+pub use outcome::Outcome;
+pub use size_fact::SizeFact;
+pub use size_facts::SizeFacts;
+pub use sure::Sure;
