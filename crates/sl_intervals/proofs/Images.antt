@@ -1,15 +1,15 @@
 -- What the members of an interval become, by its ends.
-use Rattle.std.proofs.Common.{ℕ, zero, suc, ◌+◌, ◌*◌, ◌<◌, ◌≡◌, ◌≢◌, ℤ, pos, negsuc, ◌+ℤ◌, ◌-ℤ◌, ◌≤ℤ◌, ◌<ℤ◌, refl, sym, ap, ◌∙◌, subst, arith}
+use Rattle.std.proofs.Common.{zero, suc, ◌+◌, ◌*◌, ◌<◌, ◌≡◌, ◌≢◌, ℤ, pos, negsuc, ◌+ℤ◌, ◌-ℤ◌, ◌≤ℤ◌, ◌<ℤ◌, refl, sym, ◌∙◌, subst, arith}
 use Rattle.std.proofs.lemmas.Int.{ints, by_lt_z}
 use Rattle.std.specs.Int.{int_rem_euclid}
 use Rattle.std.proofs.Math.Nat.{add-mul}
 use Rattle.sl_base.specs.declared.scalar.Scalar.{Scalar}
 use Rattle.sl_base.specs.declared.scalar.Scalar.TheVariants as t
-use Rattle.sl_model.specs.Numbers.{converted, modulo, lowest, highest}
+use Rattle.sl_model.specs.Numbers.{converted, lowest, highest}
 use Rattle.sl_intervals.specs.declared.interval.Interval.{Interval}
-use Rattle.sl_intervals.specs.Intervals.{Holds, IsFilled, IsWithin}
+use Rattle.sl_intervals.specs.Intervals.{IsFilled}
 use Rattle.sl_intervals.specs.Images.{IsImage}
-use Rattle.sl_intervals.proofs.Turns.{IsTurn, IsConverted, count, span, euclid, rest_turn, modulo_small, is_converted, only_converted, converted_further, converted_around}
+use Rattle.sl_intervals.proofs.Turns.{IsConverted, count, span, euclid, rest_turn, modulo_small, is_converted, only_converted, converted_further, converted_around}
 
 -- a number's rest, or the rest less the count of the type, where that is of the type
 pub by_rest : (ty : Scalar) (z rest r h : ℤ) → ty ≢ t.Bool → rest ≡ int_rem_euclid z (pos (count ty)) → 0 < count ty

@@ -1,8 +1,7 @@
 -- What the ends of a meet say.
-use Rattle.std.proofs.Common.{◌≡◌, ℤ, pos, ◌≤ℤ◌, ◌<ℤ◌, ◌⊎◌, ◌↔◌, inl, inr, ⊎_elim, arith}
+use Rattle.std.proofs.Common.{ℤ, ◌≤ℤ◌, ◌⊎◌, ◌↔◌, inl, inr, ⊎_elim, arith}
 use Rattle.std.proofs.lemmas.Int.{ints}
 use Rattle.sl_base.specs.declared.scalar.Scalar.{Scalar}
-use Rattle.sl_model.specs.Numbers.{lowest, highest}
 use Rattle.sl_intervals.specs.declared.interval.Interval.{Interval}
 use Rattle.sl_intervals.specs.Intervals.{Holds, IsEmpty, IsWithin, LiesIn, IsAtLeast, IsAtMost}
 use Rattle.sl_intervals.proofs.Joined.{held_wider}

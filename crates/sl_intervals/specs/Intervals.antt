@@ -1,5 +1,5 @@
 -- Intervals as sets of whole numbers, and what an operator does on the members of two of them.
-use Rattle.std.specs.Prelude.{◌≡◌, ◌⊎◌, ℕ, ℤ, ◌≤ℤ◌, ◌<ℤ◌, Bool, true, false}
+use Rattle.std.specs.Prelude.{◌≡◌, ◌⊎◌, ℤ, pos, negsuc, ◌≤ℤ◌, ◌<ℤ◌, Bool, true, false}
 use Rattle.sl_base.specs.declared.scalar.Scalar.{Scalar}
 use Rattle.sl_model.specs.Numbers.{Answer, value, fault, lowest, highest}
 use Rattle.sl_intervals.specs.declared.interval.Interval.{Interval}
@@ -51,3 +51,9 @@ NoFault op a b = (x y : ℤ) → Holds a x → Holds b y → is_fault (op x y) �
 -- all members fault
 abbrev pub AllFault : (ℤ → ℤ → Answer) → Interval → Interval → Type 0
 AllFault op a b = (x y : ℤ) → Holds a x → Holds b y → is_fault (op x y) ≡ true
+
+-- i has a member, and its ends are numbers of 64 bits, signed or not
+pub record IsLimited (i : Interval) : Type 0 where
+  pub low : negsuc 9223372036854775807 ≤ℤ i.low
+  pub order : i.low ≤ℤ i.high
+  pub high : i.high ≤ℤ pos 18446744073709551615

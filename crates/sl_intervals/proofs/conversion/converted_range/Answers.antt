@@ -1,4 +1,4 @@
-use Rattle.std.proofs.Common.{◌≡◌, ℤ, ◌≤ℤ◌, arith, IsTrue}
+use Rattle.std.proofs.Common.{arith}
 use Rattle.std.proofs.lemmas.Int.{ints}
 use Rattle.sl_intervals.proofs.Images.{named, near_image, far_image}
 use Rattle.sl_intervals.proofs.conversion.converted_range.Goals as goal

@@ -1,4 +1,4 @@
-use Rattle.std.proofs.Common.{◌⊎◌, inl, inr, ⊎_elim, arith}
+use Rattle.std.proofs.Common.{inr, ⊎_elim, arith}
 use Rattle.std.proofs.lemmas.Int.{ints}
 use Rattle.sl_intervals.specs.Intervals.{Holds}
 use Rattle.sl_intervals.proofs.Joined.{held_wider, within_of}

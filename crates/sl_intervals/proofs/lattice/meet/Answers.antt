@@ -1,7 +1,6 @@
-use Rattle.std.proofs.Common.{◌⊎◌, arith}
+use Rattle.std.proofs.Common.{arith}
 use Rattle.std.proofs.lemmas.Int.{ints}
-use Rattle.sl_intervals.specs.declared.interval.Interval.{Interval}
-use Rattle.sl_intervals.proofs.Inner.{IsInner, met_holds, met_least, met_most, met_within}
+use Rattle.sl_intervals.proofs.Inner.{met_holds, met_least, met_most, met_within}
 use Rattle.sl_intervals.proofs.lattice.meet.Goals as goal
 
 pub returns-clause-holds : goal.returns-clause-holds

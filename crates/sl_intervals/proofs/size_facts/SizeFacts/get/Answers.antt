@@ -1,4 +1,4 @@
-use Rattle.std.proofs.Common.{refl, arith}
+use Rattle.std.proofs.Common.{refl}
 use Rattle.sl_intervals.specs.SizeTable.{told}
 use Rattle.sl_intervals.proofs.size_facts.SizeFacts.get.Goals as goal
 

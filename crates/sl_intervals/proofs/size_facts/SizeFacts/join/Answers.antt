@@ -1,4 +1,4 @@
-use Rattle.std.proofs.Common.{ℕ, ◌+◌, ◌*◌, ◌≡◌, ◌≢◌, ◌<◌, ◌≤◌, get_or, length, arith, ⊎_elim, ◌∙◌, length-set, get_or-set_same, get_or-set_other, ap, ◌&&◌}
+use Rattle.std.proofs.Common.{◌+◌, ◌*◌, ◌≡◌, ◌≢◌, ◌<◌, get_or, length, arith, ⊎_elim, ◌∙◌, length-set, get_or-set_same, get_or-set_other, ap, ◌&&◌}
 use Rattle.std.proofs.lemmas.Bool.{cases_eq}
 use Rattle.sl_intervals.specs.SizeTable.{told, tells}
 use Rattle.sl_intervals.specs.declared.size_fact.SizeFact.TheVariants.{Nothing}

@@ -1,4 +1,4 @@
-use Rattle.std.proofs.Common.{ℕ, ◌+◌, ◌*◌, ◌<◌, arith}
+use Rattle.std.proofs.Common.{◌+◌, ◌*◌, arith}
 use Rattle.std.proofs.lemmas.List.{get_or-replicate}
 use Rattle.sl_intervals.specs.declared.size_fact.SizeFact.TheVariants.{Nothing}
 use Rattle.sl_intervals.specs.SizeTable.{told}

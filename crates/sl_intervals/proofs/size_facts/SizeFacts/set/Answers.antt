@@ -1,4 +1,4 @@
-use Rattle.std.proofs.Common.{ℕ, ◌≡◌, ◌≢◌, ◌⊎◌, ◌+◌, ◌*◌, refl, arith, ⊎_elim, get_or-set_same, get_or-set_other}
+use Rattle.std.proofs.Common.{◌≢◌, ◌+◌, ◌*◌, refl, arith, get_or-set_same, get_or-set_other}
 use Rattle.sl_intervals.specs.declared.size_fact.SizeFact.TheVariants.{Nothing}
 use Rattle.sl_intervals.specs.SizeTable.{told}
 use Rattle.sl_intervals.proofs.Table.{apart}
