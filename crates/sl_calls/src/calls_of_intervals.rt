@@ -2,7 +2,9 @@
 
 use crate::expected::expect_that;
 use sl_base::Scalar;
-use sl_intervals::{Interval, SizeFact, SizeFacts, Sure, add, convert, join, less, meet, sub, widen};
+use sl_intervals::{
+    Interval, SizeFact, SizeFacts, Sure, add, convert, join, less, meet, sub, widen,
+};
 
 #[test]
 fn calls_of_intervals(rt: HostRuntime) {
@@ -13,16 +15,32 @@ fn calls_of_intervals(rt: HostRuntime) {
     let met = meet(low, high);
     expect_that(&rt, "a meet", (met.low == 2) & (met.high == 4));
     let compared = less(low, high);
-    expect_that(&rt, "a comparison", (compared.value.low == 0) & (compared.value.high == 1));
+    expect_that(
+        &rt,
+        "a comparison",
+        (compared.value.low == 0) & (compared.value.high == 1),
+    );
     let wrapped = convert(Scalar::Size, Interval { low: -2, high: -1 });
     expect_that(&rt, "a conversion", wrapped.low == 18446744073709551614);
     let widened = widen(low, joined, &[0, 5, 10, 20], Scalar::Int);
-    expect_that(&rt, "a widening", (widened.low == -3) & (widened.high == 10));
+    expect_that(
+        &rt,
+        "a widening",
+        (widened.low == -3) & (widened.high == 10),
+    );
     let sum = add(Scalar::Int, high, high);
     expect_that(&rt, "a sum", (sum.value.low == 4) & (sum.value.high == 18));
-    expect_that(&rt, "a sum that doesn't fault", matches!(sum.fault, Sure::Never));
+    expect_that(
+        &rt,
+        "a sum that doesn't fault",
+        matches!(sum.fault, Sure::Never),
+    );
     let difference = sub(Scalar::Int, low, high);
-    expect_that(&rt, "a difference", (difference.value.low == -12) & (difference.value.high == 2));
+    expect_that(
+        &rt,
+        "a difference",
+        (difference.value.low == -12) & (difference.value.high == 2),
+    );
 }
 
 #[test]
@@ -33,9 +51,21 @@ fn calls_of_size_facts(rt: HostRuntime) {
     let mut other = SizeFacts::new();
     other.set(3, 2, SizeFact::Upto);
     let both = facts.join(&other);
-    expect_that(&rt, "what both tell", matches!(both.get(3, 2), SizeFact::Upto));
+    expect_that(
+        &rt,
+        "what both tell",
+        matches!(both.get(3, 2), SizeFact::Upto),
+    );
     facts.drop_scalar(3);
-    expect_that(&rt, "a scalar's facts dropped", matches!(facts.get(3, 2), SizeFact::Nothing));
+    expect_that(
+        &rt,
+        "a scalar's facts dropped",
+        matches!(facts.get(3, 2), SizeFact::Nothing),
+    );
     other.drop_container(2);
-    expect_that(&rt, "a container's facts dropped", matches!(other.get(3, 2), SizeFact::Nothing));
+    expect_that(
+        &rt,
+        "a container's facts dropped",
+        matches!(other.get(3, 2), SizeFact::Nothing),
+    );
 }

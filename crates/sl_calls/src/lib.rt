@@ -11,6 +11,8 @@ mod calls_of_expressions;
 #[cfg(test)]
 mod calls_of_grammar;
 #[cfg(test)]
+mod calls_of_intervals;
+#[cfg(test)]
 mod calls_of_kind;
 #[cfg(test)]
 mod calls_of_laws;

@@ -9,7 +9,8 @@ use Rattle.sl_model.specs.Numbers.{converted, lowest, highest}
 use Rattle.sl_intervals.specs.declared.interval.Interval.{Interval}
 use Rattle.sl_intervals.specs.Intervals.{IsFilled}
 use Rattle.sl_intervals.specs.Images.{IsImage}
-use Rattle.sl_intervals.proofs.Turns.{IsConverted, count, span, euclid, rest_turn, modulo_small, is_converted, only_converted, converted_further, converted_around}
+use Rattle.sl_intervals.proofs.Turns.{IsConverted, count, span, euclid, rest_turn}
+use Rattle.sl_intervals.proofs.Turns.{modulo_small, is_converted, only_converted, converted_further, converted_around}
 
 -- a number's rest, or the rest less the count of the type, where that is of the type
 pub by_rest : (ty : Scalar) (z rest r h : ℤ) → ty ≢ t.Bool → rest ≡ int_rem_euclid z (pos (count ty)) → 0 < count ty
@@ -23,8 +24,10 @@ by_rest ty z rest r h scalar is some small large top bottom =
     let same = turn.is in
     let more : (turn.up + 1) * count ty ≡ turn.up * count ty + 1 * count ty = add-mul turn.up 1 (count ty) in
     by_lt_z rest h
-    (λ (below : rest <ℤ h). let v = small below in sym (only_converted ty z r scalar (record { down = turn.down; up = turn.up; is = omega (arith, ints) }) (omega (arith, ints)) (omega (arith, ints))))
-    (λ (above : h ≤ℤ rest). let v = large above in sym (only_converted ty z r scalar (record { down = turn.down; up = turn.up + 1; is = omega (arith, ints) }) (omega (arith, ints)) (omega (arith, ints))))
+    (λ (below : rest <ℤ h). let v = small below in sym (only_converted ty z r scalar
+    (record { down = turn.down; up = turn.up; is = omega (arith, ints) }) (omega (arith, ints)) (omega (arith, ints))))
+    (λ (above : h ≤ℤ rest). let v = large above in sym (only_converted ty z r scalar
+    (record { down = turn.down; up = turn.up + 1; is = omega (arith, ints) }) (omega (arith, ints)) (omega (arith, ints))))
 
 -- the low end's number by name
 pub named : (ty : Scalar) (z r : ℤ) → ty ≢ t.Bool → r ≡ converted ty z → IsConverted ty z r
@@ -43,13 +46,15 @@ near_image to a r first scalar filled k near low high =
       low = (
         a.low,
         record { low = omega (arith, ints); high = filled },
-        let e : converted to a.low ≡ first +ℤ (a.low -ℤ a.low) = converted_further to a.low a.low first scalar k (omega (arith, ints)) (omega (arith, ints)) in
+        let e : converted to a.low ≡ first +ℤ (a.low -ℤ a.low) = converted_further to a.low a.low first scalar k (omega (arith, ints))
+            (omega (arith, ints)) in
             omega (arith, ints),
       );
       high = (
         a.high,
         record { low = filled; high = omega (arith, ints) },
-        let e : converted to a.high ≡ first +ℤ (a.high -ℤ a.low) = converted_further to a.low a.high first scalar k (omega (arith, ints)) (omega (arith, ints)) in
+        let e : converted to a.high ≡ first +ℤ (a.high -ℤ a.low) = converted_further to a.low a.high first scalar k (omega (arith, ints))
+            (omega (arith, ints)) in
             omega (arith, ints),
       );
       within = record { low = omega (arith, ints); high = omega (arith, ints) };
@@ -95,10 +100,21 @@ by_truth {P} (negsuc n) f g = g refl
 -- a zero among other members
 pub mixed_image : (a r : Interval) → a.low ≤ℤ pos 0 → pos 0 ≤ℤ a.high → a.low <ℤ a.high → r.low ≡ pos 0 → r.high ≡ pos 1 → IsImage t.Bool a r
 mixed_image a r l h some low high = record {
-  holds = λ z k. by_truth z (λ e. record { low = omega (arith, ints); high = omega (arith, ints) }) (λ e. record { low = omega (arith, ints); high = omega (arith, ints) });
+  holds = λ z k. by_truth z (λ e. record { low = omega (arith, ints); high = omega (arith, ints) })
+      (λ e. record { low = omega (arith, ints); high = omega (arith, ints) });
   low = (pos 0, record { low = l; high = h }, sym low);
   high = by_lt_z a.low (pos 0)
-      (λ (under : a.low <ℤ pos 0). (a.low, record { low = omega (arith, ints); high = omega (arith, ints) }, truth_of a.low (omega (arith, ints)) ∙ sym high))
-      (λ (over : pos 0 ≤ℤ a.low). (a.high, record { low = omega (arith, ints); high = omega (arith, ints) }, truth_of a.high (omega (arith, ints)) ∙ sym high));
+      (λ (under : a.low <ℤ pos 0). (
+        a.low,
+        record { low = omega (arith, ints); high = omega (arith, ints) },
+        truth_of a.low
+            (omega (arith, ints)) ∙ sym high,
+      ))
+      (λ (over : pos 0 ≤ℤ a.low). (
+        a.high,
+        record { low = omega (arith, ints); high = omega (arith, ints) },
+        truth_of a.high
+            (omega (arith, ints)) ∙ sym high,
+      ));
   within = record { low = omega (arith, ints); high = omega (arith, ints) };
 }

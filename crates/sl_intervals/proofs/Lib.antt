@@ -1,3 +1,5 @@
+-- ## Examples
+mod Examples
 -- ## Ends of intervals
 pub mod Joined
 pub mod Inner

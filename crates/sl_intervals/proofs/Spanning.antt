@@ -22,10 +22,28 @@ sum_span a b s f g low high = record {
   parts = λ t h.
       let hl = h.low in let hh = h.high in
       by_lt_z (a.high +ℤ b.low) t
-      (λ (far : (a.high +ℤ b.low) <ℤ t).
-      (a.high, t -ℤ a.high, record { low = f; high = omega (arith, ints) }, record { low = omega (arith, ints); high = omega (arith, ints) }, omega (arith, ints)))
-      (λ (near : t ≤ℤ (a.high +ℤ b.low)).
-      (t -ℤ b.low, b.low, record { low = omega (arith, ints); high = omega (arith, ints) }, record { low = omega (arith, ints); high = g }, omega (arith, ints)));
+      (λ (far : (a.high +ℤ b.low) <ℤ t). (
+        a.high,
+        t -ℤ a.high,
+        record { low = f; high = omega (arith, ints) },
+        record {
+          low = omega (arith, ints);
+          high = omega
+              (arith, ints);
+        },
+        omega (arith, ints),
+      ))
+      (λ (near : t ≤ℤ (a.high +ℤ b.low)). (
+        t -ℤ b.low,
+        b.low,
+        record { low = omega (arith, ints); high = omega (arith, ints) },
+        record {
+          low = omega (arith, ints);
+          high =
+              g;
+        },
+        omega (arith, ints),
+      ));
 }
 
 pub difference_span : (a b s : Interval) → IsFilled a → IsFilled b → s.low ≡ a.low -ℤ b.high → s.high ≡ a.high -ℤ b.low → IsSpan (λ x y. x -ℤ y) a b s
@@ -36,10 +54,28 @@ difference_span a b s f g low high = record {
   parts = λ t h.
       let hl = h.low in let hh = h.high in
       by_lt_z (a.high -ℤ b.high) t
-      (λ (far : (a.high -ℤ b.high) <ℤ t).
-      (a.high, a.high -ℤ t, record { low = f; high = omega (arith, ints) }, record { low = omega (arith, ints); high = omega (arith, ints) }, omega (arith, ints)))
-      (λ (near : t ≤ℤ (a.high -ℤ b.high)).
-      (t +ℤ b.high, b.high, record { low = omega (arith, ints); high = omega (arith, ints) }, record { low = g; high = omega (arith, ints) }, omega (arith, ints)));
+      (λ (far : (a.high -ℤ b.high) <ℤ t). (
+        a.high,
+        a.high -ℤ t,
+        record { low = f; high = omega (arith, ints) },
+        record {
+          low = omega (arith, ints);
+          high = omega
+              (arith, ints);
+        },
+        omega (arith, ints),
+      ))
+      (λ (near : t ≤ℤ (a.high -ℤ b.high)). (
+        t +ℤ b.high,
+        b.high,
+        record { low = omega (arith, ints); high = omega (arith, ints) },
+        record {
+          low = g;
+          high = omega
+              (arith, ints);
+        },
+        omega (arith, ints),
+      ));
 }
 
 -- the one member
@@ -71,7 +107,8 @@ module _ (op : ℤ → ℤ → ℤ) (ty : Scalar) (a b s : Interval) (r : Outcom
   }
 
   -- a result on single numbers
-  end_is : (x y z v u w : ℤ) → IsSingle a x → IsSingle b y → settled ty (op x y) ≡ value z → Holds a u → Holds b w → settled ty (op u w) ≡ value v → v ≡ z
+  end_is : (x y z v u w : ℤ) → IsSingle a x → IsSingle b y → settled ty (op x y) ≡ value z → Holds a u → Holds b w → settled ty
+      (op u w) ≡ value v → v ≡ z
   end_is x y z v u w p q e h k g = let i = only a x u p h in let j = only b y w q k in cc
 
   single_exact : (x y z : ℤ) → IsSingle a x → IsSingle b y → settled ty (op x y) ≡ value z → IsSingle r.value z

@@ -131,10 +131,22 @@ widened_low_of ty numbers old new r kept fallen = by_lt_z new old
     (λ (h : new <ℤ old).
     let stop = fallen h in
     let below = stop.below in
-    record { under_old = omega (arith, ints); under_new = below; within = λ p. stop.within; keeps = λ w one p q. kept_below ty numbers new r w stop one q })
+    record {
+      under_old = omega (arith, ints);
+      under_new = below;
+      within = λ p. stop.within;
+      keeps =
+          λ w one p q. kept_below ty numbers new r w stop one q;
+    })
     (λ (h : old ≤ℤ new).
     let e = kept h in
-    record { under_old = omega (arith, ints); under_new = omega (arith, ints); within = λ p. omega (arith, ints); keeps = λ w one p q. omega (arith, ints) })
+    record {
+      under_old = omega (arith, ints);
+      under_new = omega (arith, ints);
+      within = λ p. omega (arith, ints);
+      keeps = λ w one p q. omega
+          (arith, ints);
+    })
 
 -- what a widened high end keeps to
 pub record IsWidenedHigh (ty : Scalar) (numbers : List ℤ) (old new r : ℤ) : Type 0 where
@@ -149,7 +161,19 @@ widened_high_of ty numbers old new r kept grown = by_lt_z old new
     (λ (h : old <ℤ new).
     let stop = grown h in
     let above = stop.above in
-    record { over_old = omega (arith, ints); over_new = above; within = λ p. stop.within; keeps = λ w one p q. kept_above ty numbers new r w stop one q })
+    record {
+      over_old = omega (arith, ints);
+      over_new = above;
+      within = λ p. stop.within;
+      keeps =
+          λ w one p q. kept_above ty numbers new r w stop one q;
+    })
     (λ (h : new ≤ℤ old).
     let e = kept h in
-    record { over_old = omega (arith, ints); over_new = omega (arith, ints); within = λ p. omega (arith, ints); keeps = λ w one p q. omega (arith, ints) })
+    record {
+      over_old = omega (arith, ints);
+      over_new = omega (arith, ints);
+      within = λ p. omega (arith, ints);
+      keeps = λ w one p q. omega
+          (arith, ints);
+    })

@@ -53,7 +53,8 @@ only_centred n off z r h low high =
     let s = natural (r +ℤ pos off) low in
     let is = h.is in
     let same = s.1 in
-    let e : modulo (z +ℤ pos off) n ≡ s.0 = only_rest n s.0 (z +ℤ pos off) (record { down = h.down; up = h.up; is = omega (arith, ints) }) (omega (arith, ints)) in
+    let e : modulo (z +ℤ pos off) n ≡ s.0 = only_rest n s.0 (z +ℤ pos off) (record { down = h.down; up = h.up; is = omega (arith, ints) })
+    (omega (arith, ints)) in
     omega (arith, ints)
 
 -- how many numbers a type has
@@ -71,7 +72,8 @@ only_converted t.Size z r scalar h low high =
     let s = natural r low in
     let is = h.is in
     let same = s.1 in
-    let e : modulo z 18446744073709551616 ≡ s.0 = only_rest 18446744073709551616 s.0 z (record { down = h.down; up = h.up; is = omega (arith, ints) }) (omega (arith, ints)) in
+    let e : modulo z 18446744073709551616 ≡ s.0 = only_rest 18446744073709551616 s.0 z
+    (record { down = h.down; up = h.up; is = omega (arith, ints) }) (omega (arith, ints)) in
     omega (arith, ints)
 only_converted t.Diff z r scalar h low high = only_centred 18446744073709551616 9223372036854775808 z r h (omega (arith, ints)) (omega (arith, ints))
 

@@ -84,7 +84,8 @@ all_fault ty s f t h all e = record {
   always = λ ne. (λ q. all, λ q. e);
 }
 
-pub some_fault : (ty : Scalar) (s : Interval) (f : Sure) (t u : ℤ) → Holds s t → Holds s u → is_fault (settled ty t) ≡ false → is_fault (settled ty u) ≡ true
+pub some_fault : (ty : Scalar) (s : Interval) (f : Sure) (t u : ℤ) → Holds s t → Holds s u → is_fault (settled ty t) ≡ false → is_fault
+    (settled ty u) ≡ true
     → f ≡ May → IsVerdict ty s f
 some_fault ty s f t u h k good bad e = record {
   never = (λ q. absurd (cc), λ q. let p = q u k in absurd (cc));
@@ -118,7 +119,8 @@ module _ (ty : Scalar) (s : Interval) (f : Sure) (signed : ty ≢ kind.Size) (fi
   under_verdict p = by_lt_z s.high (lowest ty)
       (λ (h : s.high <ℤ lowest ty). all_fault ty s f s.low first (λ z k. let r = k.high in beneath z (omega (arith, ints))) (under h))
       (λ (h : lowest ty ≤ℤ s.high). let some = some_number ty in
-      some_fault ty s f (lowest ty) s.low (record { low = omega (arith, ints); high = h }) first (fine (lowest ty) (omega (arith, ints)) some) (beneath s.low p) (low p h))
+      some_fault ty s f (lowest ty) s.low (record { low = omega (arith, ints); high = h }) first
+      (fine (lowest ty) (omega (arith, ints)) some) (beneath s.low p) (low p h))
 
   over_verdict : lowest ty ≤ℤ s.low → highest ty <ℤ s.high → IsVerdict ty s f
   over_verdict p q = by_lt_z (highest ty) s.low
@@ -145,8 +147,10 @@ signed_settled ty s r signed v same = record {
       inr (record { low = p.1.0; high = q.1.1 }));
   never = v.never;
   always = v.always;
-  low = λ h. let p = (same r.value.low).0 (record { low = omega (arith, ints); high = h }) in (r.value.low, p.0, settled_in ty r.value.low signed p.1.0 p.1.1);
-  high = λ h. let p = (same r.value.high).0 (record { low = h; high = omega (arith, ints) }) in (r.value.high, p.0, settled_in ty r.value.high signed p.1.0 p.1.1);
+  low = λ h. let p = (same r.value.low).0 (record { low = omega (arith, ints); high = h }) in
+      (r.value.low, p.0, settled_in ty r.value.low signed p.1.0 p.1.1);
+  high = λ h. let p = (same r.value.high).0 (record { low = h; high = omega (arith, ints) }) in
+      (r.value.high, p.0, settled_in ty r.value.high signed p.1.0 p.1.1);
 }
 
 -- unsigned results: what the numbers become, and none faults

@@ -5,8 +5,10 @@ use Rattle.sl_intervals.proofs.settling.signed_results.Goals as goal
 
 pub returns : goal.returns
 returns c = signed_settled c.args.ty c.args.s _ c.requires.signed
-    (verdict c.args.ty c.args.s _ c.requires.signed c.requires.filled c.outside.ensures.never c.outside.ensures.under c.outside.ensures.over c.outside.ensures.low c.outside.ensures.high)
+    (verdict c.args.ty c.args.s _ c.requires.signed c.requires.filled c.outside.ensures.never c.outside.ensures.under c.outside.ensures.over
+    c.outside.ensures.low c.outside.ensures.high)
     (λ z. (
-      λ h. let p = (c.meet.ensures.holds z).0 h in let k = p.1 in let l = k.low in let m = k.high in (p.0, (omega (arith, ints), omega (arith, ints))),
+      λ h. let p = (c.meet.ensures.holds z).0 h in let k = p.1 in let l = k.low in let m = k.high in
+          (p.0, (omega (arith, ints), omega (arith, ints))),
       λ h. (c.meet.ensures.holds z).1 (h.0, (let l = h.1.0 in let m = h.1.1 in record { low = omega (arith, ints); high = omega (arith, ints) })),
     ))

@@ -19,7 +19,8 @@ loop-i-preserved c =
     let m = to_z-of_z w128 (get_or c.args.constants.now c.loop-i.i (pos 0)) fits in
     subst (λ (v : ℤ). IsSoFarAbove c.args.ty c.args.constants.now c.args.a.high v (c.loop-i.i + 1)) e
     (next_above c.args.ty c.args.constants.now c.args.a.high c.loop-i.stop n c.nearer_above-stop.result c.loop-i.i (omega arith) refl c.requires.low
-    (λ p q. let t = c.nearer_above-stop.ensures.taken (omega (arith, ints)) (omega (arith, ints)) in omega (arith, ints)) (λ p. omega (arith, ints)) (λ p. omega (arith, ints)) so)
+    (λ p q. let t = c.nearer_above-stop.ensures.taken (omega (arith, ints)) (omega (arith, ints)) in omega (arith, ints))
+    (λ p. omega (arith, ints)) (λ p. omega (arith, ints)) so)
 
 pub returns : goal.returns
 returns c = stops_above c.args.ty c.args.constants.now c.args.a.high _ c.loop-i.i (omega arith) c.loop-i.invariant

@@ -19,7 +19,8 @@ loop-i-preserved c =
     let m = to_z-of_z w128 (get_or c.args.constants.now c.loop-i.i (pos 0)) fits in
     subst (λ (v : ℤ). IsSoFarBelow c.args.ty c.args.constants.now c.args.a.low v (c.loop-i.i + 1)) e
     (next_below c.args.ty c.args.constants.now c.args.a.low c.loop-i.stop n c.nearer_below-stop.result c.loop-i.i (omega arith) refl c.requires.high
-    (λ p q. let t = c.nearer_below-stop.ensures.taken (omega (arith, ints)) (omega (arith, ints)) in omega (arith, ints)) (λ p. omega (arith, ints)) (λ p. omega (arith, ints)) so)
+    (λ p q. let t = c.nearer_below-stop.ensures.taken (omega (arith, ints)) (omega (arith, ints)) in omega (arith, ints))
+    (λ p. omega (arith, ints)) (λ p. omega (arith, ints)) so)
 
 pub returns : goal.returns
 returns c = stops_below c.args.ty c.args.constants.now c.args.a.low _ c.loop-i.i (omega arith) c.loop-i.invariant

@@ -14,20 +14,24 @@ exact_sums-requires-clause-second c = limited_of c.args.ty c.args.b (omega (arit
 
 pub returns-then-a : goal.returns-then-a
 returns-then-a c = record {
-  outcome = no_members (operated operator.Add c.args.ty) c.args.ty c.args.a c.args.b c.no_outcome.result (inl (grind (arith, ints))) c.no_outcome.ensures.value c.no_outcome.ensures.fault;
+  outcome = no_members (operated operator.Add c.args.ty) c.args.ty c.args.a c.args.b c.no_outcome.result (inl (grind (arith, ints)))
+      c.no_outcome.ensures.value c.no_outcome.ensures.fault;
   ends = no_ends (operated operator.Add c.args.ty) c.args.a c.args.b c.no_outcome.result.value c.no_outcome.ensures.value;
 }
 
 pub returns-then-b : goal.returns-then-b
 returns-then-b c = record {
-  outcome = no_members (operated operator.Add c.args.ty) c.args.ty c.args.a c.args.b c.no_outcome-then-b.result (inr (grind (arith, ints))) c.no_outcome-then-b.ensures.value c.no_outcome-then-b.ensures.fault;
+  outcome = no_members (operated operator.Add c.args.ty) c.args.ty c.args.a c.args.b c.no_outcome-then-b.result (inr (grind (arith, ints)))
+      c.no_outcome-then-b.ensures.value c.no_outcome-then-b.ensures.fault;
   ends = no_ends (operated operator.Add c.args.ty) c.args.a c.args.b c.no_outcome-then-b.result.value c.no_outcome-then-b.ensures.value;
 }
 
 pub returns-clause-outcome : goal.returns-clause-outcome
 returns-clause-outcome c = span_outcome (λ (x y : ℤ). x +ℤ y) c.args.ty c.args.a c.args.b c.exact_sums.result c.results.result
-    (sum_span c.args.a c.args.b c.exact_sums.result (omega (arith, ints)) (omega (arith, ints)) (omega (arith, ints)) (omega (arith, ints))) c.results.ensures
+    (sum_span c.args.a c.args.b c.exact_sums.result (omega (arith, ints)) (omega (arith, ints)) (omega (arith, ints)) (omega (arith, ints)))
+    c.results.ensures
 
 pub returns-clause-ends : goal.returns-clause-ends
 returns-clause-ends c = span_tight (λ (x y : ℤ). x +ℤ y) c.args.ty c.args.a c.args.b c.exact_sums.result c.results.result
-    (sum_span c.args.a c.args.b c.exact_sums.result (omega (arith, ints)) (omega (arith, ints)) (omega (arith, ints)) (omega (arith, ints))) c.results.ensures
+    (sum_span c.args.a c.args.b c.exact_sums.result (omega (arith, ints)) (omega (arith, ints)) (omega (arith, ints)) (omega (arith, ints)))
+    c.results.ensures

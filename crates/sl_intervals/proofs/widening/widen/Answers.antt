@@ -30,8 +30,10 @@ returns-clause-high_grown c = λ f g h.
 
 pub returns-clause-holds : goal.returns-clause-holds
 returns-clause-holds c = λ z h.
-    let l = widened_low_of c.args.ty c.args.constants.now c.args.old.low c.args.new.low c.widened_low.result c.widened_low.ensures.kept c.widened_low.ensures.fallen in
-    let r = widened_high_of c.args.ty c.args.constants.now c.args.old.high c.args.new.high c.widened_high.result c.widened_high.ensures.kept c.widened_high.ensures.grown in
+    let l = widened_low_of c.args.ty c.args.constants.now c.args.old.low c.args.new.low c.widened_low.result c.widened_low.ensures.kept
+    c.widened_low.ensures.fallen in
+    let r = widened_high_of c.args.ty c.args.constants.now c.args.old.high c.args.new.high c.widened_high.result c.widened_high.ensures.kept
+    c.widened_high.ensures.grown in
     let lo = l.under_old in let ln = l.under_new in let ro = r.over_old in let rn = r.over_new in
     ⊎_elim
     (λ (p : Holds c.args.old z). held_wider c.args.old _ z (omega (arith, ints)) (omega (arith, ints)) p)
@@ -40,20 +42,24 @@ returns-clause-holds c = λ z h.
 
 pub returns-clause-at_least : goal.returns-clause-at_least
 returns-clause-at_least c = λ z one p q.
-    let l = widened_low_of c.args.ty c.args.constants.now c.args.old.low c.args.new.low c.widened_low.result c.widened_low.ensures.kept c.widened_low.ensures.fallen in
+    let l = widened_low_of c.args.ty c.args.constants.now c.args.old.low c.args.new.low c.widened_low.result c.widened_low.ensures.kept
+    c.widened_low.ensures.fallen in
     let k : z ≤ℤ c.widened_low.result = l.keeps z one (omega (arith, ints)) (omega (arith, ints)) in
     inr (omega (arith, ints))
 
 pub returns-clause-at_most : goal.returns-clause-at_most
 returns-clause-at_most c = λ z one p q.
-    let r = widened_high_of c.args.ty c.args.constants.now c.args.old.high c.args.new.high c.widened_high.result c.widened_high.ensures.kept c.widened_high.ensures.grown in
+    let r = widened_high_of c.args.ty c.args.constants.now c.args.old.high c.args.new.high c.widened_high.result c.widened_high.ensures.kept
+    c.widened_high.ensures.grown in
     let k : c.widened_high.result ≤ℤ z = r.keeps z one (omega (arith, ints)) (omega (arith, ints)) in
     inr (omega (arith, ints))
 
 pub returns-clause-within : goal.returns-clause-within
 returns-clause-within c =
-    let l = widened_low_of c.args.ty c.args.constants.now c.args.old.low c.args.new.low c.widened_low.result c.widened_low.ensures.kept c.widened_low.ensures.fallen in
-    let r = widened_high_of c.args.ty c.args.constants.now c.args.old.high c.args.new.high c.widened_high.result c.widened_high.ensures.kept c.widened_high.ensures.grown in
+    let l = widened_low_of c.args.ty c.args.constants.now c.args.old.low c.args.new.low c.widened_low.result c.widened_low.ensures.kept
+    c.widened_low.ensures.fallen in
+    let r = widened_high_of c.args.ty c.args.constants.now c.args.old.high c.args.new.high c.widened_high.result c.widened_high.ensures.kept
+    c.widened_high.ensures.grown in
     let w = within_of c.args.ty c.args.old (omega (arith, ints)) c.requires.old in
     let low = l.within w.low in
     let high = r.within w.high in

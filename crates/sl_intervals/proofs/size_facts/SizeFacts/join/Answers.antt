@@ -11,7 +11,8 @@ loop-i-preserved c =
       len = length-set c.loop-i.both.entries c.loop-i.i _ ∙ c.loop-i.invariant.len;
       done = λ k fact h. ⊎_elim
           (λ (same : k ≡ c.loop-i.i). rw (same, get_or-set_same)
-          (c.shared.ensures fact ∙ ap (λ v. tells v fact && tells (get_or c.args.other.now.entries c.loop-i.i Nothing) fact) (c.loop-i.invariant.rest c.loop-i.i (omega arith))))
+          (c.shared.ensures fact ∙ ap (λ v. tells v fact && tells (get_or c.args.other.now.entries c.loop-i.i Nothing) fact)
+          (c.loop-i.invariant.rest c.loop-i.i (omega arith))))
           (λ (apart : k ≢ c.loop-i.i). rw get_or-set_other (c.loop-i.invariant.done k fact (omega arith)))
           (cases_eq k c.loop-i.i);
       rest = λ k h. let apart : k ≢ c.loop-i.i = omega arith in rw get_or-set_other (c.loop-i.invariant.rest k (omega arith));

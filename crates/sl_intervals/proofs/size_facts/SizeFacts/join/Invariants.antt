@@ -8,6 +8,7 @@ abbrev pub invariant-loop-i : goal.invariant-loop-i
 invariant-loop-i l = record {
   len : length l.both.entries ≡ 768;
   done : (k : ℕ) (fact : SizeFact) → k < l.i
-      → tells (get_or l.both.entries k Nothing) fact ≡ (tells (get_or l.fn.self.entries k Nothing) fact && tells (get_or l.other.entries k Nothing) fact);
+      → tells (get_or l.both.entries k Nothing) fact ≡ (tells (get_or l.fn.self.entries k Nothing) fact && tells
+      (get_or l.other.entries k Nothing) fact);
   rest : (k : ℕ) → l.i ≤ k → get_or l.both.entries k Nothing ≡ get_or l.fn.self.entries k Nothing;
 }
