@@ -27,7 +27,7 @@ fn expressions(rt: HostRuntime) {
 }
 
 #[test]
-fn lists(rt: HostRuntime) {
+fn lists_and_effects(rt: HostRuntime) {
     let tokens = lex(rt.alloc(), b"4, 5 )").expect(&rt, "tokens");
     let mut cursor = Tokens::new(tokens.as_slice());
     let numbers = list(rt.alloc(), &mut cursor, 60);
@@ -36,10 +36,6 @@ fn lists(rt: HostRuntime) {
     let none = list_before(rt.alloc(), &mut cursor, 60, Mark::RightParenthesis);
     let none = none.ok().expect(&rt, "an empty list");
     expect_that(&rt, "no numbers", none.len() == 0);
-}
-
-#[test]
-fn effects(rt: HostRuntime) {
     let tokens = lex(rt.alloc(), b"x = 6 std::cin >> y").expect(&rt, "tokens");
     let mut cursor = Tokens::new(tokens.as_slice());
     let assigned = effect(rt.alloc(), &mut cursor, 60);
