@@ -31,7 +31,7 @@ fn items_and_values_of_base(rt: HostRuntime) {
 }
 
 #[test]
-fn reads_of_base(rt: HostRuntime) {
+fn reads_and_writes_of_base(rt: HostRuntime) {
     let mut files = file_in_memory(rt.alloc(), "a", b"abcdefgh", 5, &[]).expect(&rt, "a file");
     let mut buf = [0u8; 4];
     let count = files.read("a", &mut buf).ok().expect(&rt, "a read");
@@ -40,10 +40,6 @@ fn reads_of_base(rt: HostRuntime) {
     let rest = read_all(rt.alloc(), &mut files, "a", 100).expect(&rt, "the rest");
     expect_bytes(&rt, &rest, b"efgh");
     expect_that(&rt, "no read fails", files.faults() == 0);
-}
-
-#[test]
-fn writes_of_base(rt: HostRuntime) {
     let mut sink = MemSink::new(rt.alloc(), 3, 100, Vec::new(rt.alloc())).expect(&rt, "a sink");
     let count = sink.write(b"abcd").ok().expect(&rt, "a write");
     expect_that(&rt, "three bytes", count == 3);
