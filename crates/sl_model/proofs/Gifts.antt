@@ -22,6 +22,7 @@ use Rattle.sl_model.specs.Shapes.{Shape, no_value, a_number, a_stamp, a_pair, tw
 use Rattle.sl_model.specs.Shapes.{HasShape, IsGiven, HasParts, shape_of_second}
 use Rattle.sl_model.specs.Shapes.{shape_of_result, AllSuit, containers_in}
 use Rattle.sl_model.proofs.Vanishing.{Leaves}
+use Rattle.sl_model.proofs.Growing.{grown}
 use Rattle.sl_model.proofs.Levels.{Level, Now, apart_from_stacks, memory-now, set_iterator-now, Above, now_above, above_less}
 
 -- the stamps of a value are below n
@@ -35,11 +36,6 @@ IsUsed n v = Unit {0}
 abbrev pub AllUsed : ℕ → List Value → Type 0
 AllUsed n [] = Unit {0}
 AllUsed n (v ∷ vs) = IsUsed n v × AllUsed n vs
-
--- as many, or one more
-abbrev pub grown : Bool → ℕ → ℕ
-grown true n = n + 1
-grown false n = n
 
 -- What a call gives: the memory is sound and nothing has vanished, it has as many containers, or one more where the call makes
 -- one, no stamp is unused again, and the value has its shape and a stamp that was used.

@@ -9,6 +9,8 @@ pub mod Vanishing
 pub mod Keeps
 pub mod KeepsRun
 pub mod KeepsCalls
+pub mod Called
+pub mod Growing
 -- ## Scoped texts: each state of a run is good
 pub mod Locations
 pub mod Levels
