@@ -1,9 +1,7 @@
 -- A range-for over a container in scope keeps a state good and at its level.
-use Rattle.std.proofs.Common.{◌≡◌, ℕ, suc, ◌+◌, ◌<◌, ◌≤◌, false, not, List, [], ◌∷◌, ◌++◌, map, Some, None, option_map, length, length-append, ap, sym, ◌∙◌, subst, arith}
-use Rattle.std.specs.Prelude.{slice_get, slice_index}
-use Rattle.std.proofs.lemmas.List.{length-map}
-use Rattle.std.proofs.lemmas.Option.{slice_get-get_or, get_or_from_slice_get, slice_get-map}
-use Rattle.sl_base.specs.declared.form.Form.TheVariants as f
+use Rattle.std.proofs.Common.{◌≡◌, ℕ, suc, ◌+◌, ◌<◌, ◌≤◌, false, not, List, [], ◌∷◌, Some, None, length, ap, sym, ◌∙◌, subst, arith}
+use Rattle.std.specs.Prelude.{slice_index}
+use Rattle.std.proofs.lemmas.Option.{slice_get-get_or}
 use Rattle.sl_base.specs.declared.place.Place.{Place}
 use Rattle.sl_base.specs.declared.scalar.Scalar.TheVariants as t
 use Rattle.sl_syntax.specs.declared.operator.Comparison.TheVariants as c
@@ -11,7 +9,7 @@ use Rattle.sl_syntax.specs.declared.typed.callee.Callee.TheVariants as callees
 use Rattle.sl_syntax.specs.declared.typed.head.Head.{Head}
 use Rattle.sl_syntax.specs.declared.typed.operator.Operator.TheVariants as operators
 use Rattle.sl_model.specs.Numbers.{is_zero}
-use Rattle.sl_model.specs.Containers.{Cell, Cont, Memory, size, stamps, cont_at, stamp_at, begin_of, end_of}
+use Rattle.sl_model.specs.Containers.{Memory, begin_of, end_of}
 use Rattle.sl_model.specs.Values.{Value}
 use Rattle.sl_model.specs.State.{State, cont_of, set_scalar_at, set_iterator_at, new_iterator}
 use Rattle.sl_model.specs.Eval.{World, then_eval, read_at, use_library}
@@ -19,57 +17,16 @@ use Rattle.sl_model.specs.Exec.{Next, Meaning, flow_of, on_number, on_stamp, ask
 use Rattle.sl_model.specs.Good.{IsSound}
 use Rattle.sl_model.specs.Shapes.{Shape, a_number, a_stamp, an_element, a_value, Signature}
 use Rattle.sl_model.specs.Scoped.{one_scalar, one_iterator, with_range, AsksWell}
-use Rattle.sl_model.proofs.Getting.{get_some, get_behind}
+use Rattle.sl_model.proofs.Placing.{place_used, end_used}
 use Rattle.sl_model.proofs.Levels.{Level, counts_of, Now, Above, with_scalar, with_iterator, new_scalar-now, new_iterator-now, set_scalar-now}
 use Rattle.sl_model.proofs.Levels.{set_iterator-now}
 use Rattle.sl_model.proofs.Gifts.{AllUsed, KeepsGood, OutAt, at_then, at_element, gave_as, at_library}
 use Rattle.sl_model.proofs.GoodEffects.{counts_scalar, counts_iterator}
 use Rattle.sl_model.proofs.GoodFlow.{flow_value, flow_number, flow_stamp, flow_turns, Stays}
 
--- a stamp of a container that is there was used
-pub stands_used : (m : Memory) (j k s : ℕ) → IsSound m → j < length m.conts → slice_get (stamps (cont_at m j)) k ≡ Some s → s < m.fresh
-stands_used m j k s sound low stands = sound.stamps_apart.used j k s (stamps (cont_at m j), there, stands)
-  where
-    there : slice_get (map stamps m.conts) j ≡ Some (stamps (cont_at m j))
-    there = slice_get-map stamps m.conts j
-        ∙ ap (option_map stamps) (slice_get-get_or m.conts j (record { form = f.Vector; cells = []; end = m.fresh; room = 0 }) low)
-
--- the end of a container stands at its size
-end_stands : (c : Cont) → slice_get (stamps c) (size c) ≡ Some c.end
-end_stands c = by_length c.cells (size c) (length-map c.cells (λ (x : Cell). x.stamp))
-  where
-    by_length : (cells : List Cell) (n : ℕ) → length (map (λ (x : Cell). x.stamp) cells) ≡ n
-        → slice_get (map (λ (x : Cell). x.stamp) cells ++ c.end ∷ []) n ≡ Some c.end
-    by_length cells n e = ap (slice_get (map (λ (x : Cell). x.stamp) cells ++ c.end ∷ [])) (plus_none n e)
-        ∙ get_behind (map (λ (x : Cell). x.stamp) cells) (c.end ∷ []) 0
-      where
-        plus_none : (n : ℕ) → length (map (λ (x : Cell). x.stamp) cells) ≡ n → n ≡ length (map (λ (x : Cell). x.stamp) cells) + 0
-        plus_none n e = omega arith
-
--- a container holds a stamp at each index up to its size
-place_stands : (c : Cont) (k : ℕ) → k ≤ size c → (s : ℕ) × (slice_get (stamps c) k ≡ Some s)
-place_stands c k low = get_some (stamps c) k (within (length-append (map (λ (x : Cell). x.stamp) c.cells) (c.end ∷ []))
-    (length-map c.cells (λ (x : Cell). x.stamp)))
-  where
-    within : length (stamps c) ≡ length (map (λ (x : Cell). x.stamp) c.cells) + 1 → length (map (λ (x : Cell). x.stamp) c.cells) ≡ size c
-        → k < length (stamps c)
-    within p q = omega arith
-
--- the stamp at an index of a container that is there was used
-pub stamp_at_used : (m : Memory) (j k : ℕ) → IsSound m → j < length m.conts → k ≤ size (cont_at m j) → stamp_at m j k < m.fresh
-stamp_at_used m j k sound low within = by_place (place_stands (cont_at m j) k within)
-  where
-    by_place : (s : ℕ) × (slice_get (stamps (cont_at m j)) k ≡ Some s) → stamp_at m j k < m.fresh
-    by_place r = subst (λ (s : ℕ). s < m.fresh) (sym (get_or_from_slice_get (stamps (cont_at m j)) k r.0 m.fresh r.1))
-        (stands_used m j k r.0 sound low r.1)
-
--- the end of a container that is there was used
-end_used : (m : Memory) (j : ℕ) → IsSound m → j < length m.conts → end_of m j < m.fresh
-end_used m j sound low = stands_used m j (size (cont_at m j)) (end_of m j) sound low (end_stands (cont_at m j))
-
 -- the first place of a container that is there was used
 begin_used : (m : Memory) (j : ℕ) → IsSound m → j < length m.conts → begin_of m j < m.fresh
-begin_used m j sound low = stamp_at_used m j 0 sound low (omega arith)
+begin_used m j sound low = place_used m j 0 sound (record { there = low; within = omega arith })
 
 -- the level in which the loop of a range-for begins
 abbrev pub level_range : Level → Level

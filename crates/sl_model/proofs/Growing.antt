@@ -70,9 +70,9 @@ insert_key-grows : (class : Class) (site j : ℕ) (c : Cont) (x : ℤ × ℤ) (l
 insert_key-grows class site j c x left =
     elim (known_key c x.0) as (λ o. Grows false left.memory (elim o as (λ _. Left) [
       | None ↦ record {
-          memory = after (key_change class c x left.picks) left.memory j c site;
-          picks = after_picks (key_picks c) left.picks;
-        }
+        memory = after (key_change class c x left.picks) left.memory j c site;
+        picks = after_picks (key_picks c) left.picks;
+      }
       | Some k ↦ left
     ]).memory) [
       | None ↦ after-grows (key_change class c x left.picks) left.memory j c site

@@ -11,6 +11,9 @@ pub mod KeepsRun
 pub mod KeepsCalls
 pub mod Called
 pub mod Growing
+pub mod Placing
+pub mod Tells
+pub mod ContainersTell
 -- ## Scoped texts: each state of a run is good
 pub mod Locations
 pub mod Levels
