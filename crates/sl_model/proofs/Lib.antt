@@ -1,1 +1,9 @@
-
+-- ## Containers: which marks stand where
+pub mod Getting
+pub mod Apart
+pub mod Located
+pub mod Columns
+pub mod ColumnLaws
+pub mod Buried
+pub mod OneChange
+pub mod TwoChanges
