@@ -7,3 +7,6 @@ pub mod ColumnLaws
 pub mod Buried
 pub mod OneChange
 pub mod TwoChanges
+pub mod WithEnd
+-- ## What making, ending, writing and changes do to a memory
+pub mod After
