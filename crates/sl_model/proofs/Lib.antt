@@ -10,3 +10,4 @@ pub mod TwoChanges
 pub mod WithEnd
 -- ## What making, ending, writing and changes do to a memory
 pub mod After
+pub mod AfterTwo

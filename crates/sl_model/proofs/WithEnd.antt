@@ -54,18 +54,18 @@ inside_at n n' (y ∷ xs) zero x h at = let e : y ≡ x = cc in rw (← e) h.0
 inside_at n n' (y ∷ xs) (suc p) x h at = inside_at n n' xs p x h.1 at
 
 -- what takes a place takes one inside
-takes_inside : (n n' : ℕ) (x : Source) (k : ℕ) → IsInside n n' x → TakesOwn x k → k < n
+pub takes_inside : (n n' : ℕ) (x : Source) (k : ℕ) → IsInside n n' x → TakesOwn x k → k < n
 takes_inside n n' (old i) k h t = omega arith
 takes_inside n n' (written i z) k h t = omega arith
 takes_inside n n' (theirs i) k h t = absurd t
 takes_inside n n' (new a b) k h t = absurd t
 
 -- the end takes the place behind all elements
-end_takes : (n : ℕ) (x : Source) (k : ℕ) → old n ≡ x → TakesOwn x k → n ≡ k
+pub end_takes : (n : ℕ) (x : Source) (k : ℕ) → old n ≡ x → TakesOwn x k → n ≡ k
 end_takes n x k e t = subst (λ y. TakesOwn y k → n ≡ k) e (λ q. q) t
 
 -- the end takes none of the other container
-end_takes_none : (n : ℕ) (x : Source) (k : ℕ) → old n ≡ x → TakesTheirs x k → ⊥
+pub end_takes_none : (n : ℕ) (x : Source) (k : ℕ) → old n ≡ x → TakesTheirs x k → ⊥
 end_takes_none n x k e t = subst (λ y. TakesTheirs y k → ⊥) e (λ q. q) t
 
 -- the end is no new one
