@@ -1,14 +1,24 @@
--- ## Containers: which stamps stand where
+-- ## Containers: which marks stand where
 pub mod Getting
--- ## What making, ending and writing do to a memory
+pub mod Apart
+pub mod Located
+pub mod Columns
+pub mod ColumnLaws
+pub mod Buried
+pub mod OneChange
+pub mod TwoChanges
+pub mod WithEnd
+-- ## What making, ending, writing and changes do to a memory
+pub mod After
+pub mod AfterTwo
 pub mod Ending
 pub mod Writing
--- ## What a change does to a container and to a memory
 pub mod Vanishing
 -- ## Each row and each library: memory stays sound, and no stamp vanishes
 pub mod Keeps
 pub mod KeepsRun
 pub mod KeepsCalls
+-- ## What each row gives
 pub mod Called
 pub mod Growing
 pub mod Placing
