@@ -24,6 +24,7 @@ pub mod Growing
 pub mod Placing
 pub mod Tells
 pub mod ContainersTell
+pub mod AlgorithmsTell
 -- ## Scoped texts: each state of a run is good
 pub mod Locations
 pub mod Levels
