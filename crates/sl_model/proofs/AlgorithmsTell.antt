@@ -58,7 +58,7 @@ none_right [] ys e = e
 none_right (x ∷ xs) ys e = absurd (cc)
 
 -- where a value stands, a container has a place
-place_there : (m : Memory) (v : Value) (p : ℕ × ℕ) → place_in m v ≡ Some p → HasPlace m p.0 p.1
+pub place_there : (m : Memory) (v : Value) (p : ℕ × ℕ) → place_in m v ≡ Some p → HasPlace m p.0 p.1
 place_there m nothing p e = absurd (cc)
 place_there m (number z) p e = absurd (cc)
 place_there m (iterator s) p e =
@@ -77,7 +77,7 @@ place_there m (container_at l) p e = absurd (cc)
 place_there m (element_at i j part) p e = absurd (cc)
 
 -- a value that stands somewhere stands in its container
-container_there : (m : Memory) (v : Value) (p : ℕ × ℕ) → place_in m v ≡ Some p → container_of_value m v ≡ p.0
+pub container_there : (m : Memory) (v : Value) (p : ℕ × ℕ) → place_in m v ≡ Some p → container_of_value m v ≡ p.0
 container_there m nothing p e = absurd (cc)
 container_there m (number z) p e = absurd (cc)
 container_there m (iterator s) p e = cc
@@ -189,7 +189,7 @@ overwritten-length k [] = refl
 overwritten-length k (x ∷ xs) = ap suc (overwritten-length (k + 1) xs)
 
 -- a container whose keys are written over has a place behind the last of these
-overwrites-place : (m : Memory) (j : ℕ) (own : Cont) (site from n : ℕ) (xs : List ℤ) → j < length m.conts → n ≤ length xs
+pub overwrites-place : (m : Memory) (j : ℕ) (own : Cont) (site from n : ℕ) (xs : List ℤ) → j < length m.conts → n ≤ length xs
     → HasPlace (after (overwrites from xs own) m j (cont_at m j) site) j (from + n)
 overwrites-place m j own site from n xs low few = after-place (overwrites from xs own) m j (cont_at m j) site (from + n) low
     (let p = length-append (olds 0 from) (overwritten from xs ++ olds (from + length xs) (size own - (from + length xs))) in

@@ -25,6 +25,7 @@ pub mod Placing
 pub mod Tells
 pub mod ContainersTell
 pub mod AlgorithmsTell
+pub mod OutputsTell
 -- ## Scoped texts: each state of a run is good
 pub mod Locations
 pub mod Levels
