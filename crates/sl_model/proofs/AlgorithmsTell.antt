@@ -88,7 +88,7 @@ container_there m (container_at l) p e = absurd (cc)
 container_there m (element_at i j part) p e = absurd (cc)
 
 -- the place of the first operand is one of the object
-first_place : (s : Situation) (p : ℕ × ℕ) → HasObject of_first s → place_of s 1 ≡ Some p → HasPlace s.memory s.object (index s 1)
+pub first_place : (s : Situation) (p : ℕ × ℕ) → HasObject of_first s → place_of s 1 ≡ Some p → HasPlace s.memory s.object (index s 1)
 first_place s p there e =
     let j : s.object ≡ p.0 = there ∙ container_there s.memory (argument s 1) p e in
     let k : index s 1 ≡ p.1 = cc in
@@ -109,7 +109,7 @@ one_container p q a e = by_test (p.0 == q.0) refl e
     by_test false t h = absurd (cc)
 
 -- the first two operands stand in one container
-record IsRange (s : Situation) : Type 0 where
+pub record IsRange (s : Situation) : Type 0 where
   pub from : ℕ × ℕ
   pub to : ℕ × ℕ
   pub from_there : place_of s 1 ≡ Some from
@@ -133,12 +133,12 @@ range_stands s e =
     }
 
 -- and where no failure of a call is the first, and its range is its first need
-first_range : (s : Situation) (xs ys : List (ℕ × ℕ)) → first_failure ((one_range_fails false s 1 ++ xs) ++ ys) ≡ None → IsRange s
+pub first_range : (s : Situation) (xs ys : List (ℕ × ℕ)) → first_failure ((one_range_fails false s 1 ++ xs) ++ ys) ≡ None → IsRange s
 first_range s xs ys e = range_stands s (none_left (one_range_fails false s 1) xs (none_left (one_range_fails false s 1 ++ xs) ys
     (no_failure ((one_range_fails false s 1 ++ xs) ++ ys) e)))
 
 -- a place along the range
-along_range : (s : Situation) (n : ℕ) → HasObject of_first s → IsRange s → n ≤ range_size s 1 → HasPlace s.memory s.object (index s 1 + n)
+pub along_range : (s : Situation) (n : ℕ) → HasObject of_first s → IsRange s → n ≤ range_size s 1 → HasPlace s.memory s.object (index s 1 + n)
 along_range s n there r low =
     let h = first_place s r.from there r.from_there in
     let j : s.object ≡ r.from.0 = there ∙ container_there s.memory (argument s 1) r.from r.from_there in
@@ -149,11 +149,11 @@ along_range s n there r low =
     record { there = h.there; within = omega arith }
 
 -- as many keys as the range has at most
-range_keys-low : (s : Situation) → length (range_keys s 1) ≤ range_size s 1
+pub range_keys-low : (s : Situation) → length (range_keys s 1) ≤ range_size s 1
 range_keys-low s = range-length (index s 1) (index s 2) (keys (their s 1))
 
 -- the place of a key in the range, or its end
-in_range-low : (s : Situation) (z : ℤ) → place_or (range_size s 1) (index_of_key z (range_keys s 1)) ≤ range_size s 1
+pub in_range-low : (s : Situation) (z : ℤ) → place_or (range_size s 1) (index_of_key z (range_keys s 1)) ≤ range_size s 1
 in_range-low s z = by_place (index_of_key z (range_keys s 1)) (first_of_key-low z 0 (range_keys s 1))
   where
     by_place : (o : Option ℕ) → ((k : ℕ) → o ≡ Some k → k < 0 + length (range_keys s 1)) → place_or (range_size s 1) o ≤ range_size s 1
@@ -161,7 +161,7 @@ in_range-low s z = by_place (index_of_key z (range_keys s 1)) (first_of_key-low 
     by_place (Some k) h = let p = h k refl in let q = range_keys-low s in omega arith
 
 -- how many keys of the range pass a test
-passing-low : (s : Situation) (test : ℤ → Bool) → how_many test (range_keys s 1) ≤ range_size s 1
+pub passing-low : (s : Situation) (test : ℤ → Bool) → how_many test (range_keys s 1) ≤ range_size s 1
 passing-low s test = let p = how_many-low test (range_keys s 1) in let q = range_keys-low s in omega arith
 
 -- the place of the best
@@ -175,11 +175,11 @@ best_place-low beats best at i (x ∷ xs) h =
     by_test p q true = omega arith
     by_test p q false = omega arith
 
-least_place-low : (xs : List ℤ) → least_place xs ≤ length xs
+pub least_place-low : (xs : List ℤ) → least_place xs ≤ length xs
 least_place-low [] = omega arith
 least_place-low (x ∷ xs) = let r = best_place-low (λ a b. int_lt a b) x 0 1 xs (omega arith) in omega arith
 
-greatest_place-low : (xs : List ℤ) → greatest_place xs ≤ length xs
+pub greatest_place-low : (xs : List ℤ) → greatest_place xs ≤ length xs
 greatest_place-low [] = omega arith
 greatest_place-low (x ∷ xs) = let r = best_place-low (λ a b. int_lt b a) x 0 1 xs (omega arith) in omega arith
 

@@ -26,6 +26,7 @@ pub mod Tells
 pub mod ContainersTell
 pub mod AlgorithmsTell
 pub mod OutputsTell
+pub mod AlgorithmRowsTell
 -- ## Scoped texts: each state of a run is good
 pub mod Locations
 pub mod Levels

@@ -3,14 +3,15 @@ use Rattle.std.proofs.Common.{◌≡◌, ℕ, ◌+◌, ◌-◌, ◌<◌, ◌≤�
 use Rattle.std.specs.Prelude.{ℤ, slice_index_or}
 use Rattle.sl_base.specs.declared.form.Form.{Form}
 use Rattle.sl_specs.specs.declared.class.Class.{Class}
+use Rattle.sl_specs.specs.declared.need.Need.TheVariants as n
 use Rattle.sl_specs.specs.Rows.{Row as TableRow}
 use Rattle.sl_model.specs.Containers.{Memory}
 use Rattle.sl_model.specs.Values.{Value, nothing, number, iterator, pair, two, scalar_at, container_at, element_at, Shape, no_value, a_stamp}
 use Rattle.sl_model.specs.Operands.{Sort, an_iterator, a_writer, a_sequence, is_of, are_of}
 use Rattle.sl_model.specs.Situation.{Situation, argument, place_of, index, container_of, their}
-use Rattle.sl_model.specs.Needs.{output_place_fails, output_fails, first_failure}
+use Rattle.sl_model.specs.Needs.{output_place_fails, output_fails, failures, all_failures, first_failure}
 use Rattle.sl_model.specs.Effects.{does}
-use Rattle.sl_model.specs.WritingAlgorithms.{outputs, after_output}
+use Rattle.sl_model.specs.WritingAlgorithms.{output, outputs, after_output}
 use Rattle.sl_model.proofs.Growing.{makes_one}
 use Rattle.sl_model.proofs.Placing.{IsPlaced}
 use Rattle.sl_model.proofs.Tells.{shape_of_answer}
@@ -120,21 +121,20 @@ appender-tells class form s (container_at l) xs w = (refl, refl, tt)
 appender-tells class form s (element_at i j part) xs w = absurd (cc)
 
 -- the output's need is the second of two
-pub second_of_two : (r : TableRow) (class : Class) (form : Form) (s : Situation) (v : Value) (xs : List ℤ) (fs : List (ℕ × ℕ))
-    → is_of s.memory a_writer v ≡ true → first_failure (fs ++ (output_fails r s (length s.values) v ++ [])) ≡ None
-    → OutputTells a_stamp class form s v xs
-second_of_two r class form s v xs fs w e =
-    let none = none_right fs (output_fails r s (length s.values) v ++ []) (no_failure (fs ++ (output_fails r s (length s.values) v ++ [])) e) in
-    let p = output_stands r s (length s.values) v w (none_left (output_fails r s (length s.values) v) [] none) in
-    writer-tells class form s v xs p.0 w p.1
+pub second_of_two : (r : TableRow) (class : Class) (form : Form) (s : Situation) (xs : List ℤ) → is_of s.memory a_writer (output s) ≡ true
+    → first_failure (all_failures r (n.OneRange ∷ n.OutputFits ∷ []) s) ≡ None → OutputTells a_stamp class form s (output s) xs
+second_of_two r class form s xs w e =
+    let fits = none_right (failures r s n.OneRange) (failures r s n.OutputFits ++ [])
+        (no_failure (all_failures r (n.OneRange ∷ n.OutputFits ∷ []) s) e) in
+    let p = output_stands r s (length s.values) (output s) w (none_left (failures r s n.OutputFits) [] fits) in
+    writer-tells class form s (output s) xs p.0 w p.1
 
 -- or the last of three
-pub last_of_three : (r : TableRow) (class : Class) (form : Form) (s : Situation) (v : Value) (xs : List ℤ) (fs gs : List (ℕ × ℕ))
-    → is_of s.memory a_writer v ≡ true → first_failure (fs ++ (gs ++ (output_fails r s (length s.values) v ++ []))) ≡ None
-    → OutputTells a_stamp class form s v xs
-last_of_three r class form s v xs fs gs w e =
-    let none = none_right fs (gs ++ (output_fails r s (length s.values) v ++ []))
-        (no_failure (fs ++ (gs ++ (output_fails r s (length s.values) v ++ []))) e) in
-    let last = none_right gs (output_fails r s (length s.values) v ++ []) none in
-    let p = output_stands r s (length s.values) v w (none_left (output_fails r s (length s.values) v) [] last) in
-    writer-tells class form s v xs p.0 w p.1
+pub last_of_three : (r : TableRow) (class : Class) (form : Form) (s : Situation) (xs : List ℤ) → is_of s.memory a_writer (output s) ≡ true
+    → first_failure (all_failures r (n.OneRange ∷ n.RangesSorted ∷ n.OutputFits ∷ []) s) ≡ None → OutputTells a_stamp class form s (output s) xs
+last_of_three r class form s xs w e =
+    let rest = none_right (failures r s n.OneRange) (failures r s n.RangesSorted ++ (failures r s n.OutputFits ++ []))
+        (no_failure (all_failures r (n.OneRange ∷ n.RangesSorted ∷ n.OutputFits ∷ []) s) e) in
+    let fits = none_right (failures r s n.RangesSorted) (failures r s n.OutputFits ++ []) rest in
+    let p = output_stands r s (length s.values) (output s) w (none_left (failures r s n.OutputFits) [] fits) in
+    writer-tells class form s (output s) xs p.0 w p.1
