@@ -50,59 +50,155 @@ set_row call = algorithm call (a.IntRange ∷ a.SecondIntRange ∷ a.Output ∷ 
 
 -- each algorithm whose output is written through
 pub algorithm-tells : AllOf (λ r. RowTells (algorithm_row false r)) algorithm_rows
-algorithm-tells = ((λ s h none. tells refl refl (along_range s _ h.object (first_range s _ _ none) (in_range-low s (int_of s 3)))),
-    ((λ s h none. tells refl refl tt),
-    ((λ s h none. tells refl refl tt),
-    ((λ s h none. tells refl refl (along_range s _ h.object (first_range s _ _ none) (passing-low s (λ y. int_lt y (int_of s 3))))),
-    ((λ s h none. tells refl refl (along_range s _ h.object (first_range s _ _ none) (passing-low s (λ y. int_le y (int_of s 3))))),
-    ((λ s h none. tells refl refl tt),
-    ((λ s h none. let t = last_of_three (set_row c.Merge) classes.Nothing (own s).form s (written_keys c.Merge s) (writer_of_five s.memory s.values h.operands) none in tells t.0 t.1 t.2),
-    ((λ s h none. tells refl refl tt),
-    ((λ s h none. let t = last_of_three (set_row c.SetUnion) classes.Nothing (own s).form s (written_keys c.SetUnion s) (writer_of_five s.memory s.values h.operands) none in tells t.0 t.1 t.2),
-    ((λ s h none. let t = last_of_three (set_row c.SetIntersection) classes.Nothing (own s).form s (written_keys c.SetIntersection s) (writer_of_five s.memory s.values h.operands) none in tells t.0 t.1 t.2),
-    ((λ s h none. let t = last_of_three (set_row c.SetDifference) classes.Nothing (own s).form s (written_keys c.SetDifference s) (writer_of_five s.memory s.values h.operands) none in tells t.0 t.1 t.2),
-    ((λ s h none. let t = second_of_two copy_row classes.Nothing (own s).form s (written_keys c.Copy s) (writer_of_three s.memory s.values h.operands) none in tells t.0 t.1 t.2),
-    ((λ s h none. tells refl refl tt),
-    ((λ s h none. tells refl refl tt),
-    ((λ s h none. tells refl refl (shortened-place s s.site (firsts (range_keys s 1)) _ h.object (first_range s _ _ none))),
-    ((λ s h none. tells refl refl (shortened-place s s.site (others (int_of s 3) (range_keys s 1)) _ h.object (first_range s _ _ none))),
-    ((λ s h none. tells refl refl tt),
-    ((λ s h none. tells refl refl tt),
-    ((λ s h none. let p = movable s.memory (place_of s 1) (steps_of c.Advance s) [] none in tells refl refl (stepped-place s (steps_of c.Advance s) p.0 h.object p.1)),
-    ((λ s h none. let p = movable s.memory (place_of s 1) (steps_of c.Next s) [] none in tells refl refl (stepped-place s (steps_of c.Next s) p.0 h.object p.1)),
-    ((λ s h none. let p = movable s.memory (place_of s 1) (steps_of c.Prev s) [] none in tells refl refl (stepped-place s (steps_of c.Prev s) p.0 h.object p.1)),
-    ((λ s h none. tells refl refl (along_range s _ h.object (first_range s _ _ none) (shorter s _ (least_place-low (range_keys s 1))))),
-    ((λ s h none. tells refl refl (along_range s _ h.object (first_range s _ _ none) (shorter s _ (greatest_place-low (range_keys s 1))))),
-    ((λ s h none. tells refl refl tt),
-    tt))))))))))))))))))))))))
+algorithm-tells = (
+  (λ s h none. tells refl refl (along_range s _ h.object (first_range s _ _ none) (in_range-low s (int_of s 3)))),
+  (
+    (λ s h none. tells refl refl tt),
+    (
+      (λ s h none. tells refl refl tt),
+      (
+        (λ s h none. tells refl refl (along_range s _ h.object (first_range s _ _ none) (passing-low s (λ y. int_lt y (int_of s 3))))),
+        (
+          (λ s h none. tells refl refl (along_range s _ h.object (first_range s _ _ none) (passing-low s (λ y. int_le y (int_of s 3))))),
+          (
+            (λ s h none. tells refl refl tt),
+            (
+              (λ s h none. let t = last_of_three (set_row c.Merge) classes.Nothing (own s).form s (written_keys c.Merge s) (writer_of_five s.memory s.values h.operands) none in tells t.0 t.1 t.2),
+              (
+                (λ s h none. tells refl refl tt),
+                (
+                  (λ s h none. let t = last_of_three (set_row c.SetUnion) classes.Nothing (own s).form s (written_keys c.SetUnion s) (writer_of_five s.memory s.values h.operands) none in tells t.0 t.1 t.2),
+                  (
+                    (λ s h none. let t = last_of_three (set_row c.SetIntersection) classes.Nothing (own s).form s (written_keys c.SetIntersection s) (writer_of_five s.memory s.values h.operands) none in tells t.0 t.1 t.2),
+                    (
+                      (λ s h none. let t = last_of_three (set_row c.SetDifference) classes.Nothing (own s).form s (written_keys c.SetDifference s) (writer_of_five s.memory s.values h.operands) none in tells t.0 t.1 t.2),
+                      (
+                        (λ s h none. let t = second_of_two copy_row classes.Nothing (own s).form s (written_keys c.Copy s) (writer_of_three s.memory s.values h.operands) none in tells t.0 t.1 t.2),
+                        (
+                          (λ s h none. tells refl refl tt),
+                          (
+                            (λ s h none. tells refl refl tt),
+                            (
+                              (λ s h none. tells refl refl (shortened-place s s.site (firsts (range_keys s 1)) _ h.object (first_range s _ _ none))),
+                              (
+                                (λ s h none. tells refl refl (shortened-place s s.site (others (int_of s 3) (range_keys s 1)) _ h.object (first_range s _ _ none))),
+                                (
+                                  (λ s h none. tells refl refl tt),
+                                  (
+                                    (λ s h none. tells refl refl tt),
+                                    (
+                                      (λ s h none. let p = movable s.memory (place_of s 1) (steps_of c.Advance s) [] none in tells refl refl (stepped-place s (steps_of c.Advance s) p.0 h.object p.1)),
+                                      (
+                                        (λ s h none. let p = movable s.memory (place_of s 1) (steps_of c.Next s) [] none in tells refl refl (stepped-place s (steps_of c.Next s) p.0 h.object p.1)),
+                                        (
+                                          (λ s h none. let p = movable s.memory (place_of s 1) (steps_of c.Prev s) [] none in tells refl refl (stepped-place s (steps_of c.Prev s) p.0 h.object p.1)),
+                                          (
+                                            (λ s h none. tells refl refl (along_range s _ h.object (first_range s _ _ none) (shorter s _ (least_place-low (range_keys s 1))))),
+                                            (
+                                              (λ s h none. tells refl refl (along_range s _ h.object (first_range s _ _ none) (shorter s _ (greatest_place-low (range_keys s 1))))),
+                                              (
+                                                (λ s h none. tells refl refl tt),
+                                                tt,
+                                              ),
+                                            ),
+                                          ),
+                                        ),
+                                      ),
+                                    ),
+                                  ),
+                                ),
+                              ),
+                            ),
+                          ),
+                        ),
+                      ),
+                    ),
+                  ),
+                ),
+              ),
+            ),
+          ),
+        ),
+      ),
+    ),
+  ),
+)
 
 -- each algorithm whose output is an appender
 pub appending-tells : AllOf (λ r. RowTells (algorithm_row true r)) algorithm_rows
-appending-tells = ((λ s h none. tells refl refl (along_range s _ h.object (first_range s _ _ none) (in_range-low s (int_of s 3)))),
-    ((λ s h none. tells refl refl tt),
-    ((λ s h none. tells refl refl tt),
-    ((λ s h none. tells refl refl (along_range s _ h.object (first_range s _ _ none) (passing-low s (λ y. int_lt y (int_of s 3))))),
-    ((λ s h none. tells refl refl (along_range s _ h.object (first_range s _ _ none) (passing-low s (λ y. int_le y (int_of s 3))))),
-    ((λ s h none. tells refl refl tt),
-    ((λ s h none. let t = appender-tells classes.Nothing (own s).form s (output s) (written_keys c.Merge s) (sequence_of_five s.memory s.values h.operands) in tells t.0 t.1 t.2),
-    ((λ s h none. tells refl refl tt),
-    ((λ s h none. let t = appender-tells classes.Nothing (own s).form s (output s) (written_keys c.SetUnion s) (sequence_of_five s.memory s.values h.operands) in tells t.0 t.1 t.2),
-    ((λ s h none. let t = appender-tells classes.Nothing (own s).form s (output s) (written_keys c.SetIntersection s) (sequence_of_five s.memory s.values h.operands) in tells t.0 t.1 t.2),
-    ((λ s h none. let t = appender-tells classes.Nothing (own s).form s (output s) (written_keys c.SetDifference s) (sequence_of_five s.memory s.values h.operands) in tells t.0 t.1 t.2),
-    ((λ s h none. let t = appender-tells classes.Nothing (own s).form s (output s) (written_keys c.Copy s) (sequence_of_three s.memory s.values h.operands) in tells t.0 t.1 t.2),
-    ((λ s h none. tells refl refl tt),
-    ((λ s h none. tells refl refl tt),
-    ((λ s h none. tells refl refl (shortened-place s s.site (firsts (range_keys s 1)) _ h.object (first_range s _ _ none))),
-    ((λ s h none. tells refl refl (shortened-place s s.site (others (int_of s 3) (range_keys s 1)) _ h.object (first_range s _ _ none))),
-    ((λ s h none. tells refl refl tt),
-    ((λ s h none. tells refl refl tt),
-    ((λ s h none. let p = movable s.memory (place_of s 1) (steps_of c.Advance s) [] none in tells refl refl (stepped-place s (steps_of c.Advance s) p.0 h.object p.1)),
-    ((λ s h none. let p = movable s.memory (place_of s 1) (steps_of c.Next s) [] none in tells refl refl (stepped-place s (steps_of c.Next s) p.0 h.object p.1)),
-    ((λ s h none. let p = movable s.memory (place_of s 1) (steps_of c.Prev s) [] none in tells refl refl (stepped-place s (steps_of c.Prev s) p.0 h.object p.1)),
-    ((λ s h none. tells refl refl (along_range s _ h.object (first_range s _ _ none) (shorter s _ (least_place-low (range_keys s 1))))),
-    ((λ s h none. tells refl refl (along_range s _ h.object (first_range s _ _ none) (shorter s _ (greatest_place-low (range_keys s 1))))),
-    ((λ s h none. tells refl refl tt),
-    tt))))))))))))))))))))))))
+appending-tells = (
+  (λ s h none. tells refl refl (along_range s _ h.object (first_range s _ _ none) (in_range-low s (int_of s 3)))),
+  (
+    (λ s h none. tells refl refl tt),
+    (
+      (λ s h none. tells refl refl tt),
+      (
+        (λ s h none. tells refl refl (along_range s _ h.object (first_range s _ _ none) (passing-low s (λ y. int_lt y (int_of s 3))))),
+        (
+          (λ s h none. tells refl refl (along_range s _ h.object (first_range s _ _ none) (passing-low s (λ y. int_le y (int_of s 3))))),
+          (
+            (λ s h none. tells refl refl tt),
+            (
+              (λ s h none. let t = appender-tells classes.Nothing (own s).form s (output s) (written_keys c.Merge s) (sequence_of_five s.memory s.values h.operands) in tells t.0 t.1 t.2),
+              (
+                (λ s h none. tells refl refl tt),
+                (
+                  (λ s h none. let t = appender-tells classes.Nothing (own s).form s (output s) (written_keys c.SetUnion s) (sequence_of_five s.memory s.values h.operands) in tells t.0 t.1 t.2),
+                  (
+                    (λ s h none. let t = appender-tells classes.Nothing (own s).form s (output s) (written_keys c.SetIntersection s) (sequence_of_five s.memory s.values h.operands) in tells t.0 t.1 t.2),
+                    (
+                      (λ s h none. let t = appender-tells classes.Nothing (own s).form s (output s) (written_keys c.SetDifference s) (sequence_of_five s.memory s.values h.operands) in tells t.0 t.1 t.2),
+                      (
+                        (λ s h none. let t = appender-tells classes.Nothing (own s).form s (output s) (written_keys c.Copy s) (sequence_of_three s.memory s.values h.operands) in tells t.0 t.1 t.2),
+                        (
+                          (λ s h none. tells refl refl tt),
+                          (
+                            (λ s h none. tells refl refl tt),
+                            (
+                              (λ s h none. tells refl refl (shortened-place s s.site (firsts (range_keys s 1)) _ h.object (first_range s _ _ none))),
+                              (
+                                (λ s h none. tells refl refl (shortened-place s s.site (others (int_of s 3) (range_keys s 1)) _ h.object (first_range s _ _ none))),
+                                (
+                                  (λ s h none. tells refl refl tt),
+                                  (
+                                    (λ s h none. tells refl refl tt),
+                                    (
+                                      (λ s h none. let p = movable s.memory (place_of s 1) (steps_of c.Advance s) [] none in tells refl refl (stepped-place s (steps_of c.Advance s) p.0 h.object p.1)),
+                                      (
+                                        (λ s h none. let p = movable s.memory (place_of s 1) (steps_of c.Next s) [] none in tells refl refl (stepped-place s (steps_of c.Next s) p.0 h.object p.1)),
+                                        (
+                                          (λ s h none. let p = movable s.memory (place_of s 1) (steps_of c.Prev s) [] none in tells refl refl (stepped-place s (steps_of c.Prev s) p.0 h.object p.1)),
+                                          (
+                                            (λ s h none. tells refl refl (along_range s _ h.object (first_range s _ _ none) (shorter s _ (least_place-low (range_keys s 1))))),
+                                            (
+                                              (λ s h none. tells refl refl (along_range s _ h.object (first_range s _ _ none) (shorter s _ (greatest_place-low (range_keys s 1))))),
+                                              (
+                                                (λ s h none. tells refl refl tt),
+                                                tt,
+                                              ),
+                                            ),
+                                          ),
+                                        ),
+                                      ),
+                                    ),
+                                  ),
+                                ),
+                              ),
+                            ),
+                          ),
+                        ),
+                      ),
+                    ),
+                  ),
+                ),
+              ),
+            ),
+          ),
+        ),
+      ),
+    ),
+  ),
+)
 
 -- the iterator that an operator moves stands somewhere
 moved-stands : (m : Memory) (o : Option (ℕ × ℕ)) (z : ℤ) → first_failure (step_fails m o z) ≡ None → (p : ℕ × ℕ) × (o ≡ Some p)

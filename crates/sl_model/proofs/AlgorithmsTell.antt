@@ -144,7 +144,7 @@ along_range s n there r low =
     let j : s.object ≡ r.from.0 = there ∙ container_there s.memory (argument s 1) r.from r.from_there in
     let k : index s 2 ≡ r.to.1 = ap index_in r.to_there in
     let q : r.to.1 ≤ size (cont_at s.memory s.object) = subst (λ (i : ℕ). r.to.1 ≤ size (cont_at s.memory i)) (sym (j ∙ r.one))
-        (place_there s.memory (argument s 2) r.to r.to_there).within in
+    (place_there s.memory (argument s 2) r.to r.to_there).within in
     let p : index s 1 ≤ size (cont_at s.memory s.object) = h.within in
     record { there = h.there; within = omega arith }
 

@@ -38,6 +38,8 @@ pub mod GoodRange
 pub mod GoodExec
 pub mod GoodBinding
 pub mod GoodCalls
+pub mod LibrarySound
+pub mod LibraryGood
 -- ## A run with more steps
 pub mod Longer
 pub mod LongerExec

@@ -80,7 +80,6 @@ output_stands r s a (iterator t) w e = by_place (place_of s a) e
     by_place : (o : Option (ℕ × ℕ)) → output_place_fails r s a o ≡ [] → (p : ℕ × ℕ) × (o ≡ Some p)
     by_place None h = absurd (cc)
     by_place (Some p) h = (p, refl)
-
 output_stands r s a (pair t b) w e = absurd (cc)
 output_stands r s a (two t u) w e = absurd (cc)
 output_stands r s a (scalar_at l) w e = absurd (cc)
@@ -97,11 +96,14 @@ writer-tells : (class : Class) (form : Form) (s : Situation) (v : Value) (xs : L
     → place_of s (length s.values) ≡ Some p → OutputTells a_stamp class form s v xs
 writer-tells class form s nothing xs p w e = absurd (cc)
 writer-tells class form s (number z) xs p w e = absurd (cc)
-writer-tells class form s (iterator t) xs p w e = 
+writer-tells class form s (iterator t) xs p w e =
     let h = place_there s.memory (argument s (length s.values)) p e in
-    let j : container_of s (length s.values) ≡ p.0 = container_there s.memory (argument s (length s.values)) p e in
-    (refl, refl, overwrites-place s.memory (container_of s (length s.values)) (their s (length s.values)) s.site (index s (length s.values))
-    (length xs) xs (subst (λ (i : ℕ). i < length s.memory.conts) (sym j) h.there) (omega arith))
+    let j : container_of s (length s.values) ≡ p.0 = container_there s.memory (argument s (length s.values)) p e in (
+      refl,
+      refl,
+      overwrites-place s.memory (container_of s (length s.values)) (their s (length s.values)) s.site (index s (length s.values))
+          (length xs) xs (subst (λ (i : ℕ). i < length s.memory.conts) (sym j) h.there) (omega arith),
+    )
 writer-tells class form s (pair t b) xs p w e = absurd (cc)
 writer-tells class form s (two t u) xs p w e = absurd (cc)
 writer-tells class form s (scalar_at l) xs p w e = absurd (cc)
@@ -125,7 +127,7 @@ pub second_of_two : (r : TableRow) (class : Class) (form : Form) (s : Situation)
     → first_failure (all_failures r (n.OneRange ∷ n.OutputFits ∷ []) s) ≡ None → OutputTells a_stamp class form s (output s) xs
 second_of_two r class form s xs w e =
     let fits = none_right (failures r s n.OneRange) (failures r s n.OutputFits ++ [])
-        (no_failure (all_failures r (n.OneRange ∷ n.OutputFits ∷ []) s) e) in
+    (no_failure (all_failures r (n.OneRange ∷ n.OutputFits ∷ []) s) e) in
     let p = output_stands r s (length s.values) (output s) w (none_left (failures r s n.OutputFits) [] fits) in
     writer-tells class form s (output s) xs p.0 w p.1
 
@@ -134,7 +136,7 @@ pub last_of_three : (r : TableRow) (class : Class) (form : Form) (s : Situation)
     → first_failure (all_failures r (n.OneRange ∷ n.RangesSorted ∷ n.OutputFits ∷ []) s) ≡ None → OutputTells a_stamp class form s (output s) xs
 last_of_three r class form s xs w e =
     let rest = none_right (failures r s n.OneRange) (failures r s n.RangesSorted ++ (failures r s n.OutputFits ++ []))
-        (no_failure (all_failures r (n.OneRange ∷ n.RangesSorted ∷ n.OutputFits ∷ []) s) e) in
+    (no_failure (all_failures r (n.OneRange ∷ n.RangesSorted ∷ n.OutputFits ∷ []) s) e) in
     let fits = none_right (failures r s n.RangesSorted) (failures r s n.OutputFits ++ []) rest in
     let p = output_stands r s (length s.values) (output s) w (none_left (failures r s n.OutputFits) [] fits) in
     writer-tells class form s (output s) xs p.0 w p.1
