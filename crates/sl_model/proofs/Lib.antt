@@ -11,3 +11,5 @@ pub mod WithEnd
 -- ## What making, ending, writing and changes do to a memory
 pub mod After
 pub mod AfterTwo
+pub mod Making
+pub mod Writing
