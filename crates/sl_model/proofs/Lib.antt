@@ -13,3 +13,4 @@ pub mod After
 pub mod AfterTwo
 pub mod Making
 pub mod Writing
+pub mod Ending
