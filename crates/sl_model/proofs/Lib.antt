@@ -14,3 +14,4 @@ pub mod AfterTwo
 pub mod Making
 pub mod Writing
 pub mod Ending
+pub mod Places
