@@ -15,3 +15,4 @@ pub mod Making
 pub mod Writing
 pub mod Ending
 pub mod Places
+pub mod Counts
