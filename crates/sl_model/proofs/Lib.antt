@@ -11,8 +11,11 @@ pub mod WithEnd
 -- ## What making, ending, writing and changes do to a memory
 pub mod After
 pub mod AfterTwo
-pub mod Ending
+pub mod Making
 pub mod Writing
+pub mod Ending
+pub mod Places
+pub mod Counts
 pub mod Vanishing
 -- ## Each row and each library: memory stays sound, and no stamp vanishes
 pub mod Keeps
