@@ -43,7 +43,11 @@ pub mod GoodBinding
 pub mod GoodCalls
 pub mod LibrarySound
 pub mod LibraryGood
+pub mod RunSound
+pub mod RunGood
 -- ## A run with more steps
 pub mod Longer
 pub mod LongerExec
 pub mod LongerCalls
+-- ## Worked examples
+pub mod Examples
