@@ -16,3 +16,4 @@ pub mod Writing
 pub mod Ending
 pub mod Places
 pub mod Counts
+pub mod FairChanges
