@@ -21,17 +21,17 @@ use Rattle.sl_model.proofs.Counts.{their-news, own-overwritten, their-overwritte
 use Rattle.sl_model.proofs.Counts.{length-scattered, length-put, times-cut, times-outside, times-numbers, three_parts}
 
 -- the places of olds
-own_olds : (k i n : ℕ) → times k (own_places (olds i n)) ≡ times k (numbers i n)
+pub own_olds : (k i n : ℕ) → times k (own_places (olds i n)) ≡ times k (numbers i n)
 own_olds k i n = ap (times k) (own-old (numbers i n))
 
-their_olds : (k i n : ℕ) → times k (their_places (olds i n)) ≡ 0
+pub their_olds : (k i n : ℕ) → times k (their_places (olds i n)) ≡ 0
 their_olds k i n = ap (times k) (their-old (numbers i n))
 
 -- how many olds there are
-length_olds : (i n : ℕ) → length (olds i n) ≡ n
+pub length_olds : (i n : ℕ) → length (olds i n) ≡ n
 length_olds i n = length-map (λ k. old k) (numbers i n) ∙ length-numbers i n
 
-length_append : {A : Type 0} (xs ys : List A) → length (xs ++ ys) ≡ length xs + length ys
+pub length_append : {A : Type 0} (xs ys : List A) → length (xs ++ ys) ≡ length xs + length ys
 length_append [] ys = omega arith
 length_append (x ∷ xs) ys = let r = length_append xs ys in omega arith
 
@@ -148,7 +148,7 @@ abbrev pub IsOrder : ℕ → List ℕ → Type 0
 IsOrder n xs = (length xs ≡ n) × ((k : ℕ) → times k xs ≡ times k (numbers 0 n))
 
 -- a place among the first n numbers
-first_once : (k n : ℕ) → times k (numbers 0 n) ≤ 1
+pub first_once : (k n : ℕ) → times k (numbers 0 n) ≤ 1
 first_once k n = by_turn (in_turn k 0 n)
   where
     by_turn : InTurn k 0 n → times k (numbers 0 n) ≤ 1
@@ -231,7 +231,3 @@ overwrites-fair c from xs fits few = record {
 
     own : (k : ℕ) → times k (own_places (overwrites from xs c).sources) ≡ times k (numbers 0 (size c))
     own k = let p = parts k in let q = three_parts k (size c) from (length xs) fits in omega arith
-
--- elements that alone stay: each place at most once, and only places of the container
-abbrev pub IsPartOfOrder : ℕ → List ℕ → Type 0
-IsPartOfOrder n xs = (length xs ≤ n) × ((k : ℕ) → (times k xs ≤ 1) × (n ≤ k → times k xs ≡ 0))

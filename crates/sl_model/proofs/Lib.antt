@@ -17,3 +17,4 @@ pub mod Ending
 pub mod Places
 pub mod Counts
 pub mod FairChanges
+pub mod FairRearrangements
