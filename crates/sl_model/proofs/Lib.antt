@@ -14,7 +14,43 @@ pub mod AfterTwo
 pub mod Making
 pub mod Writing
 pub mod Ending
+-- ## Which changes are fair
 pub mod Places
 pub mod Counts
 pub mod FairChanges
 pub mod FairRearrangements
+pub mod Vanishing
+-- ## Each row and each library: memory stays sound, and no stamp vanishes
+pub mod Keeps
+pub mod KeepsRun
+pub mod KeepsCalls
+-- ## What each row gives
+pub mod Called
+pub mod Growing
+pub mod Placing
+pub mod Tells
+pub mod ContainersTell
+pub mod AlgorithmsTell
+pub mod OutputsTell
+pub mod AlgorithmRowsTell
+-- ## Scoped texts: each state of a run is good
+pub mod Locations
+pub mod Levels
+pub mod Gifts
+pub mod GoodEval
+pub mod GoodFlow
+pub mod GoodEffects
+pub mod GoodRange
+pub mod GoodExec
+pub mod GoodBinding
+pub mod GoodCalls
+pub mod LibrarySound
+pub mod LibraryGood
+pub mod RunSound
+pub mod RunGood
+-- ## A run with more steps
+pub mod Longer
+pub mod LongerExec
+pub mod LongerCalls
+-- ## Worked examples
+pub mod Examples

@@ -79,6 +79,11 @@ abbrev pub resize_by : List Letter → Action
 resize_by (x ∷ a.Element ∷ rest) = resize (λ s. int_of s 2)
 resize_by letters = resize (λ s. pos 0)
 
+-- splice, by its operands behind the position and the container
+abbrev pub splice_by : List Letter → Action
+splice_by (position ∷ container ∷ rest) = splice rest
+splice_by letters = no_action
+
 -- what a call on a container does, by its operands
 abbrev pub member_action : Form → Call → List Letter → Action
 member_action form c.Constructor letters = construct form letters
@@ -113,7 +118,7 @@ member_action form c.Reverse letters = reverse_all
 member_action form c.Unique letters = unique
 member_action form c.Remove letters = remove
 member_action form c.Merge letters = merge
-member_action form c.Splice letters = splice letters
+member_action form c.Splice letters = splice_by letters
 member_action form call letters = no_action
 
 -- what an algorithm does
