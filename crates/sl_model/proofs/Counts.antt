@@ -20,7 +20,7 @@ hit-other k x n = ⊎_elim (λ (a : 0 < hit k x). absurd (n (hit-is k x a))) (λ
 
 
 -- a number that isn't among numbers in turn
-times-outside : (k i n : ℕ) → (k < i) ⊎ (i + n ≤ k) → times k (numbers i n) ≡ 0
+pub times-outside : (k i n : ℕ) → (k < i) ⊎ (i + n ≤ k) → times k (numbers i n) ≡ 0
 times-outside k i zero h = refl
 times-outside k i (suc n) h =
     let a : hit k i ≡ 0 = hit-other k i (λ e. apart e h) in
@@ -234,6 +234,37 @@ pub length-sorted_places : (xs : List ℤ) → length (sorted_places xs) ≡ len
 length-sorted_places xs =
     length-map (λ (x : ℤ × ℕ). x.1) (sorted_entries (with_places 0 xs)) ∙ (length-sorted (with_places 0 xs) ∙ length-with_places 0 xs)
 
+-- the first n numbers in three parts
+pub three_parts : (k n from count : ℕ) → from + count ≤ n
+    → times k (numbers 0 from) + (times k (numbers from count) + times k (numbers (from + count) (n - (from + count)))) ≡ times k (numbers 0 n)
+three_parts k n from count fits =
+    by_parts (in_turn k 0 from) (in_turn k from count) (in_turn k (from + count) (n - (from + count))) (in_turn k 0 n)
+  where
+    by_parts : InTurn k 0 from → InTurn k from count → InTurn k (from + count) (n - (from + count)) → InTurn k 0 n
+        → times k (numbers 0 from) + (times k (numbers from count) + times k (numbers (from + count) (n - (from + count))))
+        ≡ times k (numbers 0 n)
+    by_parts (one_of a b c) (one_of d e f) x y = absurd (omega arith)
+    by_parts (one_of a b c) (lower d e) (one_of f g h) y = absurd (omega arith)
+    by_parts (one_of a b c) (lower d e) (lower f g) (one_of h i j) = omega arith
+    by_parts (one_of a b c) (lower d e) (lower f g) (lower h i) = absurd (omega arith)
+    by_parts (one_of a b c) (lower d e) (lower f g) (higher h i) = absurd (omega arith)
+    by_parts (one_of a b c) (lower d e) (higher f g) y = absurd (omega arith)
+    by_parts (one_of a b c) (higher d e) x y = absurd (omega arith)
+    by_parts (lower a b) x y z = absurd (omega arith)
+    by_parts (higher a b) (one_of c d e) (one_of f g h) y = absurd (omega arith)
+    by_parts (higher a b) (one_of c d e) (lower f g) (one_of h i j) = omega arith
+    by_parts (higher a b) (one_of c d e) (lower f g) (lower h i) = absurd (omega arith)
+    by_parts (higher a b) (one_of c d e) (lower f g) (higher h i) = absurd (omega arith)
+    by_parts (higher a b) (one_of c d e) (higher f g) y = absurd (omega arith)
+    by_parts (higher a b) (lower c d) x y = absurd (omega arith)
+    by_parts (higher a b) (higher c d) (one_of e f g) (one_of h i j) = omega arith
+    by_parts (higher a b) (higher c d) (one_of e f g) (lower h i) = absurd (omega arith)
+    by_parts (higher a b) (higher c d) (one_of e f g) (higher h i) = absurd (omega arith)
+    by_parts (higher a b) (higher c d) (lower e f) y = absurd (omega arith)
+    by_parts (higher a b) (higher c d) (higher e f) (one_of h i j) = absurd (omega arith)
+    by_parts (higher a b) (higher c d) (higher e f) (lower h i) = absurd (omega arith)
+    by_parts (higher a b) (higher c d) (higher e f) (higher h i) = omega arith
+
 -- elements moved within a list are all places
 pub times-moved : (k n p from count : ℕ) → from + count ≤ n → times k (moved_order n p from count) ≡ times k (numbers 0 n)
 times-moved k n p from count fits =
@@ -248,34 +279,5 @@ times-moved k n p from count fits =
     let d : times k others ≡ times k (numbers 0 from) + times k (numbers (from + count) (n - (from + count))) =
     times-append k (numbers 0 from) (numbers (from + count) (n - (from + count))) in
     let e : times k (numbers 0 from) + (times k (numbers from count) + times k (numbers (from + count) (n - (from + count))))
-        ≡ times k (numbers 0 n) = all_parts in
+        ≡ times k (numbers 0 n) = three_parts k n from count fits in
     omega arith
-  where
-    all_parts : times k (numbers 0 from) + (times k (numbers from count) + times k (numbers (from + count) (n - (from + count))))
-        ≡ times k (numbers 0 n)
-    all_parts = by_parts (in_turn k 0 from) (in_turn k from count) (in_turn k (from + count) (n - (from + count))) (in_turn k 0 n)
-      where
-        by_parts : InTurn k 0 from → InTurn k from count → InTurn k (from + count) (n - (from + count)) → InTurn k 0 n
-            → times k (numbers 0 from) + (times k (numbers from count) + times k (numbers (from + count) (n - (from + count))))
-            ≡ times k (numbers 0 n)
-        by_parts (one_of a b c) (one_of d e f) x y = absurd (omega arith)
-        by_parts (one_of a b c) (lower d e) (one_of f g h) y = absurd (omega arith)
-        by_parts (one_of a b c) (lower d e) (lower f g) (one_of h i j) = omega arith
-        by_parts (one_of a b c) (lower d e) (lower f g) (lower h i) = absurd (omega arith)
-        by_parts (one_of a b c) (lower d e) (lower f g) (higher h i) = absurd (omega arith)
-        by_parts (one_of a b c) (lower d e) (higher f g) y = absurd (omega arith)
-        by_parts (one_of a b c) (higher d e) x y = absurd (omega arith)
-        by_parts (lower a b) x y z = absurd (omega arith)
-        by_parts (higher a b) (one_of c d e) (one_of f g h) y = absurd (omega arith)
-        by_parts (higher a b) (one_of c d e) (lower f g) (one_of h i j) = omega arith
-        by_parts (higher a b) (one_of c d e) (lower f g) (lower h i) = absurd (omega arith)
-        by_parts (higher a b) (one_of c d e) (lower f g) (higher h i) = absurd (omega arith)
-        by_parts (higher a b) (one_of c d e) (higher f g) y = absurd (omega arith)
-        by_parts (higher a b) (lower c d) x y = absurd (omega arith)
-        by_parts (higher a b) (higher c d) (one_of e f g) (one_of h i j) = omega arith
-        by_parts (higher a b) (higher c d) (one_of e f g) (lower h i) = absurd (omega arith)
-        by_parts (higher a b) (higher c d) (one_of e f g) (higher h i) = absurd (omega arith)
-        by_parts (higher a b) (higher c d) (lower e f) y = absurd (omega arith)
-        by_parts (higher a b) (higher c d) (higher e f) (one_of h i j) = absurd (omega arith)
-        by_parts (higher a b) (higher c d) (higher e f) (lower h i) = absurd (omega arith)
-        by_parts (higher a b) (higher c d) (higher e f) (higher h i) = omega arith

@@ -21,7 +21,7 @@ use Rattle.sl_model.specs.Good.{IsSound, AreApart}
 use Rattle.sl_model.specs.Shapes.{Shape, no_value, a_number, a_stamp, a_pair, two_stamps, an_element, Gift, a_value, the_scalar, the_container, Signature}
 use Rattle.sl_model.specs.Shapes.{HasShape, IsGiven, HasParts, shape_of_second}
 use Rattle.sl_model.specs.Shapes.{shape_of_result, AllSuit, containers_in}
-use Rattle.sl_model.proofs.Vanishing.{Leaves}
+use Rattle.sl_model.proofs.After.{Leaves}
 use Rattle.sl_model.proofs.Growing.{grown}
 use Rattle.sl_model.proofs.Levels.{Level, Now, apart_from_stacks, memory-now, set_iterator-now, Above, now_above, above_less}
 

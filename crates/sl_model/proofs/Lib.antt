@@ -14,9 +14,12 @@ pub mod AfterTwo
 pub mod Making
 pub mod Writing
 pub mod Ending
+-- ## Which changes are fair
 pub mod Places
 pub mod Counts
-pub mod Vanishing
+pub mod FairChanges
+pub mod FairRearrangements
+pub mod AfterEdit
 -- ## Each row and each library: memory stays sound, and no stamp vanishes
 pub mod Keeps
 pub mod KeepsRun
@@ -41,13 +44,7 @@ pub mod GoodRange
 pub mod GoodExec
 pub mod GoodBinding
 pub mod GoodCalls
-pub mod LibrarySound
-pub mod LibraryGood
-pub mod RunSound
-pub mod RunGood
 -- ## A run with more steps
 pub mod Longer
 pub mod LongerExec
 pub mod LongerCalls
--- ## Worked examples
-pub mod Examples

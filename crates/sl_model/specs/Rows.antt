@@ -81,7 +81,7 @@ resize_by letters = resize (λ s. pos 0)
 
 -- splice, by its operands behind the position and the container
 abbrev pub splice_by : List Letter → Action
-splice_by (position ∷ container ∷ rest) = splice rest
+splice_by (p ∷ c ∷ rest) = splice rest
 splice_by letters = no_action
 
 -- what a call on a container does, by its operands
