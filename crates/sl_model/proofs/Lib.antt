@@ -20,7 +20,7 @@ pub mod Counts
 pub mod FairChanges
 pub mod FairRearrangements
 pub mod AfterEdit
--- ## Each row and each library: memory stays sound, and no stamp vanishes
+-- ## Each row and each library: memory stays sound, and no mark vanishes
 pub mod Keeps
 pub mod KeepsRun
 pub mod KeepsCalls
@@ -44,7 +44,13 @@ pub mod GoodRange
 pub mod GoodExec
 pub mod GoodBinding
 pub mod GoodCalls
+pub mod LibrarySound
+pub mod LibraryGood
+pub mod RunSound
+pub mod RunGood
 -- ## A run with more steps
 pub mod Longer
 pub mod LongerExec
 pub mod LongerCalls
+-- ## Worked examples
+pub mod Examples
