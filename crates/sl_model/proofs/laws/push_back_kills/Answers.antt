@@ -1,5 +1,5 @@
 -- The row of `push_back` of a vector in the table.
-use Rattle.std.proofs.Common.{◌≡◌, false, Some, refl, subst, ap}
+use Rattle.std.proofs.Common.{◌≡◌, false, Some}
 use Rattle.sl_specs.specs.Table.{table}
 use Rattle.sl_specs.specs.declared.class.Class.TheVariants.{VectorInsert}
 use Rattle.sl_specs.specs.declared.rows.sequences.TheConstants.{VECTOR_PUSH_BACK}
