@@ -1,7 +1,6 @@
 -- Each row of an algorithm and of an operator tells its shape, makes no container, and what it gives stands somewhere.
-use Rattle.std.proofs.Common.{◌≡◌, ℕ, ◌+◌, ◌≤◌, Bool, true, false, List, [], ◌∷◌, ◌++◌, Option, Some, None, length, length-append, refl, arith, map}
-use Rattle.std.specs.Prelude.{ℤ, pos, int_lt, int_le, take, drop}
-use Rattle.std.proofs.lemmas.List.Sums.{length-filter, count_by-le-length}
+use Rattle.std.proofs.Common.{◌≡◌, ℕ, ◌+◌, ◌≤◌, true, false, List, [], ◌∷◌, ◌++◌, Option, Some, None, length, length-append, refl, arith}
+use Rattle.std.specs.Prelude.{ℤ, int_lt, int_le}
 use Rattle.sl_specs.specs.declared.call.Call.{Call}
 use Rattle.sl_specs.specs.declared.call.Call.TheVariants as c
 use Rattle.sl_specs.specs.declared.letter.Letter.TheVariants as a
@@ -24,8 +23,8 @@ use Rattle.sl_model.specs.Operators.{step_fails, steps_by}
 use Rattle.sl_model.specs.Rows.{of_first, algorithm_row, row_of_operator}
 use Rattle.sl_model.proofs.Called.{HasObject}
 use Rattle.sl_model.proofs.Placing.{HasPlace}
-use Rattle.sl_model.proofs.Tells.{Tells, tells, RowTells, AllOf, all_parts}
-use Rattle.sl_model.proofs.AlgorithmsTell.{no_failure, IsRange, first_range, first_place, along_range, range_keys-low, in_range-low, passing-low}
+use Rattle.sl_model.proofs.Tells.{tells, RowTells, AllOf}
+use Rattle.sl_model.proofs.AlgorithmsTell.{IsRange, first_range, first_place, along_range, range_keys-low, in_range-low, passing-low}
 use Rattle.sl_model.proofs.AlgorithmsTell.{least_place-low, greatest_place-low, overwrites-place, movable, stepped-place}
 use Rattle.sl_model.proofs.OutputsTell.{writer_of_three, writer_of_five, sequence_of_three, sequence_of_five, appender-tells, second_of_two, last_of_three}
 

@@ -1,21 +1,19 @@
 -- Each call on a container tells its shape and whether it makes a container, and an iterator that it gives stands in its object.
-use Rattle.std.proofs.Common.{◌≡◌, ℕ, ◌+◌, ◌-◌, ◌<◌, ◌≤◌, ◌==◌, Bool, true, false, List, [], ◌∷◌, Option, Some, None, length, map, refl, ap, sym, subst}
+use Rattle.std.proofs.Common.{◌≡◌, ℕ, ◌+◌, ◌-◌, ◌<◌, ◌≤◌, ◌==◌, Bool, true, false, List, [], ◌∷◌, Option, Some, None, length, map, refl, ap}
 use Rattle.std.proofs.Common.{arith, if◌then◌else◌, ◌∙◌}
-use Rattle.std.specs.Prelude.{ℤ, pos, int_lt, int_le, nat_lt, take, drop}
+use Rattle.std.specs.Prelude.{ℤ, int_lt, int_le, nat_lt, take, drop}
 use Rattle.std.proofs.lemmas.List.{length-map}
 use Rattle.sl_base.specs.declared.form.Form.{Form}
 use Rattle.sl_base.specs.declared.form.Form.TheVariants as f
 use Rattle.sl_specs.specs.declared.class.Class.{Class}
-use Rattle.sl_specs.specs.declared.letter.Letter.{Letter}
-use Rattle.sl_specs.specs.Rows.{Line, row_of as row_of_line}
 use Rattle.sl_specs.specs.ContainerLines.{container_lines}
 use Rattle.sl_specs.specs.MultiLines.{multi_lines}
-use Rattle.sl_model.specs.Containers.{Cont, Memory, size, keys, cont_at}
+use Rattle.sl_model.specs.Containers.{Cont, Memory, size, keys}
 use Rattle.sl_model.specs.Classes.{Edit}
 use Rattle.sl_model.specs.Edits.{Source, old, new, numbers, change_of, after}
 use Rattle.sl_model.specs.Forms.{is_hash, holds_equal_keys}
 use Rattle.sl_model.specs.Orders.{index_of_key}
-use Rattle.sl_model.specs.Schedule.{put_at, scattered, hash_place, after_picks, pick, pick_at}
+use Rattle.sl_model.specs.Schedule.{scattered, hash_place, after_picks, pick, pick_at}
 use Rattle.sl_model.specs.Situation.{Situation, own, own_size, their, their_size, container_of, index, range_size, int_of, count_of, item}
 use Rattle.sl_model.specs.Actions.{Effect, keeps, edits, changes, trades, inserts, gives_place, gives_place_and}
 use Rattle.sl_model.specs.Effects.{Left, is_full, ordered_place, key_order, key_place, key_change, key_picks, known_key, insert_key, does}
@@ -26,7 +24,7 @@ use Rattle.sl_model.specs.Rearrangements.{arranged, exchanged, received, given, 
 use Rattle.sl_model.specs.KeyActions.{key_index, place_or, key_after, is_new, inserted, below, up_to}
 use Rattle.sl_model.specs.Rows.{of_form}
 use Rattle.sl_model.specs.Values.{Shape, a_stamp, a_pair}
-use Rattle.sl_model.proofs.Called.{HasObject, IsCalled, own_within, own_form}
+use Rattle.sl_model.proofs.Called.{HasObject, own_within, own_form}
 use Rattle.sl_model.proofs.Growing.{makes_one}
 use Rattle.sl_model.proofs.Placing.{HasPlace, IsPlaced, numbers-length, after-place, edit-place, put_at-length, scattered-length, hash_place-low, how_many-low}
 use Rattle.sl_model.proofs.Placing.{first_of_key-low, keys-length}
