@@ -20,6 +20,7 @@ pub mod Counts
 pub mod FairChanges
 pub mod FairRearrangements
 pub mod AfterEdit
+pub mod KeyCounts
 -- ## Each row and each library: memory stays sound, and no stamp vanishes
 pub mod Keeps
 pub mod KeepsRun
