@@ -21,6 +21,7 @@ pub mod FairChanges
 pub mod FairRearrangements
 pub mod AfterEdit
 pub mod KeyCounts
+pub mod FineEffects
 -- ## Each row and each library: memory stays sound, and no stamp vanishes
 pub mod Keeps
 pub mod KeepsRun
