@@ -22,7 +22,7 @@ pub mod FairRearrangements
 pub mod AfterEdit
 pub mod KeyCounts
 pub mod FineEffects
--- ## Each row and each library: memory stays sound, and no stamp vanishes
+-- ## Each row and each library: memory stays sound, and no mark vanishes
 pub mod Keeps
 pub mod KeepsRun
 pub mod KeepsCalls
@@ -35,6 +35,8 @@ pub mod ContainersTell
 pub mod AlgorithmsTell
 pub mod OutputsTell
 pub mod AlgorithmRowsTell
+-- ## Each row is fine: its effect leaves a sound memory sound, and no mark vanishes
+pub mod FineRows
 -- ## Scoped texts: each state of a run is good
 pub mod Locations
 pub mod Levels
@@ -50,3 +52,5 @@ pub mod GoodCalls
 pub mod Longer
 pub mod LongerExec
 pub mod LongerCalls
+-- ## Worked examples
+pub mod Examples
