@@ -202,6 +202,39 @@ sum-put_all g done (x ∷ xs) =
 pub sum-sorted : {A : Type 0} (g : ℤ × A → ℕ) (xs : List (ℤ × A)) → sum_of g (sorted_entries xs) ≡ sum_of g xs
 sum-sorted g xs = let r : sum_of g (put_all_sorted [] xs) ≡ 0 + sum_of g xs = sum-put_all g [] xs in omega arith
 
+-- a sum over joined lists, over one that is cut in two, and over what a function makes
+pub sum-append : {A : Type 0} (g : A → ℕ) (xs ys : List A) → sum_of g (xs ++ ys) ≡ sum_of g xs + sum_of g ys
+sum-append g [] ys = omega arith
+sum-append g (x ∷ xs) ys = let r = sum-append g xs ys in omega arith
+
+sum-cut : {A : Type 0} (g : A → ℕ) (n : ℕ) (xs : List A) → sum_of g (take n xs) + sum_of g (drop n xs) ≡ sum_of g xs
+sum-cut g zero xs = omega arith
+sum-cut g (suc n) [] = omega arith
+sum-cut g (suc n) (x ∷ xs) = let r = sum-cut g n xs in omega arith
+
+pub sum-map : {A B : Type 0} (g : B → ℕ) (f : A → B) (xs : List A) → sum_of g (map f xs) ≡ sum_of (λ x. g (f x)) xs
+sum-map g f [] = refl
+sum-map g f (x ∷ xs) = ap (λ n. g (f x) + n) (sum-map g f xs)
+
+-- what is put in somewhere adds its part
+pub sum-put_at : {A : Type 0} (g : A → ℕ) (i : ℕ) (x : A) (xs : List A) → sum_of g (put_at i x xs) ≡ g x + sum_of g xs
+sum-put_at g i x xs =
+    let a : sum_of g (take i xs ++ x ∷ drop i xs) ≡ sum_of g (take i xs) + (g x + sum_of g (drop i xs)) = sum-append g (take i xs) (x ∷ drop i xs) in
+    let c : sum_of g (take i xs) + sum_of g (drop i xs) ≡ sum_of g xs = sum-cut g i xs in
+    omega arith
+
+sum-put_one_by_one : {A : Type 0} (g : A → ℕ) (placed : List A) (picks : List ℕ) (xs : List A)
+    → sum_of g (put_all placed picks xs) ≡ sum_of g placed + sum_of g xs
+sum-put_one_by_one g placed picks [] = omega arith
+sum-put_one_by_one g placed picks (x ∷ xs) =
+    let a = sum-put_at g (hash_place (length placed) (pick picks)) x placed in
+    let r = sum-put_one_by_one g (put_at (hash_place (length placed) (pick picks)) x placed) (drop 1 picks) xs in
+    omega arith
+
+-- a picked order has the sum that was there
+pub sum-scattered : {A : Type 0} (g : A → ℕ) (picks : List ℕ) (xs : List A) → sum_of g (scattered picks xs) ≡ sum_of g xs
+sum-scattered g picks xs = let r : sum_of g (put_all [] picks xs) ≡ 0 + sum_of g xs = sum-put_one_by_one g [] picks xs in omega arith
+
 -- how many entries there are, as a sum
 pub length-sum : {A : Type 0} (xs : List A) → length xs ≡ sum_of (λ x. 1) xs
 length-sum [] = refl

@@ -17,7 +17,7 @@ use Rattle.sl_model.specs.Schedule.{scattered, put_at, after_picks}
 use Rattle.sl_model.proofs.Places.{times, hit, hit-most, own_places, their_places, CountsFair, CountsFairSide}
 use Rattle.sl_model.proofs.Counts.{times-append, in_turn, InTurn, one_of, lower, higher, own-append, their-append, own-old, their-old, own-theirs}
 use Rattle.sl_model.proofs.Counts.{their-theirs, length-map, length-numbers, times-scattered, length-scattered, length-put, times-outside, times-numbers}
-use Rattle.sl_model.proofs.Counts.{three_parts, sum_of, sum-sorted, length-sorted}
+use Rattle.sl_model.proofs.Counts.{three_parts, sum_of, sum-sorted, sum-append, length-sorted}
 use Rattle.sl_model.proofs.FairChanges.{IsOrder, first_once, own_olds, their_olds, length_olds, length_append}
 
 -- ## Elements that alone stay
@@ -312,10 +312,6 @@ their_sum k (x ∷ xs) =
     let r = their_sum k xs in
     omega arith
 
-sum_append : {A : Type 0} (g : A → ℕ) (xs ys : List A) → sum_of g (xs ++ ys) ≡ sum_of g xs + sum_of g ys
-sum_append g [] ys = omega arith
-sum_append g (x ∷ xs) ys = let r = sum_append g xs ys in omega arith
-
 -- the parts of a merge
 old_own : (k i : ℕ) (xs : List ℤ) → sum_of (λ (x : ℤ × Source). times k (own_places (x.1 ∷ []))) (entries (λ k. old k) i xs) ≡ times k (numbers i (length xs))
 old_own k i [] = refl
@@ -350,7 +346,7 @@ module _ (c d : Cont) where
   merged_own k =
       let a = own_sum k (sorted_entries both) in
       let b = sum-sorted (λ (x : ℤ × Source). times k (own_places (x.1 ∷ []))) both in
-      let e = sum_append (λ (x : ℤ × Source). times k (own_places (x.1 ∷ []))) (entries (λ k. old k) 0 (keys c)) (entries (λ k. theirs k) 0 (keys d)) in
+      let e = sum-append (λ (x : ℤ × Source). times k (own_places (x.1 ∷ []))) (entries (λ k. old k) 0 (keys c)) (entries (λ k. theirs k) 0 (keys d)) in
       let f = old_own k 0 (keys c) in
       let g = theirs_own k 0 (keys d) in
       let h : times k (numbers 0 (length (keys c))) ≡ times k (numbers 0 (size c)) = ap (λ n. times k (numbers 0 n)) (length_keys c) in
@@ -360,7 +356,7 @@ module _ (c d : Cont) where
   merged_their k =
       let a = their_sum k (sorted_entries both) in
       let b = sum-sorted (λ (x : ℤ × Source). times k (their_places (x.1 ∷ []))) both in
-      let e = sum_append (λ (x : ℤ × Source). times k (their_places (x.1 ∷ []))) (entries (λ k. old k) 0 (keys c)) (entries (λ k. theirs k) 0 (keys d)) in
+      let e = sum-append (λ (x : ℤ × Source). times k (their_places (x.1 ∷ []))) (entries (λ k. old k) 0 (keys c)) (entries (λ k. theirs k) 0 (keys d)) in
       let f = old_their k 0 (keys c) in
       let g = theirs_their k 0 (keys d) in
       let h : times k (numbers 0 (length (keys d))) ≡ times k (numbers 0 (size d)) = ap (λ n. times k (numbers 0 n)) (length_keys d) in

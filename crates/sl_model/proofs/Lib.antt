@@ -20,6 +20,8 @@ pub mod Counts
 pub mod FairChanges
 pub mod FairRearrangements
 pub mod AfterEdit
+pub mod KeyCounts
+pub mod FineEffects
 -- ## Each row and each library: memory stays sound, and no mark vanishes
 pub mod Keeps
 pub mod KeepsRun
@@ -33,6 +35,8 @@ pub mod ContainersTell
 pub mod AlgorithmsTell
 pub mod OutputsTell
 pub mod AlgorithmRowsTell
+-- ## Each row is fine: its effect leaves a sound memory sound, and no mark vanishes
+pub mod FineRows
 -- ## Scoped texts: each state of a run is good
 pub mod Locations
 pub mod Levels

@@ -5,9 +5,11 @@
 -- Chosen here: `find` gives the first of equal keys.
 use Rattle.std.specs.Prelude.{ℕ, ◌+◌, Bool, true, false, List, [], ◌∷◌, length, ℤ, pos, int_lt, int_le, Option, Some, None, if◌then◌else◌}
 use Rattle.sl_base.specs.declared.form.Form.{Form}
+use Rattle.sl_base.specs.declared.scalar.Scalar.TheVariants as t
 use Rattle.sl_model.specs.Containers.{Cont, keys, key_part, value_part}
 use Rattle.sl_model.specs.Forms.{holds_equal_keys}
-use Rattle.sl_model.specs.Orders.{same, index_of_key, how_many, minus, distinct}
+use Rattle.sl_model.specs.Numbers.{converted}
+use Rattle.sl_model.specs.Orders.{same, has, index_of_key, how_many}
 use Rattle.sl_model.specs.Situation.{Situation, own, own_size, int_of, item, as_items, range_keys}
 use Rattle.sl_model.specs.Actions.{Effect, inserts, Answer, nothing, gives_number, gives_place, gives_place_and, gives_places, gives_element, Action}
 use Rattle.sl_model.specs.Actions.{Stop, never, exception_if, too_many, tells}
@@ -41,10 +43,19 @@ abbrev pub inserted : Situation → ℤ → Answer
 inserted s k =
     if holds_equal_keys (own s).form then gives_place s.object (key_after s k) else gives_place_and s.object (key_after s k) (is_new s k)
 
+-- how many of these come in one by one beside keys that are there, each once
+abbrev pub count_new : List ℤ → List ℤ → ℕ
+count_new there [] = 0
+count_new there (x ∷ xs) = if has x there then count_new there xs else 1 + count_new (converted t.Int x ∷ there) xs
+
+-- how many of these are put in
+abbrev pub new_keys : Cont → List ℤ → ℕ
+new_keys c xs = if holds_equal_keys c.form then length xs else count_new (keys c) xs
+
 -- a key with a value is put in, unless it is one too many
 abbrev pub key_insertion : (Situation → ℤ × ℤ) → (Situation → ℤ → Answer) → Action
 key_insertion x answer = record {
-  stops = λ s. too_many (own_size s + (if is_new s (x s).0 then 1 else 0));
+  stops = λ s. too_many (own_size s + new_keys (own s) ((x s).0 ∷ []));
   effect = λ s. inserts (x s ∷ []);
   answer = λ s. answer s (x s).0;
 }
@@ -60,10 +71,6 @@ emplace = key_insertion (λ s. (int_of s 1, int_of s 2)) inserted
 -- [](k), which puts the value 0 under a new key
 abbrev pub key_subscript : Action
 key_subscript = key_insertion (λ s. (int_of s 1, pos 0)) (λ s k. gives_element s.object (key_after s k) value_part)
-
--- how many of these are put in
-abbrev pub new_keys : Cont → List ℤ → ℕ
-new_keys c xs = if holds_equal_keys c.form then length xs else length (minus (distinct xs) (keys c))
 
 -- insert(f, l), one by one
 abbrev pub insert_keys : Action

@@ -68,12 +68,12 @@ replacement stops xs =
 
 -- what a constructor does, by its operands: (list), (c), (n), (n, x), (f, l) and ()
 abbrev pub construct : Form → List Letter → Action
-construct form (a.InitializerList ∷ rest) = construction form (λ s. never) (λ s. listed s.values)
+construct form (a.InitializerList ∷ rest) = construction form (λ s. too_many (length s.values)) (λ s. listed s.values)
 construct form (a.Container ∷ rest) =
     record { stops = λ s. never; effect = λ s. copied form (items (their s 1)) s.picks; answer = λ s. nothing }
 construct form (a.Count ∷ []) = construction form (λ s. too_many (count_of s 1)) (λ s. replicate (count_of s 1) (item (pos 0)))
 construct form (a.Count ∷ x ∷ rest) = construction form (λ s. too_many (count_of s 1)) (λ s. replicate (count_of s 1) (item (int_of s 2)))
-construct form (a.IntRange ∷ rest) = construction form (λ s. never) (λ s. as_items (range_keys s 1))
+construct form (a.IntRange ∷ rest) = construction form (λ s. too_many (length (range_keys s 1))) (λ s. as_items (range_keys s 1))
 construct form letters = construction form (λ s. never) (λ s. [])
 
 -- =(c)

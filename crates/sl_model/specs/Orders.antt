@@ -114,11 +114,6 @@ other_places x i (y ∷ ys) = if same x y then other_places x (i + 1) ys else i 
 abbrev pub others : ℤ → List ℤ → List ℤ
 others x xs = filter (λ y. not (same x y)) xs
 
--- each number once, at its first place
-abbrev pub distinct : List ℤ → List ℤ
-distinct [] = []
-distinct (x ∷ xs) = x ∷ others x (distinct xs)
-
 -- the index of the first number that none beats; `best` at index `at` is the best before i
 abbrev pub best_place : (ℤ → ℤ → Bool) → ℤ → ℕ → ℕ → List ℤ → ℕ
 best_place beats best at i [] = at
