@@ -15,4 +15,6 @@ pub mod Told
 pub mod Rows
 pub mod Cleared
 pub mod Appending
+pub mod Outcomes
+pub mod Sequences
 pub mod Scoped
