@@ -17,4 +17,6 @@ pub mod Cleared
 pub mod Appending
 pub mod Outcomes
 pub mod Sequences
+pub mod Keys
+pub mod Algorithms
 pub mod Scoped

@@ -2,12 +2,11 @@
 -- gives, the keys of each container, and where the marks of before stand.
 use Rattle.std.specs.Prelude.{ℕ, List, [], ◌∷◌, map, ℤ, pos, Option, Some, None, suc}
 use Rattle.sl_base.specs.declared.form.Form.{Form}
-use Rattle.sl_syntax.specs.declared.typed.callee.Callee.{Callee}
 use Rattle.sl_syntax.specs.declared.typed.callee.Callee.TheVariants as callees
 use Rattle.sl_model.specs.Numbers.{truth}
-use Rattle.sl_model.specs.Containers.{Cell, Cont, Memory, keys, locate, locate_refer, element}
+use Rattle.sl_model.specs.Containers.{Cell, Memory, keys, locate, locate_refer, element}
 use Rattle.sl_model.specs.Edits.{numbers}
-use Rattle.sl_model.specs.Values.{Value, number, iterator, pair, two, element_at, Args, LibOut, trapped, thrown, faulted, gives, unbuilt}
+use Rattle.sl_model.specs.Values.{Value, number, iterator, pair, two, element_at, LibOut, gives}
 use Rattle.sl_model.specs.Library.{lib}
 
 -- what a call comes to
