@@ -35,7 +35,8 @@ no_failure (x ∷ xs) e = absurd (by_rest (first_failure xs) e)
     by_test g true h = cc
     by_test g false h = cc
 
-    by_rest : (o : Option (ℕ × ℕ)) → elim o as (λ _. Option (ℕ × ℕ)) [ None ↦ Some x | Some g ↦ (if is_before g x then Some g else Some x) ] ≡ None → ⊥
+    by_rest : (o : Option (ℕ × ℕ)) → elim o as (λ _. Option (ℕ × ℕ)) [ None ↦ Some x | Some g ↦ (if is_before g x then Some g else Some x) ] ≡ None
+        → ⊥
     by_rest None h = cc
     by_rest (Some g) h = by_test g (is_before g x) h
 
@@ -203,7 +204,8 @@ step_of-low n k (negsuc i) low = by_test (nat_lt i k)
     by_test false = omega arith
 
 -- the iterator that is moved stands somewhere, where it may be
-pub movable : (m : Memory) (o : Option (ℕ × ℕ)) (z : ℤ) (xs : List (ℕ × ℕ)) → first_failure (movable_fails m o z ++ xs) ≡ None → (p : ℕ × ℕ) × (o ≡ Some p)
+pub movable : (m : Memory) (o : Option (ℕ × ℕ)) (z : ℤ) (xs : List (ℕ × ℕ)) → first_failure (movable_fails m o z ++ xs) ≡ None → (p : ℕ × ℕ) ×
+    (o ≡ Some p)
 movable m None z xs e = absurd (let q = no_failure (movable_fails m None z ++ xs) e in cc)
 movable m (Some p) z xs e = (p, refl)
 

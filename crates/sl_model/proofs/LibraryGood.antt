@@ -119,7 +119,8 @@ numbered-tells appends n r e = by_row (slice_get table n) refl e
 row-tells : (callee : Callee) (r : Row) → row_of callee ≡ Some r → RowTells r
 row-tells (callees.Row n) r e = numbered-tells false n r e
 row-tells (callees.Appends n) r e = numbered-tells true n r e
-row-tells (callees.Operator o) r e = let same : row_of_operator (operator_name o) o ≡ r = cc in subst RowTells same (operator-tells (operator_name o) o)
+row-tells (callees.Operator o) r e = let same : row_of_operator (operator_name o) o ≡ r = cc in subst RowTells same
+    (operator-tells (operator_name o) o)
 row-tells (callees.Hidden o) r e = let same : row_of_operator (codes "for") o ≡ r = cc in subst RowTells same (operator-tells (codes "for") o)
 
 -- what is given has the shape of the answer

@@ -1,6 +1,7 @@
 -- Which places a container has for iterators: one at each index up to its size, and their stamps were used. What a change, a new key
 -- and a search leave of them.
-use Rattle.std.proofs.Common.{◌≡◌, ℕ, zero, suc, ◌+◌, ◌-◌, ◌<◌, ◌≤◌, ◌%◌, Bool, true, false, List, [], ◌∷◌, ◌++◌, map, take, drop, length, length-append}
+use Rattle.std.proofs.Common.{◌≡◌, ℕ, zero, suc, ◌+◌, ◌-◌, ◌<◌, ◌≤◌, ◌%◌, Bool, true, false, List, [], ◌∷◌, ◌++◌, map, take, drop, length}
+use Rattle.std.proofs.Common.{length-append}
 use Rattle.std.proofs.Common.{Some, option_map, refl, ap, sym, ◌∙◌, subst, arith, if◌then◌else◌, min}
 use Rattle.std.specs.Prelude.{ℤ}
 use Rattle.std.specs.List.{slice_get, slice_set}

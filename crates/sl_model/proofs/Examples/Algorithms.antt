@@ -41,18 +41,20 @@ unfolding table
 find_invalid = refl
 
 -- lower_bound(f, l, x) of a range that it parts
-lower_bound : outcome 4 (algorithm row.STD_LOWER_BOUND (iterator 0 ∷ iterator 3 ∷ number (pos 25) ∷ []) (three f.Vector 3 10 20 30) []) ≡ Some (record {
-  given = in_first 2 ∷ [];
-  number = None;
-  keys = (pos 10 ∷ pos 20 ∷ pos 30 ∷ []) ∷ [];
-  iterators = in_first 0 ∷ in_first 1 ∷ in_first 2 ∷ in_first 3 ∷ [];
-  references = in_first 0 ∷ in_first 1 ∷ in_first 2 ∷ None ∷ [];
-})
+lower_bound : outcome 4 (algorithm row.STD_LOWER_BOUND (iterator 0 ∷ iterator 3 ∷ number (pos 25) ∷ []) (three f.Vector 3 10 20 30) []) ≡ Some
+    (record {
+      given = in_first 2 ∷ [];
+      number = None;
+      keys = (pos 10 ∷ pos 20 ∷ pos 30 ∷ []) ∷ [];
+      iterators = in_first 0 ∷ in_first 1 ∷ in_first 2 ∷ in_first 3 ∷ [];
+      references = in_first 0 ∷ in_first 1 ∷ in_first 2 ∷ None ∷ [];
+    })
 unfolding table
 lower_bound = refl
 
 -- and of one that it doesn't
-lower_bound_not_partitioned : algorithm row.STD_LOWER_BOUND (iterator 0 ∷ iterator 3 ∷ number (pos 15) ∷ []) (three f.Vector 3 30 10 20) [] ≡ trapped 10 1
+lower_bound_not_partitioned : algorithm row.STD_LOWER_BOUND (iterator 0 ∷ iterator 3 ∷ number (pos 15) ∷ [])
+    (three f.Vector 3 30 10 20) [] ≡ trapped 10 1
 unfolding table
 lower_bound_not_partitioned = refl
 
@@ -144,18 +146,20 @@ unfolding table
 copy_to_the_left = refl
 
 -- includes(f, l, f2, l2) of a range out of order
-includes_not_sorted : algorithm row.STD_INCLUDES (iterator 0 ∷ iterator 3 ∷ iterator 1 ∷ iterator 3 ∷ []) (three f.Vector 3 30 10 20) [] ≡ trapped 11 1
+includes_not_sorted : algorithm row.STD_INCLUDES (iterator 0 ∷ iterator 3 ∷ iterator 1 ∷ iterator 3 ∷ [])
+    (three f.Vector 3 30 10 20) [] ≡ trapped 11 1
 unfolding table
 includes_not_sorted = refl
 
 -- and of ranges in order
-includes : outcome 4 (algorithm row.STD_INCLUDES (iterator 0 ∷ iterator 3 ∷ iterator 1 ∷ iterator 3 ∷ []) (three f.Vector 3 10 20 30) []) ≡ Some (record {
-  given = [];
-  number = Some (pos 1);
-  keys = (pos 10 ∷ pos 20 ∷ pos 30 ∷ []) ∷ [];
-  iterators = in_first 0 ∷ in_first 1 ∷ in_first 2 ∷ in_first 3 ∷ [];
-  references = in_first 0 ∷ in_first 1 ∷ in_first 2 ∷ None ∷ [];
-})
+includes : outcome 4 (algorithm row.STD_INCLUDES (iterator 0 ∷ iterator 3 ∷ iterator 1 ∷ iterator 3 ∷ []) (three f.Vector 3 10 20 30) []) ≡ Some
+    (record {
+      given = [];
+      number = Some (pos 1);
+      keys = (pos 10 ∷ pos 20 ∷ pos 30 ∷ []) ∷ [];
+      iterators = in_first 0 ∷ in_first 1 ∷ in_first 2 ∷ in_first 3 ∷ [];
+      references = in_first 0 ∷ in_first 1 ∷ in_first 2 ∷ None ∷ [];
+    })
 unfolding table
 includes = refl
 
@@ -171,7 +175,8 @@ unfolding table
 accumulate = refl
 
 -- a sum that passes an int
-accumulate_overflows : algorithm row.STD_ACCUMULATE (iterator 0 ∷ iterator 3 ∷ number (pos 2147483640) ∷ []) (three f.Vector 3 10 20 30) [] ≡ faulted 1
+accumulate_overflows : algorithm row.STD_ACCUMULATE (iterator 0 ∷ iterator 3 ∷ number (pos 2147483640) ∷ [])
+    (three f.Vector 3 10 20 30) [] ≡ faulted 1
 unfolding table
 accumulate_overflows = refl
 
@@ -255,23 +260,26 @@ unfolding table
 max_element = refl
 
 -- set_union(f, l, f2, l2, o) of two parts of one range into another
-set_union : outcome 7 (algorithm row.STD_SET_UNION (iterator 0 ∷ iterator 1 ∷ iterator 1 ∷ iterator 2 ∷ iterator 4 ∷ []) (three_and_two f.Vector 3) []) ≡ Some (record {
-  given = in_second 2 ∷ [];
-  number = None;
-  keys = (pos 10 ∷ pos 20 ∷ pos 30 ∷ []) ∷ (pos 10 ∷ pos 20 ∷ []) ∷ [];
-  iterators = in_first 0 ∷ in_first 1 ∷ in_first 2 ∷ in_first 3 ∷ in_second 0 ∷ in_second 1 ∷ in_second 2 ∷ [];
-  references = in_first 0 ∷ in_first 1 ∷ in_first 2 ∷ None ∷ in_second 0 ∷ in_second 1 ∷ None ∷ [];
-})
+set_union : outcome 7
+    (algorithm row.STD_SET_UNION (iterator 0 ∷ iterator 1 ∷ iterator 1 ∷ iterator 2 ∷ iterator 4 ∷ []) (three_and_two f.Vector 3) []) ≡ Some (record {
+      given = in_second 2 ∷ [];
+      number = None;
+      keys = (pos 10 ∷ pos 20 ∷ pos 30 ∷ []) ∷ (pos 10 ∷ pos 20 ∷ []) ∷ [];
+      iterators = in_first 0 ∷ in_first 1 ∷ in_first 2 ∷ in_first 3 ∷ in_second 0 ∷ in_second 1 ∷ in_second 2 ∷ [];
+      references = in_first 0 ∷ in_first 1 ∷ in_first 2 ∷ None ∷ in_second 0 ∷ in_second 1 ∷ None ∷ [];
+    })
 unfolding table
 set_union = refl
 
 -- nothing is in both
-set_intersection : outcome 7 (algorithm row.STD_SET_INTERSECTION (iterator 0 ∷ iterator 1 ∷ iterator 1 ∷ iterator 2 ∷ iterator 4 ∷ []) (three_and_two f.Vector 3) []) ≡ Some (record {
-  given = in_second 0 ∷ [];
-  number = None;
-  keys = (pos 10 ∷ pos 20 ∷ pos 30 ∷ []) ∷ (pos 15 ∷ pos 25 ∷ []) ∷ [];
-  iterators = in_first 0 ∷ in_first 1 ∷ in_first 2 ∷ in_first 3 ∷ in_second 0 ∷ in_second 1 ∷ in_second 2 ∷ [];
-  references = in_first 0 ∷ in_first 1 ∷ in_first 2 ∷ None ∷ in_second 0 ∷ in_second 1 ∷ None ∷ [];
-})
+set_intersection : outcome 7
+    (algorithm row.STD_SET_INTERSECTION (iterator 0 ∷ iterator 1 ∷ iterator 1 ∷ iterator 2 ∷ iterator 4 ∷ []) (three_and_two f.Vector 3) []) ≡ Some
+    (record {
+      given = in_second 0 ∷ [];
+      number = None;
+      keys = (pos 10 ∷ pos 20 ∷ pos 30 ∷ []) ∷ (pos 15 ∷ pos 25 ∷ []) ∷ [];
+      iterators = in_first 0 ∷ in_first 1 ∷ in_first 2 ∷ in_first 3 ∷ in_second 0 ∷ in_second 1 ∷ in_second 2 ∷ [];
+      references = in_first 0 ∷ in_first 1 ∷ in_first 2 ∷ None ∷ in_second 0 ∷ in_second 1 ∷ None ∷ [];
+    })
 unfolding table
 set_intersection = refl

@@ -132,13 +132,14 @@ unfolding table
 hash_insert = refl
 
 -- where there is none, all are put in again, each in front here, and 15 then at 1: all iterators are invalidated, and no reference
-hash_insert_grows : outcome 4 (on_first row.HASH_SET_INSERT (number (pos 15) ∷ []) (three f.HashSet 3 10 20 30) (1 ∷ 0 ∷ 0 ∷ 0 ∷ 1 ∷ [])) ≡ Some (record {
-  given = in_first 1 ∷ [];
-  number = Some (pos 1);
-  keys = (pos 30 ∷ pos 15 ∷ pos 20 ∷ pos 10 ∷ []) ∷ [];
-  iterators = None ∷ None ∷ None ∷ None ∷ [];
-  references = in_first 3 ∷ in_first 2 ∷ in_first 0 ∷ None ∷ [];
-})
+hash_insert_grows : outcome 4 (on_first row.HASH_SET_INSERT (number (pos 15) ∷ []) (three f.HashSet 3 10 20 30) (1 ∷ 0 ∷ 0 ∷ 0 ∷ 1 ∷ [])) ≡ Some
+    (record {
+      given = in_first 1 ∷ [];
+      number = Some (pos 1);
+      keys = (pos 30 ∷ pos 15 ∷ pos 20 ∷ pos 10 ∷ []) ∷ [];
+      iterators = None ∷ None ∷ None ∷ None ∷ [];
+      references = in_first 3 ∷ in_first 2 ∷ in_first 0 ∷ None ∷ [];
+    })
 unfolding table
 hash_insert_grows = refl
 

@@ -264,18 +264,20 @@ unfolding table
 list_merge = refl
 
 -- splice(p, c, i): one element goes over
-list_splice_one : outcome 7 (on_first row.LIST_SPLICE_ONE (iterator 3 ∷ container_at 1 ∷ iterator 4 ∷ []) (three_and_two f.List 0) []) ≡ Some (record {
-  given = [];
-  number = None;
-  keys = (pos 10 ∷ pos 20 ∷ pos 30 ∷ pos 15 ∷ []) ∷ (pos 25 ∷ []) ∷ [];
-  iterators = in_first 0 ∷ in_first 1 ∷ in_first 2 ∷ in_first 4 ∷ in_first 3 ∷ in_second 0 ∷ in_second 1 ∷ [];
-  references = in_first 0 ∷ in_first 1 ∷ in_first 2 ∷ None ∷ in_first 3 ∷ in_second 0 ∷ None ∷ [];
-})
+list_splice_one : outcome 7 (on_first row.LIST_SPLICE_ONE (iterator 3 ∷ container_at 1 ∷ iterator 4 ∷ []) (three_and_two f.List 0) []) ≡ Some
+    (record {
+      given = [];
+      number = None;
+      keys = (pos 10 ∷ pos 20 ∷ pos 30 ∷ pos 15 ∷ []) ∷ (pos 25 ∷ []) ∷ [];
+      iterators = in_first 0 ∷ in_first 1 ∷ in_first 2 ∷ in_first 4 ∷ in_first 3 ∷ in_second 0 ∷ in_second 1 ∷ [];
+      references = in_first 0 ∷ in_first 1 ∷ in_first 2 ∷ None ∷ in_first 3 ∷ in_second 0 ∷ None ∷ [];
+    })
 unfolding table
 list_splice_one = refl
 
 -- splice(p, c, f, l): a range
-list_splice_range : outcome 7 (on_first row.LIST_SPLICE_RANGE (iterator 1 ∷ container_at 1 ∷ iterator 5 ∷ iterator 6 ∷ []) (three_and_two f.List 0) [])
+list_splice_range : outcome 7
+    (on_first row.LIST_SPLICE_RANGE (iterator 1 ∷ container_at 1 ∷ iterator 5 ∷ iterator 6 ∷ []) (three_and_two f.List 0) [])
     ≡ Some (record {
       given = [];
       number = None;
@@ -298,13 +300,14 @@ unfolding table
 list_splice = refl
 
 -- the last element of a list goes in front of its first
-list_splice_within : outcome 4 (on_first row.LIST_SPLICE_ONE (iterator 0 ∷ container_at 0 ∷ iterator 2 ∷ []) (three f.List 0 10 20 30) []) ≡ Some (record {
-  given = [];
-  number = None;
-  keys = (pos 30 ∷ pos 10 ∷ pos 20 ∷ []) ∷ [];
-  iterators = in_first 1 ∷ in_first 2 ∷ in_first 0 ∷ in_first 3 ∷ [];
-  references = in_first 1 ∷ in_first 2 ∷ in_first 0 ∷ None ∷ [];
-})
+list_splice_within : outcome 4 (on_first row.LIST_SPLICE_ONE (iterator 0 ∷ container_at 0 ∷ iterator 2 ∷ []) (three f.List 0 10 20 30) []) ≡ Some
+    (record {
+      given = [];
+      number = None;
+      keys = (pos 30 ∷ pos 10 ∷ pos 20 ∷ []) ∷ [];
+      iterators = in_first 1 ∷ in_first 2 ∷ in_first 0 ∷ in_first 3 ∷ [];
+      references = in_first 1 ∷ in_first 2 ∷ in_first 0 ∷ None ∷ [];
+    })
 unfolding table
 list_splice_within = refl
 
