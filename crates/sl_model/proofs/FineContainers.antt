@@ -17,12 +17,12 @@ use Rattle.sl_model.specs.Classes.{Edit, Fits}
 use Rattle.sl_model.specs.Containers.{Cell, Cont, Memory, size, cont_at, keys, items}
 use Rattle.sl_model.specs.Edits.{change_of, numbers}
 use Rattle.sl_model.specs.Forms.{is_hash}
-use Rattle.sl_model.specs.Needs.{fails_if, place_fails, element_fails, range_fails, order_fails, first_failure}
+use Rattle.sl_model.specs.Needs.{is_range, is_position_inside, fails_if, place_fails, element_fails, range_fails, order_fails, first_failure}
 use Rattle.sl_model.specs.Operands.{Sort, a_number, an_iterator, a_container, is_of_form, is_of, are_of}
 use Rattle.sl_model.specs.Orders.{same, has, first_of_key, index_of_key, how_many, sorted_places, first_places, other_places}
 use Rattle.sl_model.specs.Rearrangements.{arranged, retained, exchanged, received, given, moved_order}
 use Rattle.sl_model.specs.Schedule.{pick, scattered, after_picks}
-use Rattle.sl_base.specs.declared.failures.TheConstants.{WRONG_CONTAINER, END_ITERATOR, EMPTY_CONTAINER}
+use Rattle.sl_base.specs.declared.failures.TheConstants.{WRONG_CONTAINER, END_ITERATOR, EMPTY_CONTAINER, OVERLAP}
 use Rattle.sl_model.specs.Situation.{Situation, own, own_size, argument, place_of, index, index_in, container_of, container_of_value, their, their_size, int_of, count_of, item}
 use Rattle.sl_model.specs.Situation.{as_items, listed, range_keys, range_size}
 use Rattle.sl_model.specs.Values.{Value, nothing as no_result, number, iterator, pair, two, scalar_at, container_at, element_at}
@@ -36,6 +36,8 @@ use Rattle.sl_model.specs.Rows.{of_form, new_one}
 use Rattle.sl_model.specs.SequenceActions.{puts, drops}
 use Rattle.sl_model.specs.Good.{IsSound}
 use Rattle.sl_model.proofs.Called.{HasObject, IsCalled, own_there, own_form}
+use Rattle.std.proofs.lemmas.List.{reverse-append, length-reverse}
+use Rattle.sl_model.proofs.Counts.{times-append}
 use Rattle.sl_model.proofs.Counts.{moved_length, times-sorted_places, length-sorted_places, times-moved, length-scattered, length-map, length-numbers, sum_of}
 use Rattle.sl_model.proofs.FairChanges.{BuriesGone, edit-fair, IsOrder, arranged-fair, rehashed-fair}
 use Rattle.sl_model.proofs.FairRearrangements.{first_places-picked, other_places-picked, ArePicked, retained-fair, exchanged-fair, received-fair, given-fair}
@@ -382,3 +384,207 @@ splices-fine class s from count sound there other low fits go = by_same (contain
       first = received-fair (own s) (their s 2) (index s 1) from count low fits (few false e);
       second = given-fair (own s) (their s 2) (index s 1) from count low fits (any_small s.memory (container_of s 2) sound);
     }
+
+-- resize
+resized-fine : (class : Class) (s : Situation) (n : ℕ) (x : ℤ) → IsSound s.memory → buries class ≡ true → IsThere s.memory s.object
+    → n ≤ ELEMENTS → IsFine class s (resized (own s) n x s.picks)
+resized-fine class s n x sound b there few =
+    edit-fine class s (picks_with (own s).form (own s) (n - size (own s))) e there fits (class_buries class b (own s) e)
+    (let l : length (replicate (n - size (own s)) (item x)) ≡ n - size (own s) = replicate-length (n - size (own s)) (item x) in
+    let m : own_size s ≤ ELEMENTS = any_small s.memory s.object sound in omega arith)
+  where
+    e : Edit
+    e = record {
+      from = min n (size (own s));
+      gone = size (own s) - n;
+      come = replicate (n - size (own s)) (item x);
+      room = room_with (own s).form (own s) (n - size (own s)) s.picks;
+    }
+
+    fits : min n (size (own s)) + (size (own s) - n) ≤ size (own s)
+    fits = omega arith
+
+-- the places of a list in reverse
+times_reverse : (k : ℕ) (xs : List ℕ) → times k (reverse xs) ≡ times k xs
+times_reverse k [] = refl
+times_reverse k (x ∷ xs) =
+    let a : times k (reverse xs ++ x ∷ []) ≡ times k (reverse xs) + times k (x ∷ []) = times-append k (reverse xs) (x ∷ []) in
+    let e : reverse (x ∷ xs) ≡ reverse xs ++ x ∷ [] = reverse-append (x ∷ []) xs in
+    let r = times_reverse k xs in
+    ap (times k) e ∙ (let q : times k (reverse xs ++ x ∷ []) ≡ times k (x ∷ xs) = omega arith in q)
+
+-- all places in reverse
+reversed_all : (n : ℕ) → IsOrder n (reverse (numbers 0 n))
+reversed_all n = (length-reverse (numbers 0 n) ∙ length-numbers 0 n, λ k. times_reverse k (numbers 0 n))
+
+-- all places in order of keys
+sorted_all : (c : Cont) → IsOrder (size c) (sorted_places (keys c))
+sorted_all c = (
+  length-sorted_places (keys c) ∙ keys-length c,
+  λ k. times-sorted_places k (keys c) ∙ ap (λ n. times k (numbers 0 n)) (keys-length c),
+)
+
+-- the places that are picked of a container
+picked_of : (c : Cont) (order : List ℕ) → ArePicked 0 (length (keys c)) order → ArePicked 0 (size c) order
+picked_of c order p = subst (λ n. ArePicked 0 n order) (keys-length c) p
+
+-- the elements of the other container
+copied_few : (s : Situation) (a : ℕ) → IsSound s.memory → length (items (their s a)) ≤ ELEMENTS
+copied_few s a sound = let l = items-length (their s a) in let m = any_small s.memory (container_of s a) sound in omega arith
+
+-- ints as elements are as many
+as_items-length : (xs : List ℤ) → length (as_items xs) ≡ length xs
+as_items-length xs = length-map item xs
+
+listed-length : (vs : List Value) → length (listed vs) ≡ length vs
+listed-length [] = refl
+listed-length (v ∷ vs) = ap suc (listed-length vs)
+
+-- n equal elements
+repeated : (n : ℕ) (x : ℤ × ℤ) → too_many n ≡ never → length (replicate n x) ≤ ELEMENTS
+repeated n x go = let l = replicate-length n x in let m = not_too_many n go in omega arith
+
+-- the failure of a position that stands in the range that goes over
+abbrev inner_position : Situation → List (ℕ × ℕ)
+inner_position s = fails_if ((is_range s 3 && container_of s 2 == s.object) && is_position_inside s) OVERLAP 1
+
+-- each call on a container but a multiset or multimap
+pub containers-fine : AllOf LineIsFine container_lines
+containers-fine = all_parts LineIsFine 7 container_lines makings (all_parts LineIsFine 10 (drop 7 container_lines) accesses
+    (all_parts LineIsFine 13 (drop 17 container_lines) changings (all_parts LineIsFine 10 (drop 30 container_lines) others lists)))
+  where
+    makings : AllOf LineIsFine (take 7 container_lines)
+    makings =
+        ((λ form class b s sound h none go. filled-fine class form s [] h.object (omega arith)),
+        ((λ form class b s sound h none go. filled-fine class form s (listed s.values) h.object
+            (let l = listed-length s.values in let m = not_too_many (length s.values) go in omega arith)),
+        ((λ form class b s sound h none go. copied-fine class form s (items (their s 1)) (copied_few s 1 sound)),
+        ((λ form class b s sound h none go. filled-fine class form s (replicate (count_of s 1) (item (pos 0))) h.object (repeated (count_of s 1) _ go)),
+        ((λ form class b s sound h none go. filled-fine class form s (replicate (count_of s 1) (item (int_of s 2))) h.object
+            (repeated (count_of s 1) _ go)),
+        ((λ form class b s sound h none go. filled-fine class form s (as_items (range_keys s 1)) h.object
+            (let l = as_items-length (range_keys s 1) in let m = not_too_many (length (range_keys s 1)) go in omega arith)),
+        ((λ form class b s sound h none go. refilled-fine class s (items (their s 1)) (b refl) (own_there form s h.object) (copied_few s 1 sound)),
+        tt)))))))
+
+    accesses : AllOf LineIsFine (take 10 (drop 7 container_lines))
+    accesses =
+        ((λ form class b s sound h none go. tt),
+        ((λ form class b s sound h none go. tt),
+        ((λ form class b s sound h none go. tt),
+        ((λ form class b s sound h none go. tt),
+        ((λ form class b s sound h none go. tt),
+        ((λ form class b s sound h none go. tt),
+        ((λ form class b s sound h none go. tt),
+        ((λ form class b s sound h none go. tt),
+        ((λ form class b s sound h none go. tt),
+        ((λ form class b s sound h none go. (own_there form s h.object, not_too_many _ go)),
+        tt))))))))))
+
+    changings : AllOf LineIsFine (take 13 (drop 17 container_lines))
+    changings =
+        ((λ form class b s sound h none go. puts-fine class s (own_size s) _ (own_there form s h.object) (omega arith) (not_too_many _ go)),
+        ((λ form class b s sound h none go. puts-fine class s 0 _ (own_there form s h.object) (omega arith) (not_too_many _ go)),
+        ((λ form class b s sound h none go. drops-fine class s (own_size s - 1) 1 sound (b refl) (own_there form s h.object)
+            (let p = filled_one s (first_need _ _ none) in omega arith)),
+        ((λ form class b s sound h none go. drops-fine class s 0 1 sound (b refl) (own_there form s h.object)
+            (let p = filled_one s (first_need _ _ none) in omega arith)),
+        ((λ form class b s sound h none go. puts-fine class s (index s 1) _ (own_there form s h.object)
+            (in_container s 1 1 s.object (first_need _ _ none)) (not_too_many _ go)),
+        ((λ form class b s sound h none go. puts-fine class s (index s 1) _ (own_there form s h.object)
+            (in_container s 1 1 s.object (first_need _ _ none)) (not_too_many _ go)),
+        ((λ form class b s sound h none go. puts-fine class s (index s 1) _ (own_there form s h.object)
+            (in_container s 1 1 s.object (first_need _ _ none)) (not_too_many _ go)),
+        ((λ form class b s sound h none go. (own_there form s h.object, not_too_many _ go)),
+        ((λ form class b s sound h none go. insert_keys-fine class s (range_keys s 1) (own_there form s h.object) (not_too_many _ go)),
+        ((λ form class b s sound h none go. (own_there form s h.object, not_too_many _ go)),
+        ((λ form class b s sound h none go. drops-fine class s (index s 1) 1 sound (b refl) (own_there form s h.object)
+            (let p = on_element s 1 1 s.object (first_need _ _ none) in omega arith)),
+        ((λ form class b s sound h none go. drops-fine class s (index s 1) (range_size s 1) sound (b refl) (own_there form s h.object)
+            (between s 1 1 s.object (first_need _ _ none))),
+        ((λ form class b s sound h none go. drops-fine class s _ _ sound (b refl) (own_there form s h.object) (key_fits s (int_of s 1))),
+        tt)))))))))))))
+
+    others : AllOf LineIsFine (take 10 (drop 30 container_lines))
+    others =
+        ((λ form class b s sound h none go. drops-fine class s 0 (own_size s) sound (b refl) (own_there form s h.object) (omega arith)),
+        ((λ form class b s sound h none go. resized-fine class s (count_of s 1) (pos 0) sound (b refl) (own_there form s h.object) (not_too_many _ go)),
+        ((λ form class b s sound h none go. resized-fine class s (count_of s 1) (int_of s 2) sound (b refl) (own_there form s h.object)
+            (not_too_many _ go)),
+        ((λ form class b s sound h none go. refilled-fine class s (replicate (count_of s 1) (item (int_of s 2))) (b refl) (own_there form s h.object)
+            (repeated (count_of s 1) _ go)),
+        ((λ form class b s sound h none go. reserved-fine class s (count_of s 1) sound (own_there form s h.object)),
+        ((λ form class b s sound h none go. swap-fine class s sound (own_there form s h.object) (first_container s.memory form [] s.values h.operands)),
+        ((λ form class b s sound h none go. tt),
+        ((λ form class b s sound h none go. tt),
+        ((λ form class b s sound h none go. tt),
+        ((λ form class b s sound h none go. tt),
+        tt))))))))))
+
+    lists : AllOf LineIsFine (drop 40 container_lines)
+    lists =
+        ((λ form class b s sound h none go. (own_there form s h.object,
+            arranged-fair (own s) (sorted_places (keys (own s))) (sorted_all (own s)) (any_small s.memory s.object sound))),
+        ((λ form class b s sound h none go. (own_there form s h.object,
+            arranged-fair (own s) (reverse (numbers 0 (own_size s))) (reversed_all (own_size s)) (any_small s.memory s.object sound))),
+        ((λ form class b s sound h none go. (own_there form s h.object,
+            retained-fair (own s) (first_places (keys (own s))) (picked_of (own s) _ (first_places-picked (keys (own s))))
+            (any_small s.memory s.object sound))),
+        ((λ form class b s sound h none go. (own_there form s h.object,
+            retained-fair (own s) (other_places (int_of s 1) 0 (keys (own s))) (picked_of (own s) _ (other_places-picked (int_of s 1) 0 (keys (own s))))
+            (any_small s.memory s.object sound))),
+        ((λ form class b s sound h none go. merge-fine class s sound (own_there form s h.object) (first_container s.memory form [] s.values h.operands) go),
+        ((λ form class b s sound h none go. splices-fine class s 0 (their_size s 2) sound (own_there form s h.object)
+            (second_container s.memory form [] s.values h.operands) (in_container s 1 1 s.object (first_need _ _ none)) (omega arith) go),
+        ((λ form class b s sound h none go. splices-fine class s (index s 3) 1 sound (own_there form s h.object)
+            (second_container s.memory form (an_iterator ∷ []) s.values h.operands) (in_container s 1 1 s.object (first_need _ _ none))
+            (let p : index s 3 < their_size s 2 = on_element s 3 3 (container_of s 2) (second_need (place_fails s.object (place_of s 1) 1)
+            (element_fails (container_of s 2) (their_size s 2) (place_of s 3) 3) [] none) in omega arith) go),
+        ((λ form class b s sound h none go. splices-fine class s (index s 3) (range_size s 3) sound (own_there form s h.object)
+            (second_container s.memory form (an_iterator ∷ an_iterator ∷ []) s.values h.operands) (in_container s 1 1 s.object (first_need _ _ none))
+            (between s 3 3 (container_of s 2) (none_left (range_fails (container_of s 2) (place_of s 3) (place_of s 4) 3) (inner_position s)
+            (second_need (place_fails s.object (place_of s 1) 1)
+            (range_fails (container_of s 2) (place_of s 3) (place_of s 4) 3 ++ inner_position s) [] none))) go),
+        tt))))))))
+
+-- each call on a multiset or multimap
+pub multis-fine : AllOf LineIsFine multi_lines
+multis-fine = all_parts LineIsFine 9 multi_lines first (all_parts LineIsFine 8 (drop 9 multi_lines) changings searches)
+  where
+    first : AllOf LineIsFine (take 9 multi_lines)
+    first =
+        ((λ form class b s sound h none go. filled-fine class form s [] h.object (omega arith)),
+        ((λ form class b s sound h none go. copied-fine class form s (items (their s 1)) (copied_few s 1 sound)),
+        ((λ form class b s sound h none go. filled-fine class form s (listed s.values) h.object
+            (let l = listed-length s.values in let m = not_too_many (length s.values) go in omega arith)),
+        ((λ form class b s sound h none go. filled-fine class form s (as_items (range_keys s 1)) h.object
+            (let l = as_items-length (range_keys s 1) in let m = not_too_many (length (range_keys s 1)) go in omega arith)),
+        ((λ form class b s sound h none go. refilled-fine class s (items (their s 1)) (b refl) (own_there form s h.object) (copied_few s 1 sound)),
+        ((λ form class b s sound h none go. tt),
+        ((λ form class b s sound h none go. tt),
+        ((λ form class b s sound h none go. tt),
+        ((λ form class b s sound h none go. tt),
+        tt)))))))))
+
+    changings : AllOf LineIsFine (take 8 (drop 9 multi_lines))
+    changings =
+        ((λ form class b s sound h none go. (own_there form s h.object, not_too_many _ go)),
+        ((λ form class b s sound h none go. insert_keys-fine class s (range_keys s 1) (own_there form s h.object) (not_too_many _ go)),
+        ((λ form class b s sound h none go. (own_there form s h.object, not_too_many _ go)),
+        ((λ form class b s sound h none go. drops-fine class s (index s 1) 1 sound (b refl) (own_there form s h.object)
+            (let p = on_element s 1 1 s.object (first_need _ _ none) in omega arith)),
+        ((λ form class b s sound h none go. drops-fine class s (index s 1) (range_size s 1) sound (b refl) (own_there form s h.object)
+            (between s 1 1 s.object (first_need _ _ none))),
+        ((λ form class b s sound h none go. drops-fine class s _ _ sound (b refl) (own_there form s h.object) (key_fits s (int_of s 1))),
+        ((λ form class b s sound h none go. drops-fine class s 0 (own_size s) sound (b refl) (own_there form s h.object) (omega arith)),
+        ((λ form class b s sound h none go. swap-fine class s sound (own_there form s h.object) (first_container s.memory form [] s.values h.operands)),
+        tt))))))))
+
+    searches : AllOf LineIsFine (drop 17 multi_lines)
+    searches =
+        ((λ form class b s sound h none go. tt),
+        ((λ form class b s sound h none go. tt),
+        ((λ form class b s sound h none go. tt),
+        ((λ form class b s sound h none go. tt),
+        ((λ form class b s sound h none go. tt),
+        tt)))))
