@@ -314,3 +314,26 @@ times-moved k n p from count fits =
     let e : times k (numbers 0 from) + (times k (numbers from count) + times k (numbers (from + count) (n - (from + count))))
         ≡ times k (numbers 0 n) = three_parts k n from count fits in
     omega arith
+
+-- they are as many
+pub moved_length : (n p from count : ℕ) → from + count ≤ n → length (moved_order n p from count) ≡ n
+moved_length n p from count fits =
+    let others : List ℕ = numbers 0 from ++ numbers (from + count) (n - (from + count)) in
+    let target : ℕ = if nat_le (from + count) p then p - count else p in
+    let a = length-append (take target others) (numbers from count ++ drop target others) in
+    let b = length-append (numbers from count) (drop target others) in
+    let c = length-cut target others in
+    let d = length-append (numbers 0 from) (numbers (from + count) (n - (from + count))) in
+    let e = length-numbers 0 from in
+    let f = length-numbers from count in
+    let g = length-numbers (from + count) (n - (from + count)) in
+    omega arith
+  where
+    length-append : (xs ys : List ℕ) → length (xs ++ ys) ≡ length xs + length ys
+    length-append [] ys = omega arith
+    length-append (x ∷ xs) ys = let r = length-append xs ys in omega arith
+
+    length-cut : (i : ℕ) (xs : List ℕ) → length (take i xs) + length (drop i xs) ≡ length xs
+    length-cut zero xs = omega arith
+    length-cut (suc i) [] = omega arith
+    length-cut (suc i) (x ∷ xs) = let r = length-cut i xs in omega arith

@@ -37,6 +37,7 @@ pub mod OutputsTell
 pub mod AlgorithmRowsTell
 -- ## Each row is fine: its effect leaves a sound memory sound, and no mark vanishes
 pub mod FineRows
+pub mod FineContainers
 -- ## Scoped texts: each state of a run is good
 pub mod Locations
 pub mod Levels

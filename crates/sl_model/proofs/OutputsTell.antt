@@ -19,11 +19,11 @@ use Rattle.sl_model.proofs.Tells.{shape_of_answer}
 use Rattle.sl_model.proofs.AlgorithmsTell.{no_failure, none_left, none_right, place_there, container_there, overwrites-place}
 
 -- both hold, so each does
-first_holds : (a b : Bool) → (a && b) ≡ true → a ≡ true
+pub first_holds : (a b : Bool) → (a && b) ≡ true → a ≡ true
 first_holds true b e = refl
 first_holds false b e = absurd (cc)
 
-second_holds : (a b : Bool) → (a && b) ≡ true → b ≡ true
+pub second_holds : (a b : Bool) → (a && b) ≡ true → b ≡ true
 second_holds true b e = e
 second_holds false b e = absurd (cc)
 
