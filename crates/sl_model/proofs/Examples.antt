@@ -19,4 +19,6 @@ pub mod Outcomes
 pub mod Sequences
 pub mod Keys
 pub mod Algorithms
+pub mod Moves
+pub mod Ranges
 pub mod Scoped

@@ -3,6 +3,7 @@
 use Rattle.std.specs.Prelude.{ℕ, List, [], ◌∷◌, map, ℤ, pos, Option, Some, None, suc}
 use Rattle.sl_base.specs.declared.form.Form.{Form}
 use Rattle.sl_syntax.specs.declared.typed.callee.Callee.TheVariants as callees
+use Rattle.sl_syntax.specs.declared.typed.operator.Operator.{Operator}
 use Rattle.sl_model.specs.Numbers.{truth}
 use Rattle.sl_model.specs.Containers.{Cell, Memory, keys, locate, locate_refer, element}
 use Rattle.sl_model.specs.Edits.{numbers}
@@ -80,3 +81,7 @@ on_first row values m picks = lib (callees.Row row) (record { site = 9; object =
 -- an algorithm, at site 9
 abbrev pub algorithm : ℕ → List Value → Memory → List ℕ → LibOut
 algorithm row values m picks = lib (callees.Row row) (record { site = 9; object = None; values = values }) m picks
+
+-- an operator, at site 9
+abbrev pub by_operator : Operator → List Value → Memory → LibOut
+by_operator o values m = lib (callees.Operator o) (record { site = 9; object = None; values = values }) m []
