@@ -1,39 +1,30 @@
 -- Each algorithm tells its shape, it makes no container, and an iterator that it gives stands where its range, its output or the
 -- iterator that it moves does.
-use Rattle.std.proofs.Common.{◌≡◌, ℕ, zero, suc, ◌+◌, ◌-◌, ◌<◌, ◌≤◌, ◌==◌, Bool, true, false, not, List, [], ◌∷◌, ◌++◌, Option, Some, None, length, map, refl}
+use Rattle.std.proofs.Common.{◌≡◌, ℕ, suc, ◌+◌, ◌-◌, ◌<◌, ◌≤◌, ◌==◌, Bool, true, false, not, List, [], ◌∷◌, ◌++◌, Option, Some, None, length, refl}
 use Rattle.std.proofs.Common.{length-append, ap, sym, subst, arith, if◌then◌else◌, ◌∙◌}
-use Rattle.std.specs.Prelude.{ℤ, pos, negsuc, nat_le, nat_lt, filter, int_lt, int_le}
-use Rattle.std.specs.List.{slice_get}
+use Rattle.std.specs.Prelude.{ℤ, pos, negsuc, nat_le, nat_lt, int_lt}
 use Rattle.std.proofs.lemmas.Bool.{eqb-true, leb-true}
-use Rattle.std.proofs.lemmas.List.Sums.{length-filter, count_by-le-length}
 use Rattle.std.proofs.lemmas.Option.{get_or_from_slice_get}
-use Rattle.sl_base.specs.declared.form.Form.{Form}
 use Rattle.sl_base.specs.declared.form.Form.TheVariants as f
-use Rattle.sl_specs.specs.declared.call.Call.TheVariants as c
-use Rattle.sl_specs.specs.declared.class.Class.{Class}
-use Rattle.sl_specs.specs.Rows.{Row as TableRow}
-use Rattle.sl_specs.specs.AlgorithmRows.{algorithm_rows}
 use Rattle.sl_base.specs.declared.failures.TheConstants.{WRONG_CONTAINER}
 use Rattle.sl_model.specs.Containers.{Cont, Memory, size, keys, stamps, cont_at}
 use Rattle.sl_model.specs.Forms.{step_of}
-use Rattle.sl_model.specs.Edits.{Source, written, olds, after}
+use Rattle.sl_model.specs.Edits.{written, olds, after}
 use Rattle.sl_model.specs.Rearrangements.{overwritten, overwrites}
-use Rattle.sl_model.specs.Orders.{same, firsts_after, firsts, others, how_many, best_place, least_place, greatest_place, index_of_key}
-use Rattle.sl_model.specs.Schedule.{picked}
-use Rattle.sl_model.specs.Values.{Value, nothing, number, iterator, pair, two, scalar_at, container_at, element_at, Shape, no_value, a_stamp}
-use Rattle.sl_model.specs.Situation.{Situation, own, own_size, argument, index_in, place_in, place_of, index, container_of_value, container_of, their, int_of}
+use Rattle.sl_model.specs.Orders.{how_many, best_place, least_place, greatest_place, index_of_key}
+use Rattle.sl_model.specs.Values.{Value, nothing, number, iterator, pair, two, scalar_at, container_at, element_at}
+use Rattle.sl_model.specs.Situation.{Situation, own, own_size, argument, index_in, place_in, place_of, index, container_of_value, their}
 use Rattle.sl_model.specs.Situation.{range_keys, range_size}
-use Rattle.sl_model.specs.Needs.{fails_if, invalid_fails, one_container_fails, one_range_fails, output_fails, movable_fails, is_before, first_failure}
+use Rattle.sl_model.specs.Needs.{fails_if, invalid_fails, one_container_fails, one_range_fails, movable_fails, is_before, first_failure}
 use Rattle.sl_model.specs.KeyActions.{place_or}
 use Rattle.sl_model.specs.SearchAlgorithms.{stepped}
-use Rattle.sl_model.specs.Rows.{of_first, algorithm_row}
+use Rattle.sl_model.specs.Rows.{of_first}
 use Rattle.sl_model.proofs.Getting.{get_within}
 use Rattle.sl_model.proofs.Located.{at-locate}
 use Rattle.sl_model.proofs.Columns.{stamps-length}
-use Rattle.sl_model.proofs.Called.{HasObject, IsCalled}
-use Rattle.sl_model.proofs.Growing.{makes_one}
+use Rattle.sl_model.proofs.Called.{HasObject}
 use Rattle.sl_model.proofs.Placing.{HasPlace, IsPlaced, olds-length, after-place, how_many-low, first_of_key-low, range-length}
-use Rattle.sl_model.proofs.Tells.{shape_of_answer, tells, RowTells, AllOf}
+use Rattle.sl_model.proofs.Tells.{tells}
 
 -- where no failure is the first, there is none
 pub no_failure : (xs : List (ℕ × ℕ)) → first_failure xs ≡ None → xs ≡ []
@@ -44,7 +35,8 @@ no_failure (x ∷ xs) e = absurd (by_rest (first_failure xs) e)
     by_test g true h = cc
     by_test g false h = cc
 
-    by_rest : (o : Option (ℕ × ℕ)) → elim o as (λ _. Option (ℕ × ℕ)) [ None ↦ Some x | Some g ↦ (if is_before g x then Some g else Some x) ] ≡ None → ⊥
+    by_rest : (o : Option (ℕ × ℕ)) → elim o as (λ _. Option (ℕ × ℕ)) [ None ↦ Some x | Some g ↦ (if is_before g x then Some g else Some x) ] ≡ None
+        → ⊥
     by_rest None h = cc
     by_rest (Some g) h = by_test g (is_before g x) h
 
@@ -212,7 +204,8 @@ step_of-low n k (negsuc i) low = by_test (nat_lt i k)
     by_test false = omega arith
 
 -- the iterator that is moved stands somewhere, where it may be
-pub movable : (m : Memory) (o : Option (ℕ × ℕ)) (z : ℤ) (xs : List (ℕ × ℕ)) → first_failure (movable_fails m o z ++ xs) ≡ None → (p : ℕ × ℕ) × (o ≡ Some p)
+pub movable : (m : Memory) (o : Option (ℕ × ℕ)) (z : ℤ) (xs : List (ℕ × ℕ)) → first_failure (movable_fails m o z ++ xs) ≡ None → (p : ℕ × ℕ) ×
+    (o ≡ Some p)
 movable m None z xs e = absurd (let q = no_failure (movable_fails m None z ++ xs) e in cc)
 movable m (Some p) z xs e = (p, refl)
 

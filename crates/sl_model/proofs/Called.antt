@@ -1,6 +1,6 @@
 -- What is known where a row is carried out: its object is there, and the operands are of its sorts. What holds of an unbuilt call, and
 -- of each call of a row where that is known, holds of each call of the row.
-use Rattle.std.proofs.Common.{◌≡◌, ℕ, zero, suc, ◌<◌, ◌==◌, Bool, true, false, List, [], Option, Some, None, length, refl, ap, sym, ◌∙◌}
+use Rattle.std.proofs.Common.{◌≡◌, ℕ, ◌<◌, Bool, true, false, List, [], Option, Some, None, length, refl, ap, sym, ◌∙◌}
 use Rattle.std.proofs.Common.{if◌then◌else◌}
 use Rattle.std.specs.List.{slice_get}
 use Rattle.std.proofs.lemmas.Option.{get_or_from_slice_get}
@@ -9,8 +9,8 @@ use Rattle.sl_base.specs.declared.form.Form.TheVariants as f
 use Rattle.sl_base.specs.contracts.form.Form.{the_type}
 use denote.Enum.Bare.{same_true}
 use Rattle.sl_specs.specs.Forms.{same_form}
-use Rattle.sl_model.specs.Containers.{Cont, Memory, cont_at}
-use Rattle.sl_model.specs.Values.{Value, Args, LibOut, unbuilt}
+use Rattle.sl_model.specs.Containers.{Cont, Memory}
+use Rattle.sl_model.specs.Values.{Args, LibOut, unbuilt}
 use Rattle.sl_model.specs.Operands.{is_of_form, are_of}
 use Rattle.sl_model.specs.Situation.{Situation, own, container_of}
 use Rattle.sl_model.specs.Rows.{Object, of_form, new_one, of_first, Row}

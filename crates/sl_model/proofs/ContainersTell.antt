@@ -1,21 +1,19 @@
 -- Each call on a container tells its shape and whether it makes a container, and an iterator that it gives stands in its object.
-use Rattle.std.proofs.Common.{◌≡◌, ℕ, ◌+◌, ◌-◌, ◌<◌, ◌≤◌, ◌==◌, Bool, true, false, List, [], ◌∷◌, Option, Some, None, length, map, refl, ap, sym, subst}
+use Rattle.std.proofs.Common.{◌≡◌, ℕ, ◌+◌, ◌-◌, ◌<◌, ◌≤◌, ◌==◌, Bool, true, false, List, [], ◌∷◌, Option, Some, None, length, map, refl, ap}
 use Rattle.std.proofs.Common.{arith, if◌then◌else◌, ◌∙◌}
-use Rattle.std.specs.Prelude.{ℤ, pos, int_lt, int_le, nat_lt, take, drop}
+use Rattle.std.specs.Prelude.{ℤ, int_lt, int_le, nat_lt, take, drop}
 use Rattle.std.proofs.lemmas.List.{length-map}
 use Rattle.sl_base.specs.declared.form.Form.{Form}
 use Rattle.sl_base.specs.declared.form.Form.TheVariants as f
 use Rattle.sl_specs.specs.declared.class.Class.{Class}
-use Rattle.sl_specs.specs.declared.letter.Letter.{Letter}
-use Rattle.sl_specs.specs.Rows.{Line, row_of as row_of_line}
 use Rattle.sl_specs.specs.ContainerLines.{container_lines}
 use Rattle.sl_specs.specs.MultiLines.{multi_lines}
-use Rattle.sl_model.specs.Containers.{Cont, Memory, size, keys, cont_at}
+use Rattle.sl_model.specs.Containers.{Cont, Memory, size, keys}
 use Rattle.sl_model.specs.Classes.{Edit}
 use Rattle.sl_model.specs.Edits.{Source, old, new, numbers, change_of, after}
 use Rattle.sl_model.specs.Forms.{is_hash, holds_equal_keys}
 use Rattle.sl_model.specs.Orders.{index_of_key}
-use Rattle.sl_model.specs.Schedule.{put_at, scattered, hash_place, after_picks, pick, pick_at}
+use Rattle.sl_model.specs.Schedule.{scattered, hash_place, after_picks, pick, pick_at}
 use Rattle.sl_model.specs.Situation.{Situation, own, own_size, their, their_size, container_of, index, range_size, int_of, count_of, item}
 use Rattle.sl_model.specs.Actions.{Effect, keeps, edits, changes, trades, inserts, gives_place, gives_place_and}
 use Rattle.sl_model.specs.Effects.{Left, is_full, ordered_place, key_order, key_place, key_change, key_picks, known_key, insert_key, does}
@@ -26,9 +24,10 @@ use Rattle.sl_model.specs.Rearrangements.{arranged, exchanged, received, given, 
 use Rattle.sl_model.specs.KeyActions.{key_index, place_or, key_after, is_new, inserted, below, up_to}
 use Rattle.sl_model.specs.Rows.{of_form}
 use Rattle.sl_model.specs.Values.{Shape, a_stamp, a_pair}
-use Rattle.sl_model.proofs.Called.{HasObject, IsCalled, own_within, own_form}
+use Rattle.sl_model.proofs.Called.{HasObject, own_within, own_form}
 use Rattle.sl_model.proofs.Growing.{makes_one}
-use Rattle.sl_model.proofs.Placing.{HasPlace, IsPlaced, numbers-length, after-place, edit-place, put_at-length, scattered-length, hash_place-low, how_many-low}
+use Rattle.sl_model.proofs.Placing.{HasPlace, IsPlaced, numbers-length, after-place, edit-place, put_at-length, scattered-length, hash_place-low}
+use Rattle.sl_model.proofs.Placing.{how_many-low}
 use Rattle.sl_model.proofs.Placing.{first_of_key-low, keys-length}
 use Rattle.sl_model.proofs.Tells.{shape_of_answer, tells, LineTells, AllOf, all_parts}
 
@@ -151,12 +150,14 @@ key_placed class s x picks low = by_known (known_key (own s) x.0) refl
 inserted-told : (m : Memory) (form : Form) (equal : Bool) (s : Situation) (z : ℤ) → HasObject (of_form form) s → holds_equal_keys form ≡ equal
     → HasPlace m s.object (key_after s z)
     → (shape_of_answer (inserted s z) ≡ (if equal then a_stamp else a_pair)) × IsPlaced m (inserted s z)
-inserted-told m form equal s z there e h = (by_equal (holds_equal_keys (own s).form) ∙ ap shape_if (ap holds_equal_keys (own_form form s there) ∙ e), placed (holds_equal_keys (own s).form))
+inserted-told m form equal s z there e h =
+    (by_equal (holds_equal_keys (own s).form) ∙ ap shape_if (ap holds_equal_keys (own_form form s there) ∙ e), placed (holds_equal_keys (own s).form))
   where
     shape_if : Bool → Shape
     shape_if b = if b then a_stamp else a_pair
 
-    by_equal : (b : Bool) → shape_of_answer (if b then gives_place s.object (key_after s z) else gives_place_and s.object (key_after s z) (is_new s z))
+    by_equal : (b : Bool) → shape_of_answer
+        (if b then gives_place s.object (key_after s z) else gives_place_and s.object (key_after s z) (is_new s z))
         ≡ (if b then a_stamp else a_pair)
     by_equal true = refl
     by_equal false = refl
@@ -167,7 +168,8 @@ inserted-told m form equal s z there e h = (by_equal (holds_equal_keys (own s).f
 
 -- a key that is put in
 key_told : (form : Form) (equal : Bool) (class : Class) (s : Situation) (x : ℤ × ℤ) → holds_equal_keys form ≡ equal → HasObject (of_form form) s
-    → (shape_of_answer (inserted s x.0) ≡ (if equal then a_stamp else a_pair)) × IsPlaced (does form class s (inserts (x ∷ []))).memory (inserted s x.0)
+    → (shape_of_answer (inserted s x.0) ≡ (if equal then a_stamp else a_pair)) × IsPlaced (does form class s (inserts (x ∷ []))).memory
+    (inserted s x.0)
 key_told form equal class s x e there = inserted-told (does form class s (inserts (x ∷ []))).memory form equal s x.0 there e
     (key_placed class s x s.picks (own_within form s there))
 
@@ -182,29 +184,206 @@ container-tells = all_parts (LineTells false) 7 container_lines makings (all_par
     (all_parts (LineTells false) 13 (drop 17 container_lines) edits (all_parts (LineTells false) 10 (drop 30 container_lines) others lists)))
   where
     makings : AllOf (LineTells false) (take 7 container_lines)
-    makings = ((λ form e kills s h n. tells (filled-makes form _ s.picks) refl tt), ((λ form e kills s h n. tells (filled-makes form _ s.picks) refl tt), ((λ form e kills s h n. tells refl refl tt), ((λ form e kills s h n. tells (filled-makes form _ s.picks) refl tt), ((λ form e kills s h n. tells (filled-makes form _ s.picks) refl tt), ((λ form e kills s h n. tells (filled-makes form _ s.picks) refl tt), ((λ form e kills s h n. tells refl refl tt), tt)))))))
+    makings = (
+      (λ form e kills s h n. tells (filled-makes form _ s.picks) refl tt),
+      (
+        (λ form e kills s h n. tells (filled-makes form _ s.picks) refl tt),
+        (
+          (λ form e kills s h n. tells refl refl tt),
+          (
+            (λ form e kills s h n. tells (filled-makes form _ s.picks) refl tt),
+            (
+              (λ form e kills s h n. tells (filled-makes form _ s.picks) refl tt),
+              ((λ form e kills s h n. tells (filled-makes form _ s.picks) refl tt), ((λ form e kills s h n. tells refl refl tt), tt)),
+            ),
+          ),
+        ),
+      ),
+    )
 
     accesses : AllOf (LineTells false) (take 10 (drop 7 container_lines))
-    accesses = ((λ form e kills s h n. tells refl refl (own_place form s 0 h.object (omega arith))), ((λ form e kills s h n. tells refl refl (own_place form s (own_size s) h.object (omega arith))), ((λ form e kills s h n. tells refl refl tt), ((λ form e kills s h n. tells refl refl tt), ((λ form e kills s h n. tells refl refl tt), ((λ form e kills s h n. tells refl refl tt), ((λ form e kills s h n. tells refl refl tt), ((λ form e kills s h n. tells refl refl tt), ((λ form e kills s h n. tells refl refl tt), ((λ form e kills s h n. tells refl refl tt), tt))))))))))
+    accesses = (
+      (λ form e kills s h n. tells refl refl (own_place form s 0 h.object (omega arith))),
+      (
+        (λ form e kills s h n. tells refl refl (own_place form s (own_size s) h.object (omega arith))),
+        (
+          (λ form e kills s h n. tells refl refl tt),
+          (
+            (λ form e kills s h n. tells refl refl tt),
+            (
+              (λ form e kills s h n. tells refl refl tt),
+              (
+                (λ form e kills s h n. tells refl refl tt),
+                (
+                  (λ form e kills s h n. tells refl refl tt),
+                  (
+                    (λ form e kills s h n. tells refl refl tt),
+                    ((λ form e kills s h n. tells refl refl tt), ((λ form e kills s h n. tells refl refl tt), tt)),
+                  ),
+                ),
+              ),
+            ),
+          ),
+        ),
+      ),
+    )
 
     edits : AllOf (LineTells false) (take 13 (drop 17 container_lines))
-    edits = ((λ form e kills s h n. tells refl refl tt), ((λ form e kills s h n. tells refl refl tt), ((λ form e kills s h n. tells refl refl tt), ((λ form e kills s h n. tells refl refl tt), ((λ form e kills s h n. tells refl refl (begins_there form kills s _ h.object)), ((λ form e kills s h n. tells refl refl (begins_there form kills s _ h.object)), ((λ form e kills s h n. tells refl refl (begins_there form kills s _ h.object)), ((λ form e kills s h n. let t = key_told form _ kills s (item (int_of s 1)) e h.object in tells refl t.0 t.1), ((λ form e kills s h n. tells refl refl tt), ((λ form e kills s h n. let t = key_told form _ kills s (int_of s 1, int_of s 2) e h.object in tells refl t.0 t.1), ((λ form e kills s h n. tells refl refl (begins_there form kills s _ h.object)), ((λ form e kills s h n. tells refl refl (begins_there form kills s _ h.object)), ((λ form e kills s h n. tells refl refl tt), tt)))))))))))))
+    edits = (
+      (λ form e kills s h n. tells refl refl tt),
+      (
+        (λ form e kills s h n. tells refl refl tt),
+        (
+          (λ form e kills s h n. tells refl refl tt),
+          (
+            (λ form e kills s h n. tells refl refl tt),
+            (
+              (λ form e kills s h n. tells refl refl (begins_there form kills s _ h.object)),
+              (
+                (λ form e kills s h n. tells refl refl (begins_there form kills s _ h.object)),
+                (
+                  (λ form e kills s h n. tells refl refl (begins_there form kills s _ h.object)),
+                  (
+                    (λ form e kills s h n. let t = key_told form _ kills s (item (int_of s 1)) e h.object in tells refl t.0 t.1),
+                    (
+                      (λ form e kills s h n. tells refl refl tt),
+                      (
+                        (λ form e kills s h n. let t = key_told form _ kills s (int_of s 1, int_of s 2) e h.object in tells refl t.0 t.1),
+                        (
+                          (λ form e kills s h n. tells refl refl (begins_there form kills s _ h.object)),
+                          ((λ form e kills s h n. tells refl refl (begins_there form kills s _ h.object)), ((λ form e kills s h n. tells refl refl tt), tt)),
+                        ),
+                      ),
+                    ),
+                  ),
+                ),
+              ),
+            ),
+          ),
+        ),
+      ),
+    )
 
     others : AllOf (LineTells false) (take 10 (drop 30 container_lines))
-    others = ((λ form e kills s h n. tells refl refl tt), ((λ form e kills s h n. tells refl refl tt), ((λ form e kills s h n. tells refl refl tt), ((λ form e kills s h n. tells refl refl tt), ((λ form e kills s h n. tells (reserved-makes s.object (own s) (count_of s 1) s.picks) refl tt), ((λ form e kills s h n. tells (swap-makes s) refl tt), ((λ form e kills s h n. tells refl refl (own_place form s _ h.object (place_or-low (key_index s (int_of s 1)) (own_size s) (key_index-low s (int_of s 1))))), ((λ form e kills s h n. tells refl refl tt), ((λ form e kills s h n. tells refl refl (own_place form s _ h.object (below-low s (int_of s 1)))), ((λ form e kills s h n. tells refl refl (own_place form s _ h.object (up_to-low s (int_of s 1)))), tt))))))))))
+    others = (
+      (λ form e kills s h n. tells refl refl tt),
+      (
+        (λ form e kills s h n. tells refl refl tt),
+        (
+          (λ form e kills s h n. tells refl refl tt),
+          (
+            (λ form e kills s h n. tells refl refl tt),
+            (
+              (λ form e kills s h n. tells (reserved-makes s.object (own s) (count_of s 1) s.picks) refl tt),
+              (
+                (λ form e kills s h n. tells (swap-makes s) refl tt),
+                (
+                  (λ form e kills s h n. tells refl refl
+                      (own_place form s _ h.object (place_or-low (key_index s (int_of s 1)) (own_size s) (key_index-low s (int_of s 1))))),
+                  (
+                    (λ form e kills s h n. tells refl refl tt),
+                    (
+                      (λ form e kills s h n. tells refl refl (own_place form s _ h.object (below-low s (int_of s 1)))),
+                      ((λ form e kills s h n. tells refl refl (own_place form s _ h.object (up_to-low s (int_of s 1)))), tt),
+                    ),
+                  ),
+                ),
+              ),
+            ),
+          ),
+        ),
+      ),
+    )
 
     lists : AllOf (LineTells false) (drop 40 container_lines)
-    lists = ((λ form e kills s h n. tells refl refl tt), ((λ form e kills s h n. tells refl refl tt), ((λ form e kills s h n. tells refl refl tt), ((λ form e kills s h n. tells refl refl tt), ((λ form e kills s h n. tells (merge-makes s) refl tt), ((λ form e kills s h n. tells (splices-makes s 0 (their_size s 2)) refl tt), ((λ form e kills s h n. tells (splices-makes s (index s 3) 1) refl tt), ((λ form e kills s h n. tells (splices-makes s (index s 3) (range_size s 3)) refl tt), tt))))))))
+    lists = (
+      (λ form e kills s h n. tells refl refl tt),
+      (
+        (λ form e kills s h n. tells refl refl tt),
+        (
+          (λ form e kills s h n. tells refl refl tt),
+          (
+            (λ form e kills s h n. tells refl refl tt),
+            (
+              (λ form e kills s h n. tells (merge-makes s) refl tt),
+              (
+                (λ form e kills s h n. tells (splices-makes s 0 (their_size s 2)) refl tt),
+                (
+                  (λ form e kills s h n. tells (splices-makes s (index s 3) 1) refl tt),
+                  ((λ form e kills s h n. tells (splices-makes s (index s 3) (range_size s 3)) refl tt), tt),
+                ),
+              ),
+            ),
+          ),
+        ),
+      ),
+    )
 
 -- each call on a multiset or multimap
 pub multi-tells : AllOf (LineTells true) multi_lines
 multi-tells = all_parts (LineTells true) 9 multi_lines first (all_parts (LineTells true) 8 (drop 9 multi_lines) edits searches)
   where
     first : AllOf (LineTells true) (take 9 multi_lines)
-    first = ((λ form e kills s h n. tells (filled-makes form _ s.picks) refl tt), ((λ form e kills s h n. tells refl refl tt), ((λ form e kills s h n. tells (filled-makes form _ s.picks) refl tt), ((λ form e kills s h n. tells (filled-makes form _ s.picks) refl tt), ((λ form e kills s h n. tells refl refl tt), ((λ form e kills s h n. tells refl refl (own_place form s 0 h.object (omega arith))), ((λ form e kills s h n. tells refl refl (own_place form s (own_size s) h.object (omega arith))), ((λ form e kills s h n. tells refl refl tt), ((λ form e kills s h n. tells refl refl tt), tt)))))))))
+    first = (
+      (λ form e kills s h n. tells (filled-makes form _ s.picks) refl tt),
+      (
+        (λ form e kills s h n. tells refl refl tt),
+        (
+          (λ form e kills s h n. tells (filled-makes form _ s.picks) refl tt),
+          (
+            (λ form e kills s h n. tells (filled-makes form _ s.picks) refl tt),
+            (
+              (λ form e kills s h n. tells refl refl tt),
+              (
+                (λ form e kills s h n. tells refl refl (own_place form s 0 h.object (omega arith))),
+                (
+                  (λ form e kills s h n. tells refl refl (own_place form s (own_size s) h.object (omega arith))),
+                  ((λ form e kills s h n. tells refl refl tt), ((λ form e kills s h n. tells refl refl tt), tt)),
+                ),
+              ),
+            ),
+          ),
+        ),
+      ),
+    )
 
     edits : AllOf (LineTells true) (take 8 (drop 9 multi_lines))
-    edits = ((λ form e kills s h n. let t = key_told form _ kills s (item (int_of s 1)) e h.object in tells refl t.0 t.1), ((λ form e kills s h n. tells refl refl tt), ((λ form e kills s h n. let t = key_told form _ kills s (int_of s 1, int_of s 2) e h.object in tells refl t.0 t.1), ((λ form e kills s h n. tells refl refl (begins_there form kills s _ h.object)), ((λ form e kills s h n. tells refl refl (begins_there form kills s _ h.object)), ((λ form e kills s h n. tells refl refl tt), ((λ form e kills s h n. tells refl refl tt), ((λ form e kills s h n. tells (swap-makes s) refl tt), tt))))))))
+    edits = (
+      (λ form e kills s h n. let t = key_told form _ kills s (item (int_of s 1)) e h.object in tells refl t.0 t.1),
+      (
+        (λ form e kills s h n. tells refl refl tt),
+        (
+          (λ form e kills s h n. let t = key_told form _ kills s (int_of s 1, int_of s 2) e h.object in tells refl t.0 t.1),
+          (
+            (λ form e kills s h n. tells refl refl (begins_there form kills s _ h.object)),
+            (
+              (λ form e kills s h n. tells refl refl (begins_there form kills s _ h.object)),
+              (
+                (λ form e kills s h n. tells refl refl tt),
+                ((λ form e kills s h n. tells refl refl tt), ((λ form e kills s h n. tells (swap-makes s) refl tt), tt)),
+              ),
+            ),
+          ),
+        ),
+      ),
+    )
 
     searches : AllOf (LineTells true) (drop 17 multi_lines)
-    searches = ((λ form e kills s h n. tells refl refl (own_place form s _ h.object (place_or-low (key_index s (int_of s 1)) (own_size s) (key_index-low s (int_of s 1))))), ((λ form e kills s h n. tells refl refl tt), ((λ form e kills s h n. tells refl refl (own_place form s _ h.object (below-low s (int_of s 1)))), ((λ form e kills s h n. tells refl refl (own_place form s _ h.object (up_to-low s (int_of s 1)))), ((λ form e kills s h n. tells refl refl (own_place form s _ h.object (below-low s (int_of s 1)), own_place form s _ h.object (up_to-low s (int_of s 1)))), tt)))))
+    searches = (
+      (λ form e kills s h n. tells refl refl
+          (own_place form s _ h.object (place_or-low (key_index s (int_of s 1)) (own_size s) (key_index-low s (int_of s 1))))),
+      (
+        (λ form e kills s h n. tells refl refl tt),
+        (
+          (λ form e kills s h n. tells refl refl (own_place form s _ h.object (below-low s (int_of s 1)))),
+          (
+            (λ form e kills s h n. tells refl refl (own_place form s _ h.object (up_to-low s (int_of s 1)))),
+            (
+              (λ form e kills s h n. tells refl refl
+                  (own_place form s _ h.object (below-low s (int_of s 1)), own_place form s _ h.object (up_to-low s (int_of s 1)))),
+              tt,
+            ),
+          ),
+        ),
+      ),
+    )

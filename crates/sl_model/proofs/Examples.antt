@@ -15,4 +15,8 @@ pub mod Told
 pub mod Rows
 pub mod Cleared
 pub mod Appending
+pub mod Outcomes
+pub mod Sequences
+pub mod Keys
+pub mod Algorithms
 pub mod Scoped

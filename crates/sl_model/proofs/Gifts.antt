@@ -1,6 +1,6 @@
 -- What an expression, a library and a text's own functions keep of a state: it stays good and at its level, and what is given has
 -- the shape that is said and holds stamps that were used.
-use Rattle.std.proofs.Common.{◌≡◌, ℕ, ◌+◌, ◌<◌, ◌≤◌, Bool, true, false, List, [], ◌∷◌, Option, Some, None, length, ap, ◌∙◌, subst, arith}
+use Rattle.std.proofs.Common.{◌≡◌, ℕ, ◌<◌, ◌≤◌, Bool, true, false, List, [], ◌∷◌, Option, Some, None, length, ap, ◌∙◌, subst, arith}
 use Rattle.std.specs.Prelude.{ℤ, pos, slice_get}
 use Rattle.std.proofs.lemmas.Option.{slice_get-get_or}
 use Rattle.sl_base.specs.declared.place.Place.{Place}
@@ -11,14 +11,16 @@ use Rattle.sl_syntax.specs.declared.typed.step.Fix.{Fix}
 use Rattle.sl_syntax.specs.declared.typed.step.Fix.TheVariants.{Prefix, Postfix}
 use Rattle.sl_syntax.specs.Typed.{Left, scalar, reference, element, Function}
 use Rattle.sl_model.specs.Containers.{Memory}
-use Rattle.sl_model.specs.Values.{Value, nothing, number, iterator, pair, two, scalar_at, container_at, element_at, Args, LibOut, trapped, thrown, faulted}
+use Rattle.sl_model.specs.Values.{Value, nothing, number, iterator, pair, two, scalar_at, container_at, element_at, Args, LibOut, trapped}
+use Rattle.sl_model.specs.Values.{thrown, faulted}
 use Rattle.sl_model.specs.Values.{gives, unbuilt, Lib}
 use Rattle.sl_model.specs.State.{State, Frame, iter_of, stamp_of, set_iterator_at, scalar_value}
 use Rattle.sl_model.specs.Eval.{Out, Gives, Stops, Outs, AllGive, OneStops, Oracle, then_eval, with_number, then_number, add_value, then_rest}
 use Rattle.sl_model.specs.Eval.{then_call, branch, answered, if_set, read_at, settle_call, site_of, use_library, moved_to, chosen, first_of}
 use Rattle.sl_model.specs.Eval.{second_of}
 use Rattle.sl_model.specs.Good.{IsSound, AreApart}
-use Rattle.sl_model.specs.Shapes.{Shape, no_value, a_number, a_stamp, a_pair, two_stamps, an_element, Gift, a_value, the_scalar, the_container, Signature}
+use Rattle.sl_model.specs.Shapes.{Shape, no_value, a_number, a_stamp, a_pair, two_stamps, an_element, Gift, a_value, the_scalar, the_container}
+use Rattle.sl_model.specs.Shapes.{Signature}
 use Rattle.sl_model.specs.Shapes.{HasShape, IsGiven, HasParts, shape_of_second}
 use Rattle.sl_model.specs.Shapes.{shape_of_result, AllSuit, containers_in}
 use Rattle.sl_model.proofs.After.{Leaves}
@@ -295,7 +297,8 @@ module _ (L : Level) where
   at_first n (the_container x) v s parts h = absurd parts
 
   -- the second of two parts
-  pub at_second : (n : ℕ) (gift : Gift) (v : Value) (s : State) → HasParts gift → Gave L n gift v s → Gave L n (a_value (shape_of_second gift)) (second_of v) s
+  pub at_second : (n : ℕ) (gift : Gift) (v : Value) (s : State) → HasParts gift → Gave L n gift v s → Gave L n (a_value (shape_of_second gift))
+      (second_of v) s
   at_second n (a_value no_value) v s parts h = absurd parts
   at_second n (a_value a_number) v s parts h = absurd parts
   at_second n (a_value a_stamp) v s parts h = absurd parts

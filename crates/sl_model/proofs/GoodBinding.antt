@@ -13,7 +13,8 @@ use Rattle.sl_model.specs.Values.{Value, nothing, number, iterator, pair, two, s
 use Rattle.sl_model.specs.State.{Frame, State, new_scalar, new_iterator, new_container}
 use Rattle.sl_model.specs.Calls.{no_frame, bind_one, bind_all, bound}
 use Rattle.sl_model.specs.Good.{AreBelow, AreApart}
-use Rattle.sl_model.specs.Shapes.{no_value, a_number, a_stamp, a_pair, two_stamps, an_element, Gift, a_value, the_scalar, the_container, IsGiven, Suits, AllSuit}
+use Rattle.sl_model.specs.Shapes.{no_value, a_number, a_stamp, a_pair, two_stamps, an_element, Gift, a_value, the_scalar, the_container, IsGiven}
+use Rattle.sl_model.specs.Shapes.{Suits, AllSuit}
 use Rattle.sl_model.specs.Shapes.{container_in, containers_in}
 use Rattle.sl_model.specs.Scoped.{Counts, no_counts, one_scalar, one_container, one_iterator, with_parameter, with_parameters}
 use Rattle.sl_model.proofs.Getting.{get_left, get_within, get_behind}

@@ -1,5 +1,5 @@
 -- Each effect of a call leaves as many containers, or one more where it makes one, and no number is unused again.
-use Rattle.std.proofs.Common.{◌≡◌, ℕ, ◌+◌, ◌≤◌, Bool, true, false, List, [], ◌∷◌, Option, Some, None, length, length-append, refl, ◌∙◌, arith}
+use Rattle.std.proofs.Common.{◌≡◌, ℕ, ◌+◌, ◌≤◌, Bool, true, false, List, [], ◌∷◌, Some, None, length, length-append, refl, ◌∙◌, arith}
 use Rattle.std.specs.Prelude.{ℤ, slice_set}
 use Rattle.std.proofs.Math.ListN.{length-set}
 use Rattle.sl_base.specs.declared.form.Form.{Form}

@@ -1,5 +1,6 @@
 -- An algorithm that writes to an output gives the place behind what it wrote, or nothing where the output is an appender.
-use Rattle.std.proofs.Common.{◌≡◌, ℕ, ◌+◌, ◌-◌, ◌<◌, ◌≤◌, ◌&&◌, Bool, true, false, List, [], ◌∷◌, ◌++◌, Option, Some, None, length, refl, sym, subst, arith}
+use Rattle.std.proofs.Common.{◌≡◌, ℕ, ◌+◌, ◌-◌, ◌<◌, ◌&&◌, Bool, true, false, List, [], ◌∷◌, ◌++◌, Option, Some, None, length, refl, sym, subst}
+use Rattle.std.proofs.Common.{arith}
 use Rattle.std.specs.Prelude.{ℤ, slice_index_or}
 use Rattle.sl_base.specs.declared.form.Form.{Form}
 use Rattle.sl_specs.specs.declared.class.Class.{Class}
@@ -36,19 +37,40 @@ pub writer_of_three : (m : Memory) (vs : List Value) → are_of m (an_iterator �
 writer_of_three m [] e = absurd (cc)
 writer_of_three m (a ∷ []) e = absurd (let p = behind m (an_iterator ∷ a_writer ∷ []) a [] e in cc)
 writer_of_three m (a ∷ b ∷ []) e = absurd (let p = behind m (a_writer ∷ []) b [] (behind m (an_iterator ∷ a_writer ∷ []) a (b ∷ []) e) in cc)
-writer_of_three m (a ∷ b ∷ v ∷ []) e = first_holds (is_of m a_writer v) true (behind m (a_writer ∷ []) b (v ∷ []) (behind m (an_iterator ∷ a_writer ∷ []) a (b ∷ v ∷ []) e))
-writer_of_three m (a ∷ b ∷ v ∷ w ∷ vs) e = absurd (let p = second_holds (is_of m a_writer v) false (behind m (a_writer ∷ []) b (v ∷ w ∷ vs) (behind m (an_iterator ∷ a_writer ∷ []) a (b ∷ v ∷ w ∷ vs) e)) in cc)
+writer_of_three m (a ∷ b ∷ v ∷ []) e = first_holds (is_of m a_writer v) true
+    (behind m (a_writer ∷ []) b (v ∷ []) (behind m (an_iterator ∷ a_writer ∷ []) a (b ∷ v ∷ []) e))
+writer_of_three m (a ∷ b ∷ v ∷ w ∷ vs) e = absurd
+    (let p = second_holds (is_of m a_writer v) false
+    (behind m (a_writer ∷ []) b (v ∷ w ∷ vs) (behind m (an_iterator ∷ a_writer ∷ []) a (b ∷ v ∷ w ∷ vs) e)) in cc)
 
 -- the last of five operands is an iterator that is written through
 pub writer_of_five : (m : Memory) (vs : List Value) → are_of m (an_iterator ∷ an_iterator ∷ an_iterator ∷ an_iterator ∷ a_writer ∷ []) vs ≡ true
     → is_of m a_writer (slice_index_or vs (length vs - 1) nothing) ≡ true
 writer_of_five m [] e = absurd (cc)
 writer_of_five m (a ∷ []) e = absurd (let p = behind m (an_iterator ∷ an_iterator ∷ an_iterator ∷ a_writer ∷ []) a [] e in cc)
-writer_of_five m (a ∷ b ∷ []) e = absurd (let p = behind m (an_iterator ∷ an_iterator ∷ a_writer ∷ []) b [] (behind m (an_iterator ∷ an_iterator ∷ an_iterator ∷ a_writer ∷ []) a (b ∷ []) e) in cc)
-writer_of_five m (a ∷ b ∷ c ∷ []) e = absurd (let p = behind m (an_iterator ∷ a_writer ∷ []) c [] (behind m (an_iterator ∷ an_iterator ∷ a_writer ∷ []) b (c ∷ []) (behind m (an_iterator ∷ an_iterator ∷ an_iterator ∷ a_writer ∷ []) a (b ∷ c ∷ []) e)) in cc)
-writer_of_five m (a ∷ b ∷ c ∷ d ∷ []) e = absurd (let p = behind m (a_writer ∷ []) d [] (behind m (an_iterator ∷ a_writer ∷ []) c (d ∷ []) (behind m (an_iterator ∷ an_iterator ∷ a_writer ∷ []) b (c ∷ d ∷ []) (behind m (an_iterator ∷ an_iterator ∷ an_iterator ∷ a_writer ∷ []) a (b ∷ c ∷ d ∷ []) e))) in cc)
-writer_of_five m (a ∷ b ∷ c ∷ d ∷ v ∷ []) e = first_holds (is_of m a_writer v) true (behind m (a_writer ∷ []) d (v ∷ []) (behind m (an_iterator ∷ a_writer ∷ []) c (d ∷ v ∷ []) (behind m (an_iterator ∷ an_iterator ∷ a_writer ∷ []) b (c ∷ d ∷ v ∷ []) (behind m (an_iterator ∷ an_iterator ∷ an_iterator ∷ a_writer ∷ []) a (b ∷ c ∷ d ∷ v ∷ []) e))))
-writer_of_five m (a ∷ b ∷ c ∷ d ∷ v ∷ w ∷ vs) e = absurd (let p = second_holds (is_of m a_writer v) false (behind m (a_writer ∷ []) d (v ∷ w ∷ vs) (behind m (an_iterator ∷ a_writer ∷ []) c (d ∷ v ∷ w ∷ vs) (behind m (an_iterator ∷ an_iterator ∷ a_writer ∷ []) b (c ∷ d ∷ v ∷ w ∷ vs) (behind m (an_iterator ∷ an_iterator ∷ an_iterator ∷ a_writer ∷ []) a (b ∷ c ∷ d ∷ v ∷ w ∷ vs) e)))) in cc)
+writer_of_five m (a ∷ b ∷ []) e = absurd
+    (let p = behind m (an_iterator ∷ an_iterator ∷ a_writer ∷ []) b []
+    (behind m (an_iterator ∷ an_iterator ∷ an_iterator ∷ a_writer ∷ []) a (b ∷ []) e) in cc)
+writer_of_five m (a ∷ b ∷ c ∷ []) e = absurd
+    (let p = behind m (an_iterator ∷ a_writer ∷ []) c []
+    (behind m (an_iterator ∷ an_iterator ∷ a_writer ∷ []) b (c ∷ [])
+    (behind m (an_iterator ∷ an_iterator ∷ an_iterator ∷ a_writer ∷ []) a (b ∷ c ∷ []) e)) in cc)
+writer_of_five m (a ∷ b ∷ c ∷ d ∷ []) e = absurd
+    (let p = behind m (a_writer ∷ []) d []
+    (behind m (an_iterator ∷ a_writer ∷ []) c (d ∷ [])
+    (behind m (an_iterator ∷ an_iterator ∷ a_writer ∷ []) b (c ∷ d ∷ [])
+    (behind m (an_iterator ∷ an_iterator ∷ an_iterator ∷ a_writer ∷ []) a (b ∷ c ∷ d ∷ []) e))) in cc)
+writer_of_five m (a ∷ b ∷ c ∷ d ∷ v ∷ []) e = first_holds (is_of m a_writer v) true
+    (behind m (a_writer ∷ []) d (v ∷ [])
+    (behind m (an_iterator ∷ a_writer ∷ []) c (d ∷ v ∷ [])
+    (behind m (an_iterator ∷ an_iterator ∷ a_writer ∷ []) b (c ∷ d ∷ v ∷ [])
+    (behind m (an_iterator ∷ an_iterator ∷ an_iterator ∷ a_writer ∷ []) a (b ∷ c ∷ d ∷ v ∷ []) e))))
+writer_of_five m (a ∷ b ∷ c ∷ d ∷ v ∷ w ∷ vs) e = absurd
+    (let p = second_holds (is_of m a_writer v) false
+    (behind m (a_writer ∷ []) d (v ∷ w ∷ vs)
+    (behind m (an_iterator ∷ a_writer ∷ []) c (d ∷ v ∷ w ∷ vs)
+    (behind m (an_iterator ∷ an_iterator ∷ a_writer ∷ []) b (c ∷ d ∷ v ∷ w ∷ vs)
+    (behind m (an_iterator ∷ an_iterator ∷ an_iterator ∷ a_writer ∷ []) a (b ∷ c ∷ d ∷ v ∷ w ∷ vs) e)))) in cc)
 
 -- the last of three operands is a sequence
 pub sequence_of_three : (m : Memory) (vs : List Value) → are_of m (an_iterator ∷ an_iterator ∷ a_sequence ∷ []) vs ≡ true
@@ -56,19 +78,40 @@ pub sequence_of_three : (m : Memory) (vs : List Value) → are_of m (an_iterator
 sequence_of_three m [] e = absurd (cc)
 sequence_of_three m (a ∷ []) e = absurd (let p = behind m (an_iterator ∷ a_sequence ∷ []) a [] e in cc)
 sequence_of_three m (a ∷ b ∷ []) e = absurd (let p = behind m (a_sequence ∷ []) b [] (behind m (an_iterator ∷ a_sequence ∷ []) a (b ∷ []) e) in cc)
-sequence_of_three m (a ∷ b ∷ v ∷ []) e = first_holds (is_of m a_sequence v) true (behind m (a_sequence ∷ []) b (v ∷ []) (behind m (an_iterator ∷ a_sequence ∷ []) a (b ∷ v ∷ []) e))
-sequence_of_three m (a ∷ b ∷ v ∷ w ∷ vs) e = absurd (let p = second_holds (is_of m a_sequence v) false (behind m (a_sequence ∷ []) b (v ∷ w ∷ vs) (behind m (an_iterator ∷ a_sequence ∷ []) a (b ∷ v ∷ w ∷ vs) e)) in cc)
+sequence_of_three m (a ∷ b ∷ v ∷ []) e = first_holds (is_of m a_sequence v) true
+    (behind m (a_sequence ∷ []) b (v ∷ []) (behind m (an_iterator ∷ a_sequence ∷ []) a (b ∷ v ∷ []) e))
+sequence_of_three m (a ∷ b ∷ v ∷ w ∷ vs) e = absurd
+    (let p = second_holds (is_of m a_sequence v) false
+    (behind m (a_sequence ∷ []) b (v ∷ w ∷ vs) (behind m (an_iterator ∷ a_sequence ∷ []) a (b ∷ v ∷ w ∷ vs) e)) in cc)
 
 -- the last of five operands is a sequence
 pub sequence_of_five : (m : Memory) (vs : List Value) → are_of m (an_iterator ∷ an_iterator ∷ an_iterator ∷ an_iterator ∷ a_sequence ∷ []) vs ≡ true
     → is_of m a_sequence (slice_index_or vs (length vs - 1) nothing) ≡ true
 sequence_of_five m [] e = absurd (cc)
 sequence_of_five m (a ∷ []) e = absurd (let p = behind m (an_iterator ∷ an_iterator ∷ an_iterator ∷ a_sequence ∷ []) a [] e in cc)
-sequence_of_five m (a ∷ b ∷ []) e = absurd (let p = behind m (an_iterator ∷ an_iterator ∷ a_sequence ∷ []) b [] (behind m (an_iterator ∷ an_iterator ∷ an_iterator ∷ a_sequence ∷ []) a (b ∷ []) e) in cc)
-sequence_of_five m (a ∷ b ∷ c ∷ []) e = absurd (let p = behind m (an_iterator ∷ a_sequence ∷ []) c [] (behind m (an_iterator ∷ an_iterator ∷ a_sequence ∷ []) b (c ∷ []) (behind m (an_iterator ∷ an_iterator ∷ an_iterator ∷ a_sequence ∷ []) a (b ∷ c ∷ []) e)) in cc)
-sequence_of_five m (a ∷ b ∷ c ∷ d ∷ []) e = absurd (let p = behind m (a_sequence ∷ []) d [] (behind m (an_iterator ∷ a_sequence ∷ []) c (d ∷ []) (behind m (an_iterator ∷ an_iterator ∷ a_sequence ∷ []) b (c ∷ d ∷ []) (behind m (an_iterator ∷ an_iterator ∷ an_iterator ∷ a_sequence ∷ []) a (b ∷ c ∷ d ∷ []) e))) in cc)
-sequence_of_five m (a ∷ b ∷ c ∷ d ∷ v ∷ []) e = first_holds (is_of m a_sequence v) true (behind m (a_sequence ∷ []) d (v ∷ []) (behind m (an_iterator ∷ a_sequence ∷ []) c (d ∷ v ∷ []) (behind m (an_iterator ∷ an_iterator ∷ a_sequence ∷ []) b (c ∷ d ∷ v ∷ []) (behind m (an_iterator ∷ an_iterator ∷ an_iterator ∷ a_sequence ∷ []) a (b ∷ c ∷ d ∷ v ∷ []) e))))
-sequence_of_five m (a ∷ b ∷ c ∷ d ∷ v ∷ w ∷ vs) e = absurd (let p = second_holds (is_of m a_sequence v) false (behind m (a_sequence ∷ []) d (v ∷ w ∷ vs) (behind m (an_iterator ∷ a_sequence ∷ []) c (d ∷ v ∷ w ∷ vs) (behind m (an_iterator ∷ an_iterator ∷ a_sequence ∷ []) b (c ∷ d ∷ v ∷ w ∷ vs) (behind m (an_iterator ∷ an_iterator ∷ an_iterator ∷ a_sequence ∷ []) a (b ∷ c ∷ d ∷ v ∷ w ∷ vs) e)))) in cc)
+sequence_of_five m (a ∷ b ∷ []) e = absurd
+    (let p = behind m (an_iterator ∷ an_iterator ∷ a_sequence ∷ []) b []
+    (behind m (an_iterator ∷ an_iterator ∷ an_iterator ∷ a_sequence ∷ []) a (b ∷ []) e) in cc)
+sequence_of_five m (a ∷ b ∷ c ∷ []) e = absurd
+    (let p = behind m (an_iterator ∷ a_sequence ∷ []) c []
+    (behind m (an_iterator ∷ an_iterator ∷ a_sequence ∷ []) b (c ∷ [])
+    (behind m (an_iterator ∷ an_iterator ∷ an_iterator ∷ a_sequence ∷ []) a (b ∷ c ∷ []) e)) in cc)
+sequence_of_five m (a ∷ b ∷ c ∷ d ∷ []) e = absurd
+    (let p = behind m (a_sequence ∷ []) d []
+    (behind m (an_iterator ∷ a_sequence ∷ []) c (d ∷ [])
+    (behind m (an_iterator ∷ an_iterator ∷ a_sequence ∷ []) b (c ∷ d ∷ [])
+    (behind m (an_iterator ∷ an_iterator ∷ an_iterator ∷ a_sequence ∷ []) a (b ∷ c ∷ d ∷ []) e))) in cc)
+sequence_of_five m (a ∷ b ∷ c ∷ d ∷ v ∷ []) e = first_holds (is_of m a_sequence v) true
+    (behind m (a_sequence ∷ []) d (v ∷ [])
+    (behind m (an_iterator ∷ a_sequence ∷ []) c (d ∷ v ∷ [])
+    (behind m (an_iterator ∷ an_iterator ∷ a_sequence ∷ []) b (c ∷ d ∷ v ∷ [])
+    (behind m (an_iterator ∷ an_iterator ∷ an_iterator ∷ a_sequence ∷ []) a (b ∷ c ∷ d ∷ v ∷ []) e))))
+sequence_of_five m (a ∷ b ∷ c ∷ d ∷ v ∷ w ∷ vs) e = absurd
+    (let p = second_holds (is_of m a_sequence v) false
+    (behind m (a_sequence ∷ []) d (v ∷ w ∷ vs)
+    (behind m (an_iterator ∷ a_sequence ∷ []) c (d ∷ v ∷ w ∷ vs)
+    (behind m (an_iterator ∷ an_iterator ∷ a_sequence ∷ []) b (c ∷ d ∷ v ∷ w ∷ vs)
+    (behind m (an_iterator ∷ an_iterator ∷ an_iterator ∷ a_sequence ∷ []) a (b ∷ c ∷ d ∷ v ∷ w ∷ vs) e)))) in cc)
 
 -- an iterator that is written through stands somewhere, where its need doesn't fail
 output_stands : (r : TableRow) (s : Situation) (a : ℕ) (v : Value) → is_of s.memory a_writer v ≡ true → output_fails r s a v ≡ []

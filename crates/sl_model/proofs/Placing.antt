@@ -1,8 +1,9 @@
 -- Which places a container has for iterators: one at each index up to its size, and their stamps were used. What a change, a new key
 -- and a search leave of them.
-use Rattle.std.proofs.Common.{◌≡◌, ℕ, zero, suc, ◌+◌, ◌-◌, ◌<◌, ◌≤◌, ◌%◌, Bool, true, false, List, [], ◌∷◌, ◌++◌, map, take, drop, length, length-append}
-use Rattle.std.proofs.Common.{Option, Some, None, option_map, refl, ap, sym, ◌∙◌, subst, arith, if◌then◌else◌, min}
-use Rattle.std.specs.Prelude.{ℤ, filter, int_lt, int_le}
+use Rattle.std.proofs.Common.{◌≡◌, ℕ, zero, suc, ◌+◌, ◌-◌, ◌<◌, ◌≤◌, ◌%◌, Bool, true, false, List, [], ◌∷◌, ◌++◌, map, take, drop, length}
+use Rattle.std.proofs.Common.{length-append}
+use Rattle.std.proofs.Common.{Some, option_map, refl, ap, sym, ◌∙◌, subst, arith, if◌then◌else◌, min}
+use Rattle.std.specs.Prelude.{ℤ}
 use Rattle.std.specs.List.{slice_get, slice_set}
 use Rattle.std.proofs.Math.ListN.{length-set}
 use Rattle.std.proofs.Math.Nat.{mod-lt}
@@ -14,7 +15,7 @@ use Rattle.sl_specs.specs.declared.class.Class.{Class}
 use Rattle.sl_model.specs.Classes.{Edit}
 use Rattle.sl_model.specs.Containers.{Cell, Cont, Memory, size, stamps, keys, cont_at, stamp_at}
 use Rattle.sl_model.specs.Edits.{Change, Source, old, numbers, olds, news, from_sources, changed, change_of, after}
-use Rattle.sl_model.specs.Schedule.{put_at, put_all, scattered, hash_place, pick, after_picks}
+use Rattle.sl_model.specs.Schedule.{put_at, put_all, scattered, hash_place, pick}
 use Rattle.sl_model.specs.Orders.{first_of_key, how_many, same}
 use Rattle.sl_model.specs.Actions.{Answer, nothing, gives_number, gives_place, gives_place_and, gives_places, gives_element}
 use Rattle.sl_model.specs.Good.{IsSound}

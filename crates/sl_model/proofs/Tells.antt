@@ -1,6 +1,6 @@
 -- What a row tells: the shape of what it gives, whether it makes a container, and that an iterator that it gives stands somewhere
 -- in the memory after the call. What holds of each line of the table holds of each row.
-use Rattle.std.proofs.Common.{◌≡◌, ℕ, zero, suc, Bool, true, false, List, [], ◌∷◌, ◌++◌, Option, Some, None, option_map, subst}
+use Rattle.std.proofs.Common.{◌≡◌, ℕ, zero, suc, Bool, List, [], ◌∷◌, ◌++◌, Option, Some, None, option_map, subst}
 use Rattle.std.specs.Prelude.{slice_get, take, drop}
 use Rattle.std.specs.List.{cons_option}
 use Rattle.sl_base.specs.declared.form.Form.{Form}
@@ -13,7 +13,7 @@ use Rattle.sl_model.specs.Situation.{Situation}
 use Rattle.sl_model.specs.Needs.{first_failure}
 use Rattle.sl_model.specs.Actions.{Answer, nothing, gives_number, gives_place, gives_place_and, gives_places, gives_element}
 use Rattle.sl_model.specs.Effects.{does}
-use Rattle.sl_model.specs.Rows.{Row, member_row, algorithm_row}
+use Rattle.sl_model.specs.Rows.{Row, member_row}
 use Rattle.sl_model.specs.Library.{form_of}
 use Rattle.sl_model.specs.Shapes.{is_new_one}
 use Rattle.sl_model.proofs.Called.{IsCalled}

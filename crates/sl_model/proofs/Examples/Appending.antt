@@ -1,5 +1,5 @@
 -- Closed runs of `std::copy` to an appender, each worked out by hand.
-use Rattle.std.specs.Prelude.{◌≡◌, refl, ℕ, List, [], ◌∷◌, Some, None, pos, codes}
+use Rattle.std.specs.Prelude.{◌≡◌, refl, ℕ, [], ◌∷◌, Some, None, pos, codes}
 use Rattle.std.specs.Fmt.{digits}
 use Rattle.sl_syntax.specs.declared.typed.callee.Callee.TheVariants as callees
 use Rattle.sl_syntax.specs.Typed.{Expr, held, number, call, container, none, with, prints, evaluates, Stmt, does, Typed}

@@ -1,5 +1,5 @@
 -- Closed calls of the library.
-use Rattle.std.specs.Prelude.{◌≡◌, ◌+◌, refl, ℕ, false, List, [], ◌∷◌, Option, Some, None, pos, codes}
+use Rattle.std.specs.Prelude.{◌≡◌, ◌+◌, refl, ℕ, List, [], ◌∷◌, Option, Some, None, pos, codes}
 use Rattle.sl_base.specs.declared.form.Form.TheVariants as f
 use Rattle.sl_base.specs.declared.limits.TheConstants.{ELEMENTS}
 use Rattle.sl_syntax.specs.declared.typed.callee.Callee.TheVariants as callees
