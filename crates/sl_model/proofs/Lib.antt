@@ -38,6 +38,10 @@ pub mod AlgorithmRowsTell
 -- ## Each row is fine: its effect leaves a sound memory sound, and no mark vanishes
 pub mod FineRows
 pub mod FineContainers
+pub mod TableRows
+pub mod FineAlgorithms
+pub mod LibrarySound
+pub mod RunSound
 -- ## Scoped texts: each state of a run is good
 pub mod Locations
 pub mod Levels
@@ -49,9 +53,7 @@ pub mod GoodRange
 pub mod GoodExec
 pub mod GoodBinding
 pub mod GoodCalls
-pub mod LibrarySound
 pub mod LibraryGood
-pub mod RunSound
 pub mod RunGood
 -- ## A run with more steps
 pub mod Longer

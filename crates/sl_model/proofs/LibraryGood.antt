@@ -30,6 +30,7 @@ use Rattle.sl_model.proofs.Called.{IsCalled, situation, row_by}
 use Rattle.sl_model.proofs.Growing.{grown, does-grows}
 use Rattle.sl_model.proofs.Placing.{IsPlaced, place_used}
 use Rattle.sl_model.proofs.Tells.{shape_of_answer, memory_after, Tells, RowTells, LineTells, AllOf, all_append, all_at, all_rows_on, all_lines}
+use Rattle.sl_model.proofs.TableRows.{all_table, row-holds}
 use Rattle.sl_model.proofs.ContainersTell.{container-tells, multi-tells}
 use Rattle.sl_model.proofs.AlgorithmRowsTell.{algorithm-tells, appending-tells, operator-tells}
 use Rattle.sl_model.proofs.Gifts.{IsUsed, IsAnswer, KeepsGood}
@@ -48,80 +49,16 @@ algorithms-tell : (appends : Bool) → AllOf (TableRowTells appends) algorithm_r
 algorithms-tell true = appending-tells
 algorithms-tell false = algorithm-tells
 
--- the rows of the forms, form by form
-abbrev form_rows : List (List TableRow)
-form_rows =
-    rows_on f.Vector container_lines ∷
-    rows_on f.Deque container_lines ∷
-    rows_on f.List container_lines ∷
-    rows_on f.Set container_lines ∷
-    rows_on f.Map container_lines ∷
-    rows_on f.HashSet container_lines ∷
-    rows_on f.HashMap container_lines ∷
-    rows_on f.MultiSet multi_lines ∷
-    rows_on f.MultiMap multi_lines ∷ []
-
--- these one behind another, and then the last ones
-abbrev in_turn : List (List TableRow) → List TableRow → List TableRow
-in_turn [] last = last
-in_turn (xs ∷ more) last = xs ++ in_turn more last
-
--- what holds of each of these, and of each of the last ones
-all_in_turn : (P : TableRow → Type 0) (groups : List (List TableRow)) (last : List TableRow) → AllOf (AllOf P) groups → AllOf P last
-    → AllOf P (in_turn groups last)
-all_in_turn P [] last h k = k
-all_in_turn P (xs ∷ more) last h k = all_append P xs (in_turn more last) h.0 (all_in_turn P more last h.1 k)
-
 -- each row of the table does
 table-tells : (appends : Bool) → AllOf (TableRowTells appends) table
-unfolding table
-table-tells appends = all_in_turn (TableRowTells appends) form_rows algorithm_rows (
-  form-tells appends false f.Vector container_lines refl container-tells,
-  (
-    form-tells appends false f.Deque container_lines refl container-tells,
-    (
-      form-tells appends false f.List container_lines refl container-tells,
-      (
-        form-tells appends false f.Set container_lines refl container-tells,
-        (
-          form-tells appends false f.Map container_lines refl container-tells,
-          (
-            form-tells appends false f.HashSet container_lines refl container-tells,
-            (
-              form-tells appends false f.HashMap container_lines refl container-tells,
-              (
-                form-tells appends true f.MultiSet multi_lines refl multi-tells,
-                (
-                  form-tells appends true f.MultiMap multi_lines refl multi-tells,
-                  tt,
-                ),
-              ),
-            ),
-          ),
-        ),
-      ),
-    ),
-  ),
-)
+table-tells appends = all_table (TableRowTells appends)
+    (λ form e. form-tells appends false form container_lines e container-tells)
+    (λ form e. form-tells appends true form multi_lines e multi-tells)
     (algorithms-tell appends)
-
--- the row with a number
-numbered-tells : (appends : Bool) (n : ℕ) (r : Row) → row_numbered appends n ≡ Some r → RowTells r
-numbered-tells appends n r e = by_row (slice_get table n) refl e
-  where
-    by_row : (o : Option TableRow) → slice_get table n ≡ o → option_map (meaning_of appends) o ≡ Some r → RowTells r
-    by_row None there h = absurd (cc)
-    by_row (Some x) there h =
-        let same : meaning_of appends x ≡ r = cc in
-        subst RowTells same (all_at (TableRowTells appends) table n x (table-tells appends) there)
 
 -- the row of what is called
 row-tells : (callee : Callee) (r : Row) → row_of callee ≡ Some r → RowTells r
-row-tells (callees.Row n) r e = numbered-tells false n r e
-row-tells (callees.Appends n) r e = numbered-tells true n r e
-row-tells (callees.Operator o) r e = let same : row_of_operator (operator_name o) o ≡ r = cc in subst RowTells same
-    (operator-tells (operator_name o) o)
-row-tells (callees.Hidden o) r e = let same : row_of_operator (codes "for") o ≡ r = cc in subst RowTells same (operator-tells (codes "for") o)
+row-tells = row-holds RowTells table-tells operator-tells
 
 -- what is given has the shape of the answer
 answer_shaped : (m : Memory) (answer : Answer) → HasShape (shape_of_answer answer) (value_in m answer)
