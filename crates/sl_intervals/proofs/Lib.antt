@@ -10,6 +10,8 @@ pub mod Stopping
 -- ## Operators
 pub mod Verdicts
 pub mod Spanning
+pub mod Factors
+pub mod Truncation
 -- ## Conversions
 pub mod Turns
 pub mod Images
