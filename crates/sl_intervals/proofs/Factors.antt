@@ -12,7 +12,7 @@ more x n =
     omega (arith, ints)
 
 -- a factor that isn't negative keeps the order
-product_rises : (x y : ℤ) (n : ℕ) → x ≤ℤ y → (x *ℤ pos n) ≤ℤ (y *ℤ pos n)
+pub product_rises : (x y : ℤ) (n : ℕ) → x ≤ℤ y → (x *ℤ pos n) ≤ℤ (y *ℤ pos n)
 product_rises x y zero h = let a = *ℤ-zero x in let b = *ℤ-zero y in omega (arith, ints)
 product_rises x y (suc n) h =
     let k = product_rises x y n h in
@@ -21,7 +21,7 @@ product_rises x y (suc n) h =
     omega (arith, ints)
 
 -- a negative one turns it round
-product_falls : (x y : ℤ) (n : ℕ) → x ≤ℤ y → (y *ℤ negsuc n) ≤ℤ (x *ℤ negsuc n)
+pub product_falls : (x y : ℤ) (n : ℕ) → x ≤ℤ y → (y *ℤ negsuc n) ≤ℤ (x *ℤ negsuc n)
 product_falls x y n h =
     let k = product_rises x y (suc n) h in
     let a = *ℤ-negsuc x n in

@@ -10,8 +10,17 @@ pub mod Stopping
 -- ## Operators
 pub mod Verdicts
 pub mod Spanning
+-- ## Products
 pub mod Factors
+pub mod Corners
+pub mod Multiplied
+-- ## Quotients and remainders
 pub mod Truncation
+pub mod Divisions
+pub mod Faulting
+pub mod Parts
+pub mod Divided
+pub mod Rests
 -- ## Conversions
 pub mod Turns
 pub mod Images

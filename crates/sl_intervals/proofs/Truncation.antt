@@ -133,3 +133,18 @@ is_near (negsuc a) y = record {
   below = λ h. let l = mod-le (suc a) (unsigned_abs y) in (omega (arith, ints), omega (arith, ints));
   nearer = λ z p q s. let l = mod-lt (suc a) (some_size y s) in let k = size_bound y z p q in (omega (arith, ints), omega (arith, ints));
 }
+
+-- a quotient that isn't negative falls with the divisor
+pub quotient_falls : (x y d : ℤ) → pos 0 ≤ℤ x → pos 1 ≤ℤ y → y ≤ℤ d → int_div x d ≤ℤ int_div x y
+quotient_falls (negsuc a) y d p q r = absurd (omega (arith, ints))
+quotient_falls (pos a) (negsuc n) d p q r = absurd (omega (arith, ints))
+quotient_falls (pos a) (pos n) (negsuc m) p q r = absurd (omega (arith, ints))
+quotient_falls (pos a) (pos n) (pos m) p q r = let k = divisor_falls a n m (omega (arith, ints)) (omega (arith, ints)) in omega (arith, ints)
+
+-- a quotient by a number below 0 is above the least number of its dividend's type
+pub over_least : (x y z : ℤ) → y ≤ℤ negsuc 0 → z ≤ℤ neg_ℤ x → z ≤ℤ pos 0 → z ≤ℤ int_div x y
+over_least x (pos n) z p q r = absurd (omega (arith, ints))
+over_least x (negsuc n) z p q r =
+    let e = both_opposite x (negsuc n) in
+    let u = under_dividend (neg_ℤ x) (pos (suc n)) z (omega (arith, ints)) q r in
+    omega (arith, ints)

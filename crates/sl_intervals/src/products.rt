@@ -4,8 +4,8 @@ ghost use Rattle.std.specs.Int.{int_min, int_max};
 ghost use Rattle.sl_base.specs.declared.scalar.Scalar.{Scalar};
 ghost use Rattle.sl_syntax.specs.declared.operator.Arithmetic.{Arithmetic};
 ghost use Rattle.sl_model.specs.Numbers.{converted, operated, lowest, highest};
-ghost use Rattle.sl_intervals.specs.Intervals.{IsFilled, IsWithin, LiesIn};
-ghost use Rattle.sl_intervals.specs.Means.Multiplying.{HaveProducts};
+ghost use Rattle.sl_intervals.specs.Intervals.{IsFilled, IsSingle, IsWithin, LiesIn};
+ghost use Rattle.sl_intervals.specs.Means.Multiplying.{HaveProducts, IsWhole};
 ghost use Rattle.sl_intervals.specs.Outcomes.{IsOutcome};
 ghost use Rattle.sl_intervals.specs.Products.{least_product, greatest_product, IsPlain};
 
@@ -40,18 +40,24 @@ fn products_of_high(a: Interval, b: Interval) -> Interval
     )
 }
 
+/// The numbers from the lesser low end to the greater high end.
+fn spanned(first: Interval, second: Interval) -> Interval
+    ensures low { result.low ≡ int_min first.low second.low }
+    ensures high { result.high ≡ int_max first.high second.high }
+{
+    between(
+        lesser(first.low, second.low),
+        greater(first.high, second.high),
+    )
+}
+
 /// The numbers from the least to the greatest product of ends.
 fn exact_products(a: Interval, b: Interval) -> Interval
     requires { HaveProducts a b }
     ensures low { result.low ≡ least_product a b }
     ensures high { result.high ≡ greatest_product a b }
 {
-    let of_low = products_of_low(a, b);
-    let of_high = products_of_high(a, b);
-    between(
-        lesser(of_low.low, of_high.low),
-        greater(of_low.high, of_high.high),
-    )
+    spanned(products_of_low(a, b), products_of_high(a, b))
 }
 
 /// The products of members, where none is taken modulo.
@@ -104,6 +110,26 @@ fn wrapped_product(a: Interval, b: Interval) -> i128
 }
 
 /// What holds the products of sizes, whichever they are: of single numbers their product, else all of the type.
+fn wrapped_range(a: Interval, b: Interval) -> Interval
+    requires first { IsWithin Scalar.Size a }
+    requires second { IsWithin Scalar.Size b }
+    requires first_filled { IsFilled a }
+    requires second_filled { IsFilled b }
+    ensures first_wide { a.low <ℤ a.high → IsWhole Scalar.Size result }
+    ensures second_wide { b.low <ℤ b.high → IsWhole Scalar.Size result }
+    ensures single { a.low ≡ a.high → b.low ≡ b.high → IsSingle result (converted Scalar.Size (a.low *ℤ b.low)) }
+{
+    if a.low < a.high {
+        return between(0, 18446744073709551615);
+    }
+    if b.low < b.high {
+        return between(0, 18446744073709551615);
+    }
+    let product = wrapped_product(a, b);
+    between(product, product)
+}
+
+/// The products of sizes, taken modulo.
 fn wrapped_products(a: Interval, b: Interval) -> Outcome
     requires first { IsWithin Scalar.Size a }
     requires second { IsWithin Scalar.Size b }
@@ -111,15 +137,8 @@ fn wrapped_products(a: Interval, b: Interval) -> Outcome
     requires second_filled { IsFilled b }
     ensures { IsOutcome (operated Arithmetic.Multiply Scalar.Size) Scalar.Size a b result }
 {
-    let single = (a.low == a.high) & (b.low == b.high);
-    let product = wrapped_product(a, b);
-    let value = if single {
-        between(product, product)
-    } else {
-        between(0, 18446744073709551615)
-    };
     Outcome {
-        value,
+        value: wrapped_range(a, b),
         fault: Sure::Never,
     }
 }

@@ -15,13 +15,21 @@ use crate::numbers::{greater, greatest, least, lesser};
 use crate::outcome::{Outcome, no_outcome};
 use sl_base::Scalar;
 
+/// The quotient by a number above 0.
+fn quotient(x: i128, y: i128) -> i128
+    requires { pos 1 ≤ℤ y }
+    ensures { result ≡ int_div x y }
+{
+    x / y
+}
+
 /// The least quotient of the low end.
 fn least_quotient(a: Interval, b: Interval) -> i128
     requires low { pos 1 ≤ℤ b.low }
     requires filled { b.low ≤ℤ b.high }
     ensures { result ≡ int_min (int_div a.low b.low) (int_div a.low b.high) }
 {
-    lesser(a.low / b.low, a.low / b.high)
+    lesser(quotient(a.low, b.low), quotient(a.low, b.high))
 }
 
 /// The greatest quotient of the high end.
@@ -30,7 +38,7 @@ fn greatest_quotient(a: Interval, b: Interval) -> i128
     requires filled { b.low ≤ℤ b.high }
     ensures { result ≡ int_max (int_div a.high b.low) (int_div a.high b.high) }
 {
-    greater(a.high / b.low, a.high / b.high)
+    greater(quotient(a.high, b.low), quotient(a.high, b.high))
 }
 
 /// The quotients by divisors above 0.

@@ -1,6 +1,8 @@
--- Ends whose products are numbers of 128 bits.
-use Rattle.std.specs.Prelude.{◌*ℤ◌, FitsSigned}
+-- Ends whose products are numbers of 128 bits, and all of a type.
+use Rattle.std.specs.Prelude.{◌≡◌, ◌*ℤ◌, FitsSigned}
 use Rattle.std.specs.Int.{w128}
+use Rattle.sl_base.specs.declared.scalar.Scalar.{Scalar}
+use Rattle.sl_model.specs.Numbers.{lowest, highest}
 use Rattle.sl_intervals.specs.declared.interval.Interval.{Interval}
 
 -- each product of an end of a and one of b is a number of 128 bits
@@ -9,3 +11,8 @@ pub record HaveProducts (a b : Interval) : Type 0 where
   pub low_high : FitsSigned w128 (a.low *ℤ b.high)
   pub high_low : FitsSigned w128 (a.high *ℤ b.low)
   pub high_high : FitsSigned w128 (a.high *ℤ b.high)
+
+-- the members are all numbers of the type
+pub record IsWhole (ty : Scalar) (i : Interval) : Type 0 where
+  pub low : i.low ≡ lowest ty
+  pub high : i.high ≡ highest ty
