@@ -9,7 +9,7 @@ use Rattle.sl_intervals.specs.Products.{least_product, greatest_product}
 use Rattle.sl_intervals.proofs.Factors.{product_rises, product_falls, under_product, over_product}
 
 -- the sign of a product
-both_up : (x y : ℤ) → pos 0 ≤ℤ x → pos 0 ≤ℤ y → pos 0 ≤ℤ (x *ℤ y)
+pub both_up : (x y : ℤ) → pos 0 ≤ℤ x → pos 0 ≤ℤ y → pos 0 ≤ℤ (x *ℤ y)
 both_up x (pos n) p q = let k = product_rises (pos 0) x n p in let e = zero-*ℤ (pos n) in omega (arith, ints)
 both_up x (negsuc n) p q = absurd (omega (arith, ints))
 
@@ -30,13 +30,13 @@ abbrev pub IsProduct : Interval → Interval → ℤ → Type 0
 IsProduct a b z = (x : ℤ) × (y : ℤ) × Holds a x × Holds b y × (x *ℤ y ≡ z)
 
 -- the lesser and the greater of two numbers is one of them
-pub lesser_has : {P : ℤ → Type 0} (x y : ℤ) → P x → P y → P (int_min x y)
-lesser_has {P} x y p q = by_lt_z y x
+pub lesser_has : (P : ℤ → Type 0) (x y : ℤ) → P x → P y → P (int_min x y)
+lesser_has P x y p q = by_lt_z y x
     (λ (h : y <ℤ x). let e : y ≡ int_min x y = omega (arith, ints, clamps) in subst P e q)
     (λ (h : x ≤ℤ y). let e : x ≡ int_min x y = omega (arith, ints, clamps) in subst P e p)
 
-pub greater_has : {P : ℤ → Type 0} (x y : ℤ) → P x → P y → P (int_max x y)
-greater_has {P} x y p q = by_lt_z y x
+pub greater_has : (P : ℤ → Type 0) (x y : ℤ) → P x → P y → P (int_max x y)
+greater_has P x y p q = by_lt_z y x
     (λ (h : y <ℤ x). let e : x ≡ int_max x y = omega (arith, ints, clamps) in subst P e p)
     (λ (h : x ≤ℤ y). let e : y ≡ int_max x y = omega (arith, ints, clamps) in subst P e q)
 
@@ -73,12 +73,12 @@ module _ (a b : Interval) (f : IsFilled a) (g : IsFilled b) where
   high_high = (a.high, b.high, first_high, second_high, refl)
 
   least_is : IsProduct a b (least_product a b)
-  least_is = lesser_has {P = IsProduct a b} _ _ (lesser_has {P = IsProduct a b} _ _ low_low low_high)
-      (lesser_has {P = IsProduct a b} _ _ high_low high_high)
+  least_is = lesser_has (IsProduct a b) _ _ (lesser_has (IsProduct a b) _ _ low_low low_high)
+      (lesser_has (IsProduct a b) _ _ high_low high_high)
 
   greatest_is : IsProduct a b (greatest_product a b)
-  greatest_is = greater_has {P = IsProduct a b} _ _ (greater_has {P = IsProduct a b} _ _ low_low low_high)
-      (greater_has {P = IsProduct a b} _ _ high_low high_high)
+  greatest_is = greater_has (IsProduct a b) _ _ (greater_has (IsProduct a b) _ _ low_low low_high)
+      (greater_has (IsProduct a b) _ _ high_low high_high)
 
   -- below all four products of ends, and above them
   record IsUnder (z : ℤ) : Type 0 where

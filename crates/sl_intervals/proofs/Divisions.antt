@@ -50,9 +50,7 @@ has_quotient kind.Size x y number o f =
 has_quotient kind.Diff x y number o f = quotient_fits 9223372036854775807 x y (omega arith) o.first_low o.first_high f.some f.other
 
 not_zero : (y : ℤ) → y ≢ pos 0 → is_zero y ≡ false
-not_zero (pos zero) h = absurd (h refl)
-not_zero (pos (suc n)) h = refl
-not_zero (negsuc n) h = refl
+not_zero y h = grind (arith, ints)
 
 -- what a division gives
 by_divisor : (ty : Scalar) (x y z : ℤ) → y ≢ pos 0 → divided ty x y z ≡ (if fits ty (int_div x y) then value z else fault 1)

@@ -13,9 +13,10 @@ pub mod Spanning
 -- ## Products
 pub mod Factors
 pub mod Corners
-pub mod Multiplied
--- ## Quotients and remainders
 pub mod Truncation
+pub mod Multiplied
+pub mod Plain
+-- ## Quotients and remainders
 pub mod Divisions
 pub mod Faulting
 pub mod Parts

@@ -35,9 +35,9 @@ module _ (a b r : Interval) (f : IsFilled a) (g : IsFilled b) (up : pos 1 ≤ℤ
       low = under_quotient a.low x b.low y b.high r.low up q.low q.high p.low (omega (arith, ints, clamps)) (omega (arith, ints, clamps));
       high = over_quotient a.high x b.low y b.high r.high up q.low q.high p.high (omega (arith, ints, clamps)) (omega (arith, ints, clamps));
     };
-    low = λ h. subst Has (sym low) (lesser_has {P = Has} (int_div a.low b.low) (int_div a.low b.high)
+    low = λ h. subst Has (sym low) (lesser_has Has (int_div a.low b.low) (int_div a.low b.high)
         (a.low, b.low, first_low, second_low, refl) (a.low, b.high, first_low, second_high, refl));
-    high = λ h. subst Has (sym high) (greater_has {P = Has} (int_div a.high b.low) (int_div a.high b.high)
+    high = λ h. subst Has (sym high) (greater_has Has (int_div a.high b.low) (int_div a.high b.high)
         (a.high, b.low, first_high, second_low, refl) (a.high, b.high, first_high, second_high, refl));
   }
 
@@ -138,7 +138,7 @@ module _ (ty : Scalar) (a b d u p q j : Interval) (dl : d.low ≡ b.low) (least 
       subst (λ (v : Interval). IsOne v.low) (sym same) (low_above (subst IsFilled same f)))
       (λ (o : p.low ≤ℤ p.high). by_lt_z q.high q.low
       (λ (e : q.high <ℤ q.low). subst (λ (v : Interval). IsOne v.low) (sym (second o e)) (low_below o))
-      (λ (k : q.low ≤ℤ q.high). subst IsOne (sym (low o k)) (lesser_has {P = IsOne} p.low q.low (low_below o) (low_above k))))
+      (λ (k : q.low ≤ℤ q.high). subst IsOne (sym (low o k)) (lesser_has IsOne p.low q.low (low_below o) (low_above k))))
 
   high_one : IsFilled j → IsOne j.high
   high_one f = by_lt_z p.high p.low
@@ -146,7 +146,7 @@ module _ (ty : Scalar) (a b d u p q j : Interval) (dl : d.low ≡ b.low) (least 
       subst (λ (v : Interval). IsOne v.high) (sym same) (high_above (subst IsFilled same f)))
       (λ (o : p.low ≤ℤ p.high). by_lt_z q.high q.low
       (λ (e : q.high <ℤ q.low). subst (λ (v : Interval). IsOne v.high) (sym (second o e)) (high_below o))
-      (λ (k : q.low ≤ℤ q.high). subst IsOne (sym (high o k)) (greater_has {P = IsOne} p.high q.high (high_below o) (high_above k))))
+      (λ (k : q.low ≤ℤ q.high). subst IsOne (sym (high o k)) (greater_has IsOne p.high q.high (high_below o) (high_above k))))
 
   pub divided_parts : IsDivided ty a b j
   divided_parts = record { holds = all_held; low = low_one; high = high_one }

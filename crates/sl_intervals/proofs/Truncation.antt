@@ -112,7 +112,7 @@ some_size (pos zero) s = absurd (s refl)
 some_size (pos (suc n)) s = omega arith
 some_size (negsuc n) s = omega arith
 
-size_bound : (y z : ℤ) → neg_ℤ z ≤ℤ y → y ≤ℤ z → pos (unsigned_abs y) ≤ℤ z
+pub size_bound : (y z : ℤ) → neg_ℤ z ≤ℤ y → y ≤ℤ z → pos (unsigned_abs y) ≤ℤ z
 size_bound (pos n) z p q = q
 size_bound (negsuc n) z p q = omega (arith, ints)
 

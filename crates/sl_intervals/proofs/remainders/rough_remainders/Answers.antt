@@ -11,7 +11,7 @@ pub returns : goal.returns
 returns c =
     let fa = c.requires.first.order in let fb = c.requires.second.order in
     rough c.args.a c.args.b c.between.result c.furthest-limit.result fa fb c.furthest-limit.ensures (omega (arith, ints, clamps))
-    (λ h. let e = c.least_remainder.ensures.zero h in omega (arith, ints))
-    (λ h. let e = c.least_remainder.ensures.below h in omega (arith, ints))
-    (λ h. let e = c.greatest_remainder.ensures.zero h in omega (arith, ints))
-    (λ h. let e = c.greatest_remainder.ensures.above h in omega (arith, ints))
+    (λ h. let e = c.least_remainder.ensures.zero h in omega (arith, ints, clamps))
+    (λ h. let e = c.least_remainder.ensures.below h in omega (arith, ints, clamps))
+    (λ h. let e = c.greatest_remainder.ensures.zero h in omega (arith, ints, clamps))
+    (λ h. let e = c.greatest_remainder.ensures.above h in omega (arith, ints, clamps))
