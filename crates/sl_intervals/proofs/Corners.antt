@@ -1,10 +1,10 @@
 -- Products of members lie between the least and the greatest product of ends, and those are products of members.
-use Rattle.std.proofs.Common.{zero, suc, ◌≡◌, ◌≢◌, ◌⊎◌, ℤ, pos, negsuc, ◌*ℤ◌, ◌≤ℤ◌, ◌<ℤ◌, refl, sym, ◌∙◌, ap, subst, arith}
+use Rattle.std.proofs.Common.{zero, suc, ◌≡◌, ℤ, pos, negsuc, ◌*ℤ◌, ◌≤ℤ◌, ◌<ℤ◌, refl, sym, subst, arith}
 use Rattle.std.proofs.lemmas.Int.{ints, clamps, by_lt_z}
 use Rattle.std.specs.Int.{int_min, int_max}
 use Rattle.std.proofs.Math.IntN.{zero-*ℤ, *ℤ-zero, *ℤ_comm}
 use Rattle.sl_intervals.specs.declared.interval.Interval.{Interval}
-use Rattle.sl_intervals.specs.Intervals.{Holds, IsFilled, IsSingle}
+use Rattle.sl_intervals.specs.Intervals.{Holds, IsFilled}
 use Rattle.sl_intervals.specs.Products.{least_product, greatest_product}
 use Rattle.sl_intervals.proofs.Factors.{product_rises, product_falls, under_product, over_product}
 

@@ -1,17 +1,17 @@
 -- What quotients of members give in a type.
-use Rattle.std.proofs.Common.{◌≡◌, ◌≢◌, inl, inr, ℤ, pos, negsuc, neg_ℤ, ◌+ℤ◌, ◌≤ℤ◌, ◌<ℤ◌, int_div, Bool, if◌then◌else◌, refl, sym, ◌∙◌, ap, subst, arith}
+use Rattle.std.proofs.Common.{◌≡◌, ◌≢◌, inl, inr, ℤ, pos, negsuc, neg_ℤ, ◌+ℤ◌, ◌≤ℤ◌, ◌<ℤ◌, int_div, refl, sym, ◌∙◌, ap, subst, arith}
 use Rattle.std.proofs.lemmas.Int.{ints, clamps, by_lt_z}
 use Rattle.std.specs.Int.{int_min, int_max}
 use Rattle.sl_base.specs.declared.scalar.Scalar.{Scalar}
 use Rattle.sl_base.specs.declared.scalar.Scalar.TheVariants as kind
 use Rattle.sl_syntax.specs.declared.operator.Arithmetic.TheVariants as operator
-use Rattle.sl_model.specs.Numbers.{Answer, value, divided, operated, lowest, highest}
+use Rattle.sl_model.specs.Numbers.{Answer, value, operated, lowest, highest}
 use Rattle.sl_intervals.specs.declared.interval.Interval.{Interval}
 use Rattle.sl_intervals.specs.declared.outcome.Outcome.{Outcome}
 use Rattle.sl_intervals.specs.Intervals.{Holds, IsFilled, IsWithin, LiesIn}
 use Rattle.sl_intervals.specs.Outcomes.{IsOutcome, IsTight}
 use Rattle.sl_intervals.specs.Means.Dividing.{IsDivisor, IsDivided, IsDivisionVerdict}
-use Rattle.sl_intervals.proofs.Divisions.{IsFine, AreOf, are_of, has_quotient, divided_fits, fine_of, good, signed_of}
+use Rattle.sl_intervals.proofs.Divisions.{IsFine, AreOf, are_of, has_quotient, divided_fits, good, signed_of}
 use Rattle.sl_intervals.proofs.Spanning.{tight_exact}
 use Rattle.sl_intervals.proofs.Truncation.{under_dividend, over_least, quotient_falls, under_quotient, over_quotient}
 
@@ -71,6 +71,14 @@ next_by_one kind.Bool number signed = absurd (number refl)
 next_by_one kind.Size number signed = absurd (signed refl)
 next_by_one kind.Diff number signed = refl
 
+next_is : (ty : Scalar) (z : ℤ) → ty ≢ kind.Bool → ty ≢ kind.Size → z ≡ highest ty → operated operator.Divide ty (lowest ty +ℤ pos 1) (negsuc 0) ≡ value z
+next_is ty z number signed e = next_by_one ty number signed ∙ ap value (sym e)
+
+-- a quotient that the type has, by name
+quotient_is : (ty : Scalar) (x y z : ℤ) → y ≢ pos 0 → lowest ty ≤ℤ int_div x y → z ≤ℤ highest ty → int_div x y ≡ z
+    → operated operator.Divide ty x y ≡ value z
+quotient_is ty x y z some p q same = divided_fits ty x y (int_div x y) some p (omega (arith, ints)) ∙ ap value same
+
 module _ (ty : Scalar) (a b s : Interval) (r : Outcome) (number : ty ≢ kind.Bool) (v : IsWithin ty a) (w : IsWithin ty b)
     (parts : IsDivided ty a b s) (low : r.value.low ≡ int_max s.low (lowest ty)) (high : r.value.high ≡ int_min s.high (highest ty)) where
   abbrev op : ℤ → ℤ → Answer
@@ -86,50 +94,40 @@ module _ (ty : Scalar) (a b s : Interval) (r : Outcome) (number : ty ≢ kind.Bo
       record { low = omega (arith, ints, clamps); high = omega (arith, ints, clamps) }
 
   -- an end that the type has
-  low_end : IsFilled r.value → (x : ℤ) × (y : ℤ) × Holds a x × Holds b y × (op x y ≡ value r.value.low)
-  low_end f =
-      let t = parts.low (omega (arith, ints, clamps)) in
-      let e = t.5 in
-      let some = t.4.some in
-      let k = over_type ty t.0 t.1 (are_of ty a b t.0 t.1 v w t.2 t.3) some in
-      let same : int_div t.0 t.1 ≡ r.value.low = omega (arith, ints, clamps) in
-      (t.0, t.1, t.2, t.3, divided_fits ty t.0 t.1 (int_div t.0 t.1) some k (omega (arith, ints, clamps)) ∙ ap value same)
+  low_of : (x y : ℤ) → Holds a x → Holds b y → IsDivisor ty a y → int_div x y ≡ s.low → IsFilled r.value → op x y ≡ value r.value.low
+  low_of x y p q d e f =
+      let k = over_type ty x y (are_of ty a b x y v w p q) d.some in
+      quotient_is ty x y r.value.low d.some k (omega (arith, ints, clamps)) (omega (arith, ints, clamps))
 
-  high_within : s.high ≤ℤ highest ty → IsFilled r.value → (x : ℤ) × (y : ℤ) × Holds a x × Holds b y × (op x y ≡ value r.value.high)
-  high_within h f =
-      let t = parts.high (omega (arith, ints, clamps)) in
-      let e = t.5 in
-      let some = t.4.some in
-      let k = over_type ty t.0 t.1 (are_of ty a b t.0 t.1 v w t.2 t.3) some in
-      let same : int_div t.0 t.1 ≡ r.value.high = omega (arith, ints, clamps) in
-      (t.0, t.1, t.2, t.3, divided_fits ty t.0 t.1 (int_div t.0 t.1) some k (omega (arith, ints, clamps)) ∙ ap value same)
+  high_of : (x y : ℤ) → Holds a x → Holds b y → IsDivisor ty a y → int_div x y ≡ s.high → s.high ≤ℤ highest ty → IsFilled r.value
+      → op x y ≡ value r.value.high
+  high_of x y p q d e h f =
+      let k = over_type ty x y (are_of ty a b x y v w p q) d.some in
+      quotient_is ty x y r.value.high d.some k (omega (arith, ints, clamps)) (omega (arith, ints, clamps))
 
-  -- where the least number by -1 is among them
-  high_past : highest ty <ℤ s.high → IsFilled r.value → (x : ℤ) × (y : ℤ) × Holds a x × Holds b y × (op x y ≡ value r.value.high)
-  high_past h f =
-      let t = parts.high (omega (arith, ints, clamps)) in
-      let e = t.5 in
-      let o = are_of ty a b t.0 t.1 v w t.2 t.3 in
+  -- where the least number by -1 is among them, the greatest number is the next one's quotient
+  past_of : (x y : ℤ) → Holds a x → Holds b y → IsDivisor ty a y → int_div x y ≡ s.high → highest ty <ℤ s.high → IsFilled r.value
+      → (u : ℤ) × (t : ℤ) × Holds a u × Holds b t × (op u t ≡ value r.value.high)
+  past_of x y p q d e h f =
+      let o = are_of ty a b x y v w p q in
       let yl = o.second_low in
-      let m = past_type ty t.0 t.1 number o t.4.some (omega (arith, ints)) in
-      let one = m.second in let first = m.first in
+      let m = past_type ty x y number o d.some (omega (arith, ints)) in
+      let one = m.second in let first = m.first in let pl = p.low in
       let wide : lowest ty <ℤ a.high = by_lt_z (lowest ty) a.high (λ (k : lowest ty <ℤ a.high). k)
-      (λ (k : a.high ≤ℤ lowest ty). absurd (t.4.other k one)) in
-      let xl = t.2.low in
-      let same : r.value.high ≡ highest ty = omega (arith, ints, clamps) in (
+      (λ (k : a.high ≤ℤ lowest ty). absurd (d.other k one)) in (
         lowest ty +ℤ pos 1,
         negsuc 0,
         record { low = omega (arith, ints); high = omega (arith, ints) },
-        subst (Holds b) one t.3,
-        next_by_one ty number (signed_of ty (omega (arith, ints))) ∙ ap value (sym same),
+        subst (Holds b) one q,
+        next_is ty r.value.high number (signed_of ty (omega (arith, ints))) (omega (arith, ints, clamps)),
       )
 
   pub quotients_tight : IsTight (operated operator.Divide ty) a b r.value
   quotients_tight = record {
-    low = low_end;
-    high = λ f. by_lt_z (highest ty) s.high
-        (λ (h : highest ty <ℤ s.high). high_past h f)
-        (λ (h : s.high ≤ℤ highest ty). high_within h f);
+    low = λ f. let t = parts.low (omega (arith, ints, clamps)) in (t.0, t.1, t.2, t.3, low_of t.0 t.1 t.2 t.3 t.4 t.5 f);
+    high = λ f. let t = parts.high (omega (arith, ints, clamps)) in by_lt_z (highest ty) s.high
+        (λ (h : highest ty <ℤ s.high). past_of t.0 t.1 t.2 t.3 t.4 t.5 h f)
+        (λ (h : s.high ≤ℤ highest ty). (t.0, t.1, t.2, t.3, high_of t.0 t.1 t.2 t.3 t.4 t.5 h f));
   }
 
   value_within : LiesIn ty r.value

@@ -1,16 +1,16 @@
 -- Where divisions of members fault.
-use Rattle.std.proofs.Common.{zero, suc, ◌≡◌, ◌≢◌, ◌↔◌, ℤ, pos, negsuc, ◌≤ℤ◌, ◌<ℤ◌, int_div, true, false, Bool, if◌then◌else◌, refl, sym, ◌∙◌, ap, subst, arith}
+use Rattle.std.proofs.Common.{◌≡◌, ◌≢◌, ℤ, pos, negsuc, ◌≤ℤ◌, ◌<ℤ◌, int_div, true, false, Bool, if◌then◌else◌, refl, ◌∙◌, ap, arith}
 use Rattle.std.proofs.lemmas.Int.{ints, by_lt_z}
 use Rattle.sl_base.specs.declared.scalar.Scalar.{Scalar}
 use Rattle.sl_base.specs.declared.scalar.Scalar.TheVariants as kind
-use Rattle.sl_model.specs.Numbers.{Answer, value, fault, divided, fits, is_zero, lowest, highest}
+use Rattle.sl_model.specs.Numbers.{value, fault, divided, fits, is_zero, lowest, highest}
 use Rattle.sl_intervals.specs.declared.interval.Interval.{Interval}
 use Rattle.sl_intervals.specs.declared.sure.Sure.{Sure}
 use Rattle.sl_intervals.specs.declared.sure.Sure.TheVariants.{Never, May, Always}
-use Rattle.sl_intervals.specs.Intervals.{Holds, IsFilled, IsWithin, NoFault, AllFault, is_fault}
+use Rattle.sl_intervals.specs.Intervals.{Holds, IsFilled, IsWithin, is_fault}
 use Rattle.sl_intervals.specs.Means.Dividing.{IsDivisionVerdict}
 use Rattle.sl_intervals.proofs.Truncation.{IsFromTo, quotient_fits, under_dividend, over_dividend}
-use Rattle.sl_intervals.proofs.Verdicts.{does_fit, is_under, is_over}
+use Rattle.sl_intervals.proofs.Verdicts.{does_fit}
 
 -- y isn't 0, and isn't -1 where x is the type's least number
 pub record IsFine (ty : Scalar) (x y : ℤ) : Type 0 where

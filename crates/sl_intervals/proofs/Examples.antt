@@ -1,5 +1,5 @@
 -- Closed intervals and operators, each with the answer to which it computes.
-use Rattle.std.proofs.Common.{◌≡◌, ℤ, pos, negsuc, ◌≤ℤ◌, true, false, refl, inl, inr, arith}
+use Rattle.std.proofs.Common.{◌≡◌, pos, negsuc, true, false, refl, inl, inr, arith}
 use Rattle.std.proofs.lemmas.Int.{ints}
 use Rattle.sl_base.specs.declared.scalar.Scalar.TheVariants as kind
 use Rattle.sl_syntax.specs.declared.operator.Arithmetic.TheVariants as operator

@@ -1,5 +1,5 @@
 -- What products of members give in a type.
-use Rattle.std.proofs.Common.{zero, suc, ◌+◌, ◌*◌, ◌≡◌, ◌≢◌, ◌⊎◌, inl, inr, ⊎_elim, ℤ, pos, negsuc, ◌+ℤ◌, ◌*ℤ◌, ◌≤ℤ◌, ◌<ℤ◌, true, false, refl, sym, ◌∙◌, ap, subst, arith}
+use Rattle.std.proofs.Common.{◌≡◌, ◌≢◌, inr, ℤ, pos, ◌*ℤ◌, ◌≤ℤ◌, ◌<ℤ◌, true, false, refl, sym, ap, subst, arith}
 use Rattle.std.proofs.lemmas.Int.{ints, clamps, by_lt_z}
 use Rattle.std.specs.Int.{int_min, int_max}
 use Rattle.sl_base.specs.declared.scalar.Scalar.{Scalar}
@@ -15,7 +15,7 @@ use Rattle.sl_intervals.specs.Means.Multiplying.{IsWhole}
 use Rattle.sl_intervals.proofs.Corners.{IsProduct, IsHull}
 use Rattle.sl_intervals.proofs.Spanning.{only, its_own}
 use Rattle.sl_intervals.proofs.Turns.{is_converted, only_converted}
-use Rattle.sl_intervals.proofs.Verdicts.{some_number, settled_in, settled_under, settled_over, settled_own}
+use Rattle.sl_intervals.proofs.Verdicts.{settled_in, settled_under, settled_over, settled_own}
 
 -- what a product in s that members have says of s's numbers
 single_product : (a b : Interval) (x y z : ℤ) → IsSingle a x → IsSingle b y → IsProduct a b z → x *ℤ y ≡ z

@@ -1,5 +1,5 @@
 -- Products that aren't taken modulo.
-use Rattle.std.proofs.Common.{◌<◌, ◌≡◌, ◌≢◌, ◌⊎◌, ⊎_elim, ℤ, pos, negsuc, ◌*ℤ◌, ◌≤ℤ◌, ◌<ℤ◌, FitsSigned, refl, arith}
+use Rattle.std.proofs.Common.{◌≡◌, ◌≢◌, ⊎_elim, ℤ, pos, negsuc, ◌*ℤ◌, ◌≤ℤ◌, FitsSigned, refl, arith}
 use Rattle.std.proofs.lemmas.Int.{ints, fits_signed_mul, fits_signed_from_abs}
 use Rattle.std.specs.Int.{int_min, int_max, w128}
 use Rattle.std.proofs.Math.IntN.{*ℤ_comm}

@@ -1,5 +1,5 @@
 -- What remainders of members lie between, and what they give in a type.
-use Rattle.std.proofs.Common.{◌≡◌, ◌≢◌, ◌⊎◌, inl, inr, ⊎_elim, ℤ, pos, negsuc, neg_ℤ, ◌-ℤ◌, ◌≤ℤ◌, ◌<ℤ◌, int_rem, refl, sym, ◌∙◌, ap, subst, arith}
+use Rattle.std.proofs.Common.{◌≡◌, ◌≢◌, inl, inr, ⊎_elim, ℤ, pos, neg_ℤ, ◌-ℤ◌, ◌≤ℤ◌, ◌<ℤ◌, int_rem, subst, arith}
 use Rattle.std.proofs.lemmas.Int.{ints, clamps, by_lt_z}
 use Rattle.std.specs.Int.{int_min, int_max}
 use Rattle.sl_base.specs.declared.scalar.Scalar.{Scalar}
@@ -8,13 +8,13 @@ use Rattle.sl_syntax.specs.declared.operator.Arithmetic.TheVariants as operator
 use Rattle.sl_model.specs.Numbers.{value, operated, lowest, highest}
 use Rattle.sl_intervals.specs.declared.interval.Interval.{Interval}
 use Rattle.sl_intervals.specs.declared.outcome.Outcome.{Outcome}
-use Rattle.sl_intervals.specs.Intervals.{Holds, IsEmpty, IsFilled, IsLimited, IsSingle, IsWithin, LiesIn, IsAtLeast, IsAtMost}
+use Rattle.sl_intervals.specs.Intervals.{Holds, IsEmpty, IsFilled, IsSingle, IsWithin, LiesIn, IsAtLeast, IsAtMost}
 use Rattle.sl_intervals.specs.Outcomes.{IsOutcome}
 use Rattle.sl_intervals.specs.Remainders.{IsRemainders}
 use Rattle.sl_intervals.specs.Means.Dividing.{IsSingleDivision, IsDivisionVerdict}
 use Rattle.sl_intervals.proofs.Divided.{has_zero}
 use Rattle.sl_intervals.proofs.Divisions.{are_of, good}
-use Rattle.sl_intervals.proofs.Truncation.{IsNear, is_near}
+use Rattle.sl_intervals.proofs.Truncation.{is_near}
 
 -- where 0 is the only divisor
 pub no_remainders : (a b r : Interval) → pos 0 ≤ℤ b.low → b.high ≤ℤ pos 0 → IsEmpty r → IsRemainders a b r

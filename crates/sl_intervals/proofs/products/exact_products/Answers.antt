@@ -1,5 +1,3 @@
-use Rattle.std.proofs.Common.{arith}
-use Rattle.std.proofs.lemmas.Int.{ints}
 use Rattle.sl_intervals.proofs.products.exact_products.Goals as goal
 
 pub returns-clause-low : goal.returns-clause-low

@@ -1,5 +1,3 @@
-use Rattle.std.proofs.Common.{arith}
-use Rattle.std.proofs.lemmas.Int.{ints}
 use Rattle.sl_intervals.proofs.Corners.{hull}
 use Rattle.sl_intervals.proofs.Plain.{have_products, hull_filled, plain_outcome}
 use Rattle.sl_intervals.proofs.products.plain_products.Goals as goal

@@ -1,4 +1,3 @@
-use Rattle.std.proofs.Common.{arith}
 use Rattle.sl_intervals.proofs.Parts.{divided_parts}
 use Rattle.sl_intervals.proofs.quotients.quotients.Goals as goal
 
