@@ -151,7 +151,8 @@ module _ (a b : Interval) (f : IsFilled a) (g : IsFilled b) where
       (λ x y u v. let ul = u.low in let vh = v.high in up_down x y (omega (arith, ints)) (omega (arith, ints)))))
       (λ (w : pos 0 ≤ℤ b.high). second_zero o w))
 
-  first_down : (s : Interval) → s.low <ℤ pos 0 → pos 0 <ℤ s.high → IsProduct a b s.low → IsProduct a b s.high → a.high <ℤ pos 0 → IsProduct a b (pos 0)
+  first_down : (s : Interval) → s.low <ℤ pos 0 → pos 0 <ℤ s.high → IsProduct a b s.low → IsProduct a b s.high → a.high <ℤ pos 0
+      → IsProduct a b (pos 0)
   first_down s p q l h down = by_lt_z (pos 0) b.low
       (λ (o : pos 0 <ℤ b.low). absurd (not_above s q h
       (λ x y u v. let uh = u.high in let vl = v.low in down_up x y (omega (arith, ints)) (omega (arith, ints)))))

@@ -71,7 +71,8 @@ next_by_one kind.Bool number signed = absurd (number refl)
 next_by_one kind.Size number signed = absurd (signed refl)
 next_by_one kind.Diff number signed = refl
 
-next_is : (ty : Scalar) (z : ℤ) → ty ≢ kind.Bool → ty ≢ kind.Size → z ≡ highest ty → operated operator.Divide ty (lowest ty +ℤ pos 1) (negsuc 0) ≡ value z
+next_is : (ty : Scalar) (z : ℤ) → ty ≢ kind.Bool → ty ≢ kind.Size → z ≡ highest ty
+    → operated operator.Divide ty (lowest ty +ℤ pos 1) (negsuc 0) ≡ value z
 next_is ty z number signed e = next_by_one ty number signed ∙ ap value (sym e)
 
 -- a quotient that the type has, by name
@@ -185,7 +186,8 @@ module _ (ty : Scalar) (a b : Interval) (r : Outcome) (number : ty ≢ kind.Bool
       let e = same_value k.0 k.1 r.value.low k.2 k.3 k.4 in
       let pl = k.2.low in let ql = k.3.low in let qh = k.3.high in
       let n = quotient_falls a.low k.1 b.high up (omega (arith, ints)) qh in
-      let m = under_quotient a.low k.0 k.1 k.1 b.high (int_div a.low b.high) (omega (arith, ints)) (omega (arith, ints)) qh pl n (omega (arith, ints)) in
+      let m = under_quotient a.low k.0 k.1 k.1 b.high (int_div a.low b.high) (omega (arith, ints)) (omega (arith, ints)) qh pl n
+      (omega (arith, ints)) in
       omega (arith, ints)
 
   pub high_quotient : r.value.high ≡ int_div a.high b.low

@@ -17,7 +17,7 @@ use Rattle.sl_intervals.proofs.Spanning.{only, its_own}
 use Rattle.sl_intervals.proofs.Turns.{is_converted, only_converted}
 use Rattle.sl_intervals.proofs.Verdicts.{settled_in, settled_under, settled_over, settled_own}
 
--- what a product in s that members have says of s's numbers
+-- single numbers have one product
 single_product : (a b : Interval) (x y z : ℤ) → IsSingle a x → IsSingle b y → IsProduct a b z → x *ℤ y ≡ z
 single_product a b x y z p q h =
     let i = only a x h.0 p h.2 in
@@ -25,7 +25,7 @@ single_product a b x y z p q h =
     let e = h.4 in
     cc
 
--- single numbers
+-- so what is held of it is exact, where the type has it
 pub exact_product : (ty : Scalar) (a b s : Interval) (r : Outcome) (x y z : ℤ) → IsHull a b s → IsSingle a x → IsSingle b y
     → lowest ty ≤ℤ z → z ≤ℤ highest ty → z ≡ x *ℤ y → r.value.low ≡ int_max s.low (lowest ty) → r.value.high ≡ int_min s.high (highest ty)
     → IsSingle r.value z
@@ -37,7 +37,8 @@ exact_product ty a b s r x y z hull p q above below e low high =
 module _ (ty : Scalar) (a b s : Interval) (r : Outcome) (signed : ty ≢ kind.Size) (hull : IsHull a b s) (so : IsSettled ty s r)
     (low : r.value.low ≡ int_max s.low (lowest ty)) (high : r.value.high ≡ int_min s.high (highest ty)) where
   -- whether a product that members have faults, where all members' products do, or none
-  has_none : (z : ℤ) → ((x y : ℤ) → Holds a x → Holds b y → is_fault (settled ty (x *ℤ y)) ≡ false) → IsProduct a b z → is_fault (settled ty z) ≡ false
+  has_none : (z : ℤ) → ((x y : ℤ) → Holds a x → Holds b y → is_fault (settled ty (x *ℤ y)) ≡ false) → IsProduct a b z
+      → is_fault (settled ty z) ≡ false
   has_none z all h = subst (λ (v : ℤ). is_fault (settled ty v) ≡ false) h.4 (all h.0 h.1 h.2 h.3)
 
   has_all : (z : ℤ) → ((x y : ℤ) → Holds a x → Holds b y → is_fault (settled ty (x *ℤ y)) ≡ true) → IsProduct a b z → is_fault (settled ty z) ≡ true

@@ -159,8 +159,8 @@ fn size_products(a: Interval, b: Interval) -> Outcome
     plain_products(Scalar::Size, a, b)
 }
 
-/// The products of members. Where none is taken modulo, the value goes from the least to the greatest product of ends, as
-/// far as the type does.
+/// The products of members. Where none is taken modulo, the value goes from the least to the greatest product of ends,
+/// as far as the type does.
 pub fn mul(ty: Scalar, a: Interval, b: Interval) -> Outcome
     requires number { ty ≢ Scalar.Bool }
     requires first { LiesIn ty a }
