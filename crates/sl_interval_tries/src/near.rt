@@ -2,7 +2,7 @@
 ghost use Rattle.std.specs.Prelude.{◌≡◌};
 ghost use Rattle.sl_base.specs.declared.scalar.Scalar.{Scalar};
 ghost use Rattle.sl_model.specs.Numbers.{lowest, highest};
-ghost use Rattle.sl_intervals.specs.Intervals.{LiesIn};
+ghost use Rattle.sl_intervals.specs.Intervals.{IsEmpty, LiesIn};
 
 use sl_base::Scalar;
 use sl_intervals::Interval;
@@ -66,7 +66,9 @@ pub fn is_new(number: usize, i: Interval) -> bool {
 }
 
 // The interval without a member.
-fn none() -> Interval {
+fn none() -> Interval
+    ensures { IsEmpty result }
+{
     Interval { low: 1, high: 0 }
 }
 
