@@ -62,7 +62,7 @@ pub fn near(ty: Scalar, number: usize) -> Interval
 
 /// Whether an interval is one to try: each that has members and, once, one that hasn't.
 pub fn is_new(number: usize, i: Interval) -> bool {
-    number == 1 || number > 1 && i.low <= i.high
+    (number == 1) | ((number > 1) & (i.low <= i.high))
 }
 
 // The interval without a member.

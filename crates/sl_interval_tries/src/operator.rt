@@ -6,7 +6,7 @@ ghost use Rattle.sl_intervals.specs.Intervals.{LiesIn};
 use crate::near::{greatest, least};
 use crate::numbers::{Operator, operated};
 use crate::tally::Tally;
-use crate::values::{MEMBERS, Seen, member};
+use crate::values::{MEMBERS, Seen, is_from_to, member};
 use sl_base::Scalar;
 use sl_intervals::{Interval, Outcome, Sure, add, div, mul, rem, sub};
 
@@ -40,78 +40,74 @@ fn seen(operator: Operator, ty: Scalar, a: Interval, b: Interval) -> Seen {
 fn is_fault(seen: &Seen, fault: Sure) -> bool {
     match fault {
         Sure::Never => !seen.faulted,
-        Sure::May => seen.faulted && seen.some,
-        Sure::Always => seen.faulted && !seen.some,
+        Sure::May => seen.faulted & seen.some,
+        Sure::Always => seen.faulted & !seen.some,
     }
 }
 
 // Whether an answer is the least interval of the results, with the fault.
 fn is_tight(operator: Operator, ty: Scalar, a: Interval, b: Interval, outcome: Outcome) -> bool {
     let seen = seen(operator, ty, a, b);
-    is_fault(&seen, outcome.fault) && seen.is_hull(outcome.value)
+    is_fault(&seen, outcome.fault) & seen.is_hull(outcome.value)
 }
 
-// Whether all numbers that came lie in an interval, and that in the type.
-fn is_held(seen: &Seen, ty: Scalar, i: Interval) -> bool {
-    if i.low > i.high {
-        return !seen.some;
-    }
-    let inside = !seen.some || i.low <= seen.low && seen.high <= i.high;
-    inside && least(ty) <= i.low && i.high <= greatest(ty)
+// Whether an answer tells the fault, and its value lies in the type and holds all numbers that came.
+fn is_held(seen: &Seen, ty: Scalar, outcome: Outcome) -> bool {
+    let value = outcome.value;
+    let empty = value.low > value.high;
+    let within = (least(ty) <= value.low) & (value.high <= greatest(ty));
+    let wide = (value.low <= seen.low) & (seen.high <= value.high);
+    is_fault(seen, outcome.fault) & (empty | within) & (!seen.some | (!empty & wide))
 }
 
-// Whether an interval has one member.
-fn is_single(i: Interval) -> bool {
-    i.low == i.high
+// Whether both are single numbers.
+fn are_single(a: Interval, b: Interval) -> bool {
+    (a.low == a.high) & (b.low == b.high)
 }
 
-// Whether two intervals have members.
-fn are_filled(a: Interval, b: Interval) -> bool {
-    a.low <= a.high && b.low <= b.high
-}
-
-// Whether an answer holds the products, is exact on single numbers, and ends at products of ends or at the type's end.
+// Whether an answer holds the products, is exact on single numbers, and else ends at products of ends or at the type's
+// end.
 fn is_product(ty: Scalar, a: Interval, b: Interval, outcome: Outcome) -> bool {
     let seen = seen(Operator::Mul, ty, a, b);
-    let value = outcome.value;
-    let told = is_fault(&seen, outcome.fault) && is_held(&seen, ty, value);
-    if is_single(a) && is_single(b) {
-        return told && seen.is_hull(value);
+    let held = is_held(&seen, ty, outcome);
+    if are_single(a, b) {
+        return held & seen.is_hull(outcome.value);
     }
-    told && (!are_filled(a, b) || is_clamped(ty, a, b, value))
+    if (a.low > a.high) | (b.low > b.high) {
+        return held;
+    }
+    held & is_clamped(ty, a, b, outcome.value)
 }
 
 // Whether an interval goes from the least to the greatest product of ends, as far as the type does, where the products
 // of a type that wraps round don't go past its greatest number.
 fn is_clamped(ty: Scalar, a: Interval, b: Interval, value: Interval) -> bool {
     let last = a.high.saturating_mul(b.high);
-    if least(ty) == 0 && last > greatest(ty) {
-        return value.low == 0 && value.high == greatest(ty);
+    if (least(ty) == 0) & (last > greatest(ty)) {
+        return is_from_to(value, 0, greatest(ty));
     }
     let (first, second) = (a.low.saturating_mul(b.low), a.low.saturating_mul(b.high));
     let third = a.high.saturating_mul(b.low);
     let low = first.min(second).min(third).min(last).max(least(ty));
     let high = first.max(second).max(third).max(last).min(greatest(ty));
-    value.low == low && value.high == high
+    is_from_to(value, low, high)
 }
 
 // Whether an answer holds the remainders, is exact on single numbers, and keeps sign and bounds.
 fn is_remainder(ty: Scalar, a: Interval, b: Interval, outcome: Outcome) -> bool {
     let seen = seen(Operator::Rem, ty, a, b);
-    let value = outcome.value;
-    let told = is_fault(&seen, outcome.fault) && is_held(&seen, ty, value);
-    if is_single(a) && is_single(b) && seen.some {
-        return told && seen.is_hull(value);
+    let held = is_held(&seen, ty, outcome) & is_bounded(a, b, outcome.value);
+    if are_single(a, b) & seen.some {
+        return held & seen.is_hull(outcome.value);
     }
-    told && (value.low > value.high || is_bounded(a, b, value))
+    held
 }
 
 // Whether an interval has the sign of the dividends, is no further from 0 than they, and nearer than the furthest
 // divisor.
 fn is_bounded(a: Interval, b: Interval, value: Interval) -> bool {
     let furthest = b.high.max(0i128.saturating_sub(b.low));
-    a.low.min(0) <= value.low
-        && value.high <= a.high.max(0)
-        && value.low.saturating_add(furthest) >= 1
-        && value.high < furthest
+    let low = a.low.min(0).max(1i128.saturating_sub(furthest));
+    let high = a.high.max(0).min(furthest.saturating_sub(1));
+    (value.low > value.high) | ((low <= value.low) & (value.high <= high))
 }

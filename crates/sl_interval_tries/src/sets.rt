@@ -1,6 +1,6 @@
 //! Tries of comparisons, joins and meets.
 use crate::tally::Tally;
-use crate::values::{MEMBERS, Seen, holds, member};
+use crate::values::{MEMBERS, Seen, member};
 use sl_intervals::{Interval, Sure, join, less, meet};
 
 /// Tries the comparison, the join and the meet of two intervals.
@@ -21,7 +21,7 @@ fn is_less(a: Interval, b: Interval) -> bool {
         }
     }
     let outcome = less(a, b);
-    seen.is_hull(outcome.value) && matches!(outcome.fault, Sure::Never)
+    seen.is_hull(outcome.value) & matches!(outcome.fault, Sure::Never)
 }
 
 // Whether the join is the least interval that holds all members.
@@ -42,10 +42,10 @@ fn is_joined(a: Interval, b: Interval) -> bool {
 fn is_met(a: Interval, b: Interval) -> bool {
     let mut seen = Seen::new();
     for k in 0..MEMBERS {
-        if let Some(x) = member(a, k)
-            && holds(b, x)
-        {
-            seen.add(Some(x));
+        if let Some(x) = member(a, k) {
+            if (b.low <= x) & (x <= b.high) {
+                seen.add(Some(x));
+            }
         }
     }
     seen.is_hull(meet(a, b))

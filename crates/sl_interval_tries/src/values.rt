@@ -8,7 +8,7 @@ use sl_intervals::{Interval, convert};
 pub const MEMBERS: usize = 9;
 
 /// What came of members: the least and the greatest number, whether there is one, and whether one faulted.
-#[derive(Clone, Copy)]
+#[derive(Drop)]
 pub struct Seen {
     pub low: i128,
     pub high: i128,
@@ -46,16 +46,16 @@ impl Seen {
     /// Whether an interval is the least that holds these numbers, and empty where there are none.
     pub fn is_hull(&self, i: Interval) -> bool {
         if self.some {
-            i.low == self.low && i.high == self.high
+            is_from_to(i, self.low, self.high)
         } else {
             i.low > i.high
         }
     }
 }
 
-/// Whether an interval holds a number.
-pub fn holds(i: Interval, z: i128) -> bool {
-    i.low <= z && z <= i.high
+/// Whether an interval has these two ends.
+pub fn is_from_to(i: Interval, low: i128, high: i128) -> bool {
+    (i.low == low) & (i.high == high)
 }
 
 /// A member by its number from the low end on, if there is one.

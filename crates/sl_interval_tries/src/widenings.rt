@@ -4,6 +4,7 @@ ghost use Rattle.sl_intervals.specs.Intervals.{LiesIn};
 
 use crate::near::{greatest, least};
 use crate::tally::Tally;
+use crate::values::is_from_to;
 use sl_base::Scalar;
 use sl_intervals::{Interval, widen};
 
@@ -17,11 +18,12 @@ pub fn try_widening(ty: Scalar, old: Interval, new: Interval, tally: &mut Tally)
 {
     let widened = widen(old, new, &CONSTANTS, ty);
     if old.low > old.high {
-        tally.count(widened.low == new.low && widened.high == new.high);
+        tally.count(is_from_to(widened, new.low, new.high));
     } else if new.low > new.high {
-        tally.count(widened.low == old.low && widened.high == old.high);
+        tally.count(is_from_to(widened, old.low, old.high));
     } else {
-        tally.count(widened.low == low_end(ty, old, new) && widened.high == high_end(ty, old, new));
+        let (low, high) = (low_end(ty, old, new), high_end(ty, old, new));
+        tally.count(is_from_to(widened, low, high));
     }
 }
 
