@@ -1,6 +1,6 @@
 -- A change of one container, at a site, in a memory: what it leaves where it was, that it leaves the memory sound, and that no mark
 -- vanishes.
-use Rattle.std.proofs.Common.{◌≡◌, ◌≢◌, ℕ, ◌+◌, ◌<◌, ◌≤◌, Bool, true, List, [], ◌∷◌, ◌++◌, Some, length, map, refl, ap, sym, ◌∙◌, arith, ◌⊎◌, inl, inr}
+use Rattle.std.proofs.Common.{◌≡◌, ◌≢◌, ℕ, ◌+◌, ◌<◌, ◌≤◌, true, List, [], Some, length, map, ap, sym, ◌∙◌, arith, ◌⊎◌, inl, inr}
 use Rattle.std.proofs.Common.{⊎_elim, subst}
 use Rattle.std.specs.List.{slice_get, slice_set}
 use Rattle.std.proofs.Math.ListN.{length-set}
@@ -8,12 +8,12 @@ use Rattle.std.proofs.lemmas.Bool.{cases_eq, cases_lt}
 use Rattle.std.proofs.lemmas.Option.{get_or_from_slice_get}
 use Rattle.sl_base.specs.declared.form.Form.TheVariants as f
 use Rattle.sl_base.specs.declared.limits.TheConstants.{ELEMENTS}
-use Rattle.sl_model.specs.Containers.{Cont, Grave, Memory, size, cont_at, stamps, refers, IsGrave}
-use Rattle.sl_model.specs.Edits.{Source, Change, buried, rebuilt, changed, used, after}
-use Rattle.sl_model.specs.Good.{Stands, AreKeptApart, IsSound, NoneVanishFrom, NoneVanishes}
+use Rattle.sl_model.specs.Containers.{Cont, Memory, size, cont_at, stamps, refers}
+use Rattle.sl_model.specs.Edits.{Source, Change, changed, used, after}
+use Rattle.sl_model.specs.Good.{AreKeptApart, IsSound, NoneVanishFrom, NoneVanishes}
 use Rattle.sl_model.proofs.Getting.{get_set_same, get_set_other, get_within, get_map, map_set}
-use Rattle.sl_model.proofs.Apart.{IsDistinct, AllBelow, list_distinct, list_below}
-use Rattle.sl_model.proofs.Columns.{AllInside, IsNew, marks_from, rebuilt-stamps, rebuilt-refers, rebuilt-size, stamps-length, refers-length}
+use Rattle.sl_model.proofs.Apart.{list_distinct, list_below}
+use Rattle.sl_model.proofs.Columns.{AllInside, marks_from, rebuilt-stamps, rebuilt-refers, rebuilt-size, stamps-length, refers-length}
 use Rattle.sl_model.proofs.ColumnLaws.{TakenOnce, IsTaken, IsColumn}
 use Rattle.sl_model.proofs.OneChange.{AllTaken, one-apart, one-none}
 use Rattle.sl_model.proofs.WithEnd.{with_end, all_inside_more, with_end-inside, with_end-once, new_within, still_taken, end_taken, alone-marks}

@@ -1,7 +1,7 @@
 -- An edit of one container, at a site, in a memory: what it leaves where it was and what it moves, what it drops, and that it
 -- leaves the memory sound.
-use Rattle.std.proofs.Common.{◌≡◌, ◌≢◌, ℕ, zero, suc, ◌+◌, ◌-◌, ◌<◌, ◌≤◌, Bool, true, false, List, [], ◌∷◌, ◌++◌, Some, length, map, ap, sym, ◌∙◌}
-use Rattle.std.proofs.Common.{arith, ◌⊎◌, inl, inr, ⊎_elim, ℤ, refl}
+use Rattle.std.proofs.Common.{◌≡◌, ◌≢◌, ℕ, zero, suc, ◌+◌, ◌-◌, ◌<◌, ◌≤◌, true, false, List, [], ◌∷◌, ◌++◌, Some, length, ap, sym, ◌∙◌}
+use Rattle.std.proofs.Common.{arith, ◌⊎◌, inl, inr, ℤ, refl}
 use Rattle.std.specs.List.{slice_get}
 use Rattle.std.proofs.lemmas.Bool.{cases_lt}
 use Rattle.std.proofs.lemmas.Bool.Decides.{nat_tests}
@@ -9,17 +9,17 @@ use Rattle.sl_base.specs.declared.limits.TheConstants.{ELEMENTS}
 use Rattle.sl_specs.specs.declared.class.Class.{Class}
 use Rattle.sl_model.specs.Classes.{Edit, Fits, kills}
 use Rattle.sl_model.specs.Containers.{Cont, Memory, size, cont_at, stamps, killer}
-use Rattle.sl_model.specs.Edits.{Source, old, new, olds, news, numbers, change_of, shifted, buried, changed, after}
+use Rattle.sl_model.specs.Edits.{Source, old, new, olds, news, change_of, shifted, buried, changed, after}
 use Rattle.sl_model.specs.Good.{IsAt, IsSound}
-use Rattle.sl_model.proofs.Getting.{get_left, get_right, get_behind, get_within}
+use Rattle.sl_model.proofs.Getting.{get_left, get_behind, get_within}
 use Rattle.sl_model.proofs.Columns.{AllInside, TakesOwn, marks_from, rebuilt-stamps, stays_at, stamps-length}
 use Rattle.sl_model.proofs.Buried.{killer_is, killer_before, killer_behind, buried_stood, buried_killer}
-use Rattle.sl_model.proofs.WithEnd.{with_end, in_with_end, end_of_these, all_inside_more}
-use Rattle.sl_model.proofs.After.{IsFair, get-after-own, get-after-other, cont_at-after-own, size-changed, change-sound}
+use Rattle.sl_model.proofs.WithEnd.{with_end, in_with_end, end_of_these}
+use Rattle.sl_model.proofs.After.{get-after-own, get-after-other, cont_at-after-own, size-changed, change-sound}
 use Rattle.sl_model.proofs.Places.{counts-fair}
 use Rattle.sl_model.proofs.FairChanges.{BuriesGone, edit-fair, edit-length, length_olds}
 use Rattle.sl_model.proofs.Counts.{length-map}
-use Rattle.sl_model.proofs.Located.{stamp-alive, at_stands}
+use Rattle.sl_model.proofs.Located.{stamp-alive}
 
 -- what stands in the container that is there, stands in it
 stands_in : (m : Memory) (j k s : ℕ) (c : Cont) → slice_get m.conts j ≡ Some c → IsAt m j k s → slice_get (stamps c) k ≡ Some s

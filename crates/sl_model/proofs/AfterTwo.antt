@@ -1,8 +1,7 @@
 -- Changes of two containers that exchange elements, at a site, in a memory: they leave it sound, and no mark vanishes.
-use Rattle.std.proofs.Common.{◌≡◌, ◌≢◌, ℕ, ◌+◌, ◌<◌, ◌≤◌, Bool, true, false, List, [], ◌∷◌, ◌++◌, Some, length, map, refl, ap, sym, ◌∙◌, arith, ◌⊎◌}
+use Rattle.std.proofs.Common.{◌≡◌, ◌≢◌, ℕ, ◌+◌, ◌<◌, ◌≤◌, true, false, List, Some, length, map, ap, sym, ◌∙◌, arith, ◌⊎◌}
 use Rattle.std.proofs.Common.{inl, inr, ⊎_elim, subst}
 use Rattle.std.specs.List.{slice_get, slice_set}
-use Rattle.std.proofs.Math.ListN.{length-set}
 use Rattle.std.proofs.lemmas.Bool.{cases_eq, cases_lt}
 use Rattle.sl_base.specs.declared.limits.TheConstants.{ELEMENTS}
 use Rattle.sl_model.specs.Containers.{Cont, Memory, size, stamps, refers}
@@ -10,10 +9,10 @@ use Rattle.sl_model.specs.Edits.{Source, old, written, theirs, new, Change, rebu
 use Rattle.sl_model.specs.Good.{AreKeptApart, IsSound, NoneVanishFrom, NoneVanishes}
 use Rattle.sl_model.proofs.Getting.{get_set_same, get_set_other, get_within, get_map, map_set}
 use Rattle.sl_model.proofs.Apart.{list_distinct, list_below, lists_have_none}
-use Rattle.sl_model.proofs.Columns.{TakesOwn, TakesTheirs, IsNew, AllInside, marks_from, rebuilt-stamps, rebuilt-refers, rebuilt-size, stamps-length}
+use Rattle.sl_model.proofs.Columns.{TakesTheirs, AllInside, marks_from, rebuilt-stamps, rebuilt-refers, rebuilt-size, stamps-length}
 use Rattle.sl_model.proofs.Columns.{refers-length, IsInside}
 use Rattle.sl_model.proofs.ColumnLaws.{TakenOnce, IsTaken, IsTakenOver, IsColumn, TakenByOne}
-use Rattle.sl_model.proofs.TwoChanges.{AllGo, NoneTakenDies, IsTrade, two-apart, two-none}
+use Rattle.sl_model.proofs.TwoChanges.{AllGo, IsTrade, two-apart, two-none}
 use Rattle.sl_model.proofs.WithEnd.{with_end, of_with_end, in_with_end, with_end-inside, with_end-once, new_within, still_taken, end_taken, end_takes}
 use Rattle.sl_model.proofs.WithEnd.{end_takes_none, inside_at}
 use Rattle.sl_model.proofs.After.{Leaves}

@@ -9,7 +9,7 @@ use Rattle.sl_base.specs.declared.form.Form.TheVariants as f
 use Rattle.sl_base.specs.declared.failures.TheConstants.{WRONG_CONTAINER}
 use Rattle.sl_model.specs.Containers.{Cont, Memory, size, keys, stamps, cont_at}
 use Rattle.sl_model.specs.Forms.{step_of}
-use Rattle.sl_model.specs.Edits.{written, olds, after}
+use Rattle.sl_model.specs.Edits.{olds, after}
 use Rattle.sl_model.specs.Rearrangements.{overwritten, overwrites}
 use Rattle.sl_model.specs.Orders.{how_many, best_place, least_place, greatest_place, index_of_key}
 use Rattle.sl_model.specs.Values.{Value, nothing, number, iterator, pair, two, scalar_at, container_at, element_at}
@@ -24,7 +24,6 @@ use Rattle.sl_model.proofs.Located.{at-locate}
 use Rattle.sl_model.proofs.Columns.{stamps-length}
 use Rattle.sl_model.proofs.Called.{HasObject}
 use Rattle.sl_model.proofs.Placing.{HasPlace, IsPlaced, olds-length, after-place, how_many-low, first_of_key-low, range-length}
-use Rattle.sl_model.proofs.Tells.{tells}
 
 -- where no failure is the first, there is none
 pub no_failure : (xs : List (ℕ × ℕ)) → first_failure xs ≡ None → xs ≡ []

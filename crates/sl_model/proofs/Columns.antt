@@ -1,7 +1,7 @@
 -- The marks of a container after a change as a list of numbers: stamps with the end behind them, or refers. Each comes from a
 -- place of the container, from a place of the other one, or is a new number.
-use Rattle.std.proofs.Common.{◌≡◌, ℕ, zero, suc, ◌+◌, ◌<◌, ◌≤◌, Bool, true, false, List, [], ◌∷◌, ◌++◌, Option, Some, None, length, map, refl, ap, sym, ◌∙◌}
-use Rattle.std.proofs.Common.{arith, if◌then◌else◌, ℤ, pos}
+use Rattle.std.proofs.Common.{◌≡◌, ℕ, zero, suc, ◌+◌, ◌<◌, Bool, true, false, List, [], ◌∷◌, ◌++◌, Option, Some, None, length, map, refl, ap, sym, ◌∙◌}
+use Rattle.std.proofs.Common.{arith, if◌then◌else◌, pos}
 use Rattle.std.specs.List.{slice_get}
 use Rattle.sl_model.specs.Containers.{Cell, Cont, size, stamps, refers}
 use Rattle.sl_model.specs.Edits.{Source, old, written, theirs, new, Change, mark_after, stayed, from_source, from_sources, rebuilt}
@@ -210,10 +210,13 @@ module _ (ch : Change) (base : ℕ) (own other : Cont) where
       by_cell : (x : Cell) × (slice_get own.cells k ≡ Some x)
           → (stayed ch base own missing k).stamp ≡ mark_of_place ch.kill base (stamps own) missing.stamp k
       by_cell r =
-          ap (λ (o : Option Cell). (elim o as (λ _. Cell) [ None ↦ missing | Some x ↦ record x {
-            stamp = mark_after ch.kill base k x.stamp;
-            refer = mark_after ch.lose base k x.refer;
-          } ]).stamp) r.1
+          ap (λ (o : Option Cell). (elim o as (λ _. Cell) [
+            | None ↦ missing
+            | Some x ↦ record x {
+              stamp = mark_after ch.kill base k x.stamp;
+              refer = mark_after ch.lose base k x.refer;
+            }
+          ]).stamp) r.1
           ∙ sym (ap (λ (o : Option ℕ). elim o as (λ _. ℕ) [ None ↦ missing.stamp | Some s ↦ mark_after ch.kill base k s ])
           (stamp_there own k r.0 r.1))
 
@@ -225,10 +228,13 @@ module _ (ch : Change) (base : ℕ) (own other : Cont) where
       by_cell : (x : Cell) × (slice_get own.cells k ≡ Some x)
           → (stayed ch base own missing k).refer ≡ mark_of_place ch.lose base (refers own) missing.refer k
       by_cell r =
-          ap (λ (o : Option Cell). (elim o as (λ _. Cell) [ None ↦ missing | Some x ↦ record x {
-            stamp = mark_after ch.kill base k x.stamp;
-            refer = mark_after ch.lose base k x.refer;
-          } ]).refer) r.1
+          ap (λ (o : Option Cell). (elim o as (λ _. Cell) [
+            | None ↦ missing
+            | Some x ↦ record x {
+              stamp = mark_after ch.kill base k x.stamp;
+              refer = mark_after ch.lose base k x.refer;
+            }
+          ]).refer) r.1
           ∙ sym (ap (λ (o : Option ℕ). elim o as (λ _. ℕ) [ None ↦ missing.refer | Some s ↦ mark_after ch.lose base k s ])
           (get_map (λ (y : Cell). y.refer) own.cells k r.0 r.1))
 

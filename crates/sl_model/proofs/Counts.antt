@@ -1,13 +1,13 @@
 -- How often a number stands in the lists that changes are made of.
-use Rattle.std.proofs.Common.{◌≡◌, ℕ, zero, suc, ◌+◌, ◌-◌, ◌<◌, ◌≤◌, ◌==◌, Bool, true, false, List, [], ◌∷◌, ◌++◌, Some, length, map, take, drop, reverse}
-use Rattle.std.proofs.Common.{refl, ap, sym, ◌∙◌, arith, ◌⊎◌, inl, inr, ⊎_elim, ℤ, if◌then◌else◌, add-zero}
+use Rattle.std.proofs.Common.{◌≡◌, ℕ, zero, suc, ◌+◌, ◌-◌, ◌<◌, ◌≤◌, Bool, true, false, List, [], ◌∷◌, ◌++◌, length, map, take, drop}
+use Rattle.std.proofs.Common.{refl, ap, sym, ◌∙◌, arith, ◌⊎◌, inl, inr, ⊎_elim, ℤ, if◌then◌else◌}
 use Rattle.std.specs.Prelude.{int_lt, nat_le}
-use Rattle.std.proofs.lemmas.Bool.{cases_lt, cases_eq, eqb-true, eqb-false, eq-eqb}
-use Rattle.sl_model.specs.Edits.{Source, old, written, theirs, new, numbers, olds, theirs_from, news}
-use Rattle.sl_model.specs.Orders.{put_sorted, put_all_sorted, sorted_entries, with_places, sorted_places, same, first_places_after, first_places, other_places}
-use Rattle.sl_model.specs.Rearrangements.{overwritten, among, moved_order}
+use Rattle.std.proofs.lemmas.Bool.{cases_lt, cases_eq}
+use Rattle.sl_model.specs.Edits.{Source, old, written, theirs, new, numbers, news}
+use Rattle.sl_model.specs.Orders.{put_sorted, put_all_sorted, sorted_entries, with_places, sorted_places}
+use Rattle.sl_model.specs.Rearrangements.{overwritten, moved_order}
 use Rattle.sl_model.specs.Schedule.{put_at, put_all, scattered, hash_place, pick}
-use Rattle.sl_model.proofs.Places.{hit, hit-same, hit-most, hit-is, times, own_places, their_places}
+use Rattle.sl_model.proofs.Places.{hit, hit-same, hit-is, times, own_places, their_places}
 
 -- among joined lists
 pub times-append : (k : ℕ) (xs ys : List ℕ) → times k (xs ++ ys) ≡ times k xs + times k ys
@@ -17,7 +17,6 @@ times-append k (x ∷ xs) ys = let r : times k (xs ++ ys) ≡ times k xs + times
 -- another number isn't hit
 pub hit-other : (k x : ℕ) → (x ≡ k → ⊥) → hit k x ≡ 0
 hit-other k x n = ⊎_elim (λ (a : 0 < hit k x). absurd (n (hit-is k x a))) (λ (b : hit k x ≤ 0). let r : hit k x ≡ 0 = omega arith in r) (cases_lt 0 (hit k x))
-
 
 -- a number that isn't among numbers in turn
 pub times-outside : (k i n : ℕ) → (k < i) ⊎ (i + n ≤ k) → times k (numbers i n) ≡ 0
@@ -304,7 +303,7 @@ times-moved k n p from count fits =
     let others : List ℕ = numbers 0 from ++ numbers (from + count) (n - (from + count)) in
     let target : ℕ = if nat_le (from + count) p then p - count else p in
     let a : times k (take target others ++ (numbers from count ++ drop target others))
-        ≡ times k (take target others) + times k (numbers from count ++ drop target others) =
+    ≡ times k (take target others) + times k (numbers from count ++ drop target others) =
     times-append k (take target others) (numbers from count ++ drop target others) in
     let b : times k (numbers from count ++ drop target others) ≡ times k (numbers from count) + times k (drop target others) =
     times-append k (numbers from count) (drop target others) in
@@ -312,7 +311,7 @@ times-moved k n p from count fits =
     let d : times k others ≡ times k (numbers 0 from) + times k (numbers (from + count) (n - (from + count))) =
     times-append k (numbers 0 from) (numbers (from + count) (n - (from + count))) in
     let e : times k (numbers 0 from) + (times k (numbers from count) + times k (numbers (from + count) (n - (from + count))))
-        ≡ times k (numbers 0 n) = three_parts k n from count fits in
+    ≡ times k (numbers 0 n) = three_parts k n from count fits in
     omega arith
 
 -- they are as many

@@ -9,8 +9,6 @@ use Rattle.sl_model.proofs.Getting.{get_left, get_right, get_behind, get_take, g
 use Rattle.sl_model.proofs.Apart.{StandsSomewhere}
 use Rattle.sl_model.proofs.Located.{at_stands}
 use Rattle.sl_model.proofs.Buried.{grave_cases, killer_is, is_killer, killer_before, killer_behind}
-use Rattle.sl_model.proofs.OneChange.{still_grave}
-use Rattle.sl_model.proofs.After.{Leaves}
 
 -- what is dropped at one site is one of these
 graves_of : (at : ℕ) (ss : List ℕ) (s t : ℕ) → IsGrave (graves_at at ss) s t → (d : ℕ) × (slice_get ss d ≡ Some s) × (at ≡ t)

@@ -1,24 +1,18 @@
 -- The changes that calls make are fair: each place is taken at most once, and what isn't taken has its marks dropped.
-use Rattle.std.proofs.Common.{◌≡◌, ℕ, zero, suc, ◌+◌, ◌-◌, ◌<◌, ◌≤◌, ◌==◌, ◌&&◌, ◌||◌, Bool, true, false, not, List, [], ◌∷◌, ◌++◌, Some, length, map}
-use Rattle.std.proofs.Common.{refl, ap, sym, ◌∙◌, arith, ◌⊎◌, inl, inr, ⊎_elim, ℤ, if◌then◌else◌, subst}
-use Rattle.std.specs.Prelude.{nat_lt, nat_le}
-use Rattle.std.proofs.lemmas.Bool.{cases_lt, cases_eq, eqb-false, eq-eqb, eqb-true}
-use Rattle.std.proofs.lemmas.Bool.Decides.{nat_tests}
+use Rattle.std.proofs.Common.{◌≡◌, ℕ, ◌+◌, ◌-◌, ◌<◌, ◌≤◌, true, List, [], ◌∷◌, ◌++◌, length, map}
+use Rattle.std.proofs.Common.{ap, ◌∙◌, arith, inr, ℤ}
 use Rattle.sl_base.specs.declared.limits.TheConstants.{ELEMENTS}
 use Rattle.sl_specs.specs.declared.class.Class.{Class}
-use Rattle.sl_specs.specs.declared.class.Class.TheVariants as classes
-use Rattle.sl_model.specs.Classes.{Edit, Fits, is_gone, kills, loses}
+use Rattle.sl_model.specs.Classes.{Edit, Fits, kills, loses}
 use Rattle.sl_model.specs.Containers.{Cont, size}
-use Rattle.sl_model.specs.Edits.{Source, old, new, Change, numbers, olds, news, change_of, nowhere}
-use Rattle.sl_model.specs.Rearrangements.{arranged, overwrites, overwritten, retained, among}
+use Rattle.sl_model.specs.Edits.{old, new, numbers, olds, news, change_of}
+use Rattle.sl_model.specs.Rearrangements.{arranged, overwrites, overwritten}
 use Rattle.sl_model.specs.AccessActions.{rehashed}
-use Rattle.sl_model.specs.Effects.{key_change, key_order, key_place}
-use Rattle.sl_model.specs.Forms.{is_hash}
-use Rattle.sl_model.specs.Schedule.{scattered, put_at, after_picks}
-use Rattle.sl_model.proofs.Places.{times, hit, own_places, their_places, CountsFair}
-use Rattle.sl_model.proofs.Counts.{times-append, in_turn, InTurn, one_of, lower, higher, own-append, their-append, own-old, their-old, own-news}
+use Rattle.sl_model.specs.Schedule.{scattered, after_picks}
+use Rattle.sl_model.proofs.Places.{times, own_places, their_places, CountsFair}
+use Rattle.sl_model.proofs.Counts.{in_turn, InTurn, one_of, lower, higher, own-append, their-append, own-old, their-old, own-news}
 use Rattle.sl_model.proofs.Counts.{their-news, own-overwritten, their-overwritten, length-map, length-numbers, length-overwritten, times-scattered}
-use Rattle.sl_model.proofs.Counts.{length-scattered, length-put, times-cut, times-outside, times-numbers, three_parts}
+use Rattle.sl_model.proofs.Counts.{length-scattered, times-outside, times-numbers, three_parts}
 
 -- the places of olds
 pub own_olds : (k i n : ℕ) → times k (own_places (olds i n)) ≡ times k (numbers i n)
@@ -52,10 +46,10 @@ module _ (class : Class) (c : Cont) (e : Edit) (fits : Fits e (size c)) where
       ≡ times k (numbers 0 e.from) + times k (numbers (e.from + e.gone) rest)
   edit_own k =
       let a : times k (own_places (olds 0 e.from ++ (news e.come ++ olds (e.from + e.gone) rest)))
-          ≡ times k (own_places (olds 0 e.from)) + times k (own_places (news e.come ++ olds (e.from + e.gone) rest)) =
+      ≡ times k (own_places (olds 0 e.from)) + times k (own_places (news e.come ++ olds (e.from + e.gone) rest)) =
       own-append k (olds 0 e.from) (news e.come ++ olds (e.from + e.gone) rest) in
       let b : times k (own_places (news e.come ++ olds (e.from + e.gone) rest))
-          ≡ times k (own_places (news e.come)) + times k (own_places (olds (e.from + e.gone) rest)) =
+      ≡ times k (own_places (news e.come)) + times k (own_places (olds (e.from + e.gone) rest)) =
       own-append k (news e.come) (olds (e.from + e.gone) rest) in
       let n : times k (own_places (news e.come)) ≡ 0 = ap (times k) (own-news e.come) in
       let o : times k (own_places (olds 0 e.from)) ≡ times k (numbers 0 e.from) = own_olds k 0 e.from in
@@ -66,10 +60,10 @@ module _ (class : Class) (c : Cont) (e : Edit) (fits : Fits e (size c)) where
   edit_their : (k : ℕ) → times k (their_places (change_of class c e).sources) ≡ 0
   edit_their k =
       let a : times k (their_places (olds 0 e.from ++ (news e.come ++ olds (e.from + e.gone) rest)))
-          ≡ times k (their_places (olds 0 e.from)) + times k (their_places (news e.come ++ olds (e.from + e.gone) rest)) =
+      ≡ times k (their_places (olds 0 e.from)) + times k (their_places (news e.come ++ olds (e.from + e.gone) rest)) =
       their-append k (olds 0 e.from) (news e.come ++ olds (e.from + e.gone) rest) in
       let b : times k (their_places (news e.come ++ olds (e.from + e.gone) rest))
-          ≡ times k (their_places (news e.come)) + times k (their_places (olds (e.from + e.gone) rest)) =
+      ≡ times k (their_places (news e.come)) + times k (their_places (olds (e.from + e.gone) rest)) =
       their-append k (news e.come) (olds (e.from + e.gone) rest) in
       let n : times k (their_places (news e.come)) ≡ 0 = ap (times k) (their-news e.come) in
       let o : times k (their_places (olds 0 e.from)) ≡ 0 = their_olds k 0 e.from in
@@ -80,7 +74,7 @@ module _ (class : Class) (c : Cont) (e : Edit) (fits : Fits e (size c)) where
   pub edit-length : length (change_of class c e).sources ≡ (size c + length e.come) - e.gone
   edit-length =
       let a : length (olds 0 e.from ++ (news e.come ++ olds (e.from + e.gone) rest))
-          ≡ length (olds 0 e.from) + length (news e.come ++ olds (e.from + e.gone) rest) =
+      ≡ length (olds 0 e.from) + length (news e.come ++ olds (e.from + e.gone) rest) =
       length_append (olds 0 e.from) (news e.come ++ olds (e.from + e.gone) rest) in
       let b : length (news e.come ++ olds (e.from + e.gone) rest) ≡ length (news e.come) + length (olds (e.from + e.gone) rest) =
       length_append (news e.come) (olds (e.from + e.gone) rest) in
@@ -192,7 +186,7 @@ overwrites-fair c from xs fits few = record {
   dies = λ k low z. let o = own k in let y = times-numbers k 0 (size c) (omega arith) (omega arith) in absurd (omega arith);
   few =
       let a : length (olds 0 from ++ (overwritten from xs ++ olds (from + length xs) (size c - (from + length xs))))
-          ≡ length (olds 0 from) + length (overwritten from xs ++ olds (from + length xs) (size c - (from + length xs))) =
+      ≡ length (olds 0 from) + length (overwritten from xs ++ olds (from + length xs) (size c - (from + length xs))) =
       length_append (olds 0 from) (overwritten from xs ++ olds (from + length xs) (size c - (from + length xs))) in
       let b : length (overwritten from xs ++ olds (from + length xs) (size c - (from + length xs))) ≡ length (overwritten from xs) + length (olds (from + length xs) (size c - (from + length xs))) =
       length_append (overwritten from xs) (olds (from + length xs) (size c - (from + length xs))) in
@@ -205,10 +199,10 @@ overwrites-fair c from xs fits few = record {
     their : (k : ℕ) → times k (their_places (overwrites from xs c).sources) ≡ 0
     their k =
         let a : times k (their_places (olds 0 from ++ (overwritten from xs ++ olds (from + length xs) (size c - (from + length xs)))))
-            ≡ times k (their_places (olds 0 from)) + times k (their_places (overwritten from xs ++ olds (from + length xs) (size c - (from + length xs)))) =
+        ≡ times k (their_places (olds 0 from)) + times k (their_places (overwritten from xs ++ olds (from + length xs) (size c - (from + length xs)))) =
         their-append k (olds 0 from) (overwritten from xs ++ olds (from + length xs) (size c - (from + length xs))) in
         let b : times k (their_places (overwritten from xs ++ olds (from + length xs) (size c - (from + length xs))))
-            ≡ times k (their_places (overwritten from xs)) + times k (their_places (olds (from + length xs) (size c - (from + length xs)))) =
+        ≡ times k (their_places (overwritten from xs)) + times k (their_places (olds (from + length xs) (size c - (from + length xs)))) =
         their-append k (overwritten from xs) (olds (from + length xs) (size c - (from + length xs))) in
         let d : times k (their_places (overwritten from xs)) ≡ 0 = ap (times k) (their-overwritten from xs) in
         let e : times k (their_places (olds 0 from)) ≡ 0 = their_olds k 0 from in
@@ -219,10 +213,10 @@ overwrites-fair c from xs fits few = record {
         ≡ times k (numbers 0 from) + (times k (numbers from (length xs)) + times k (numbers (from + length xs) (size c - (from + length xs))))
     parts k =
         let a : times k (own_places (olds 0 from ++ (overwritten from xs ++ olds (from + length xs) (size c - (from + length xs)))))
-            ≡ times k (own_places (olds 0 from)) + times k (own_places (overwritten from xs ++ olds (from + length xs) (size c - (from + length xs)))) =
+        ≡ times k (own_places (olds 0 from)) + times k (own_places (overwritten from xs ++ olds (from + length xs) (size c - (from + length xs)))) =
         own-append k (olds 0 from) (overwritten from xs ++ olds (from + length xs) (size c - (from + length xs))) in
         let b : times k (own_places (overwritten from xs ++ olds (from + length xs) (size c - (from + length xs))))
-            ≡ times k (own_places (overwritten from xs)) + times k (own_places (olds (from + length xs) (size c - (from + length xs)))) =
+        ≡ times k (own_places (overwritten from xs)) + times k (own_places (olds (from + length xs) (size c - (from + length xs)))) =
         own-append k (overwritten from xs) (olds (from + length xs) (size c - (from + length xs))) in
         let d : times k (own_places (overwritten from xs)) ≡ times k (numbers from (length xs)) = ap (times k) (own-overwritten from xs) in
         let e : times k (own_places (olds 0 from)) ≡ times k (numbers 0 from) = own_olds k 0 from in

@@ -1,21 +1,19 @@
 -- Retained elements, new keys and exchanges between two containers are fair.
-use Rattle.std.proofs.Common.{◌≡◌, ℕ, zero, suc, ◌+◌, ◌-◌, ◌<◌, ◌≤◌, ◌==◌, ◌&&◌, Bool, true, false, not, List, [], ◌∷◌, ◌++◌, Some, length, map, take, drop}
-use Rattle.std.proofs.Common.{refl, ap, sym, ◌∙◌, arith, ◌⊎◌, inl, inr, ⊎_elim, ℤ, if◌then◌else◌, subst}
-use Rattle.std.specs.Prelude.{nat_lt}
-use Rattle.std.proofs.lemmas.Bool.{cases_lt, cases_eq, eqb-false, eqb-true, eq-eqb}
+use Rattle.std.proofs.Common.{◌≡◌, ℕ, zero, suc, ◌+◌, ◌-◌, ◌<◌, ◌≤◌, ◌==◌, ◌&&◌, Bool, true, false, not, List, [], ◌∷◌, ◌++◌, length, map, take, drop}
+use Rattle.std.proofs.Common.{refl, ap, sym, ◌∙◌, arith, inr, ℤ, if◌then◌else◌}
 use Rattle.std.proofs.lemmas.Bool.Decides.{nat_tests}
 use Rattle.sl_base.specs.declared.limits.TheConstants.{ELEMENTS}
 use Rattle.sl_specs.specs.declared.class.Class.{Class}
 use Rattle.sl_model.specs.Containers.{Cell, Cont, size, keys}
-use Rattle.sl_model.specs.Edits.{Source, old, written, theirs, new, Change, numbers, olds, theirs_from, nowhere}
+use Rattle.sl_model.specs.Edits.{Source, old, theirs, new, numbers, olds, theirs_from}
 use Rattle.sl_model.specs.Orders.{same, first_places_after, first_places, other_places, sorted_entries}
 use Rattle.sl_model.specs.Rearrangements.{retained, among, exchanged, received, given}
 use Rattle.sl_model.specs.ListActions.{entries, merged}
 use Rattle.sl_model.specs.Effects.{key_change, key_order, key_place, is_full}
 use Rattle.sl_model.specs.Forms.{is_hash}
 use Rattle.sl_model.specs.Schedule.{scattered, put_at, after_picks}
-use Rattle.sl_model.proofs.Places.{times, hit, hit-most, own_places, their_places, CountsFair, CountsFairSide}
-use Rattle.sl_model.proofs.Counts.{times-append, in_turn, InTurn, one_of, lower, higher, own-append, their-append, own-old, their-old, own-theirs}
+use Rattle.sl_model.proofs.Places.{times, own_places, their_places, CountsFair, CountsFairSide}
+use Rattle.sl_model.proofs.Counts.{in_turn, InTurn, one_of, lower, higher, own-append, their-append, own-old, their-old, own-theirs}
 use Rattle.sl_model.proofs.Counts.{their-theirs, length-map, length-numbers, times-scattered, length-scattered, length-put, times-outside, times-numbers}
 use Rattle.sl_model.proofs.Counts.{three_parts, sum_of, sum-sorted, sum-append, length-sorted}
 use Rattle.sl_model.proofs.FairChanges.{IsOrder, first_once, own_olds, their_olds, length_olds, length_append}
@@ -39,9 +37,11 @@ firsts_after-picked before i (x ∷ xs) = by_test (same before x) (firsts_after-
 pub first_places-picked : (xs : List ℤ) → ArePicked 0 (length xs) (first_places xs)
 first_places-picked [] = (omega arith, λ k. omega arith)
 first_places-picked (x ∷ xs) =
-    let r = firsts_after-picked x 1 xs in
-    (let l = r.0 in omega arith, λ k. let t : times k (first_places_after x 1 xs) ≤ times k (numbers 1 (length xs)) = r.1 k in
-    let e : times k (numbers (0 + 1) (length xs)) ≡ times k (numbers 1 (length xs)) = refl in omega arith)
+    let r = firsts_after-picked x 1 xs in (
+      let l = r.0 in omega arith,
+      λ k. let t : times k (first_places_after x 1 xs) ≤ times k (numbers 1 (length xs)) = r.1 k in
+          let e : times k (numbers (0 + 1) (length xs)) ≡ times k (numbers 1 (length xs)) = refl in omega arith,
+    )
 
 -- so are the places of other numbers
 pub other_places-picked : (x : ℤ) (i : ℕ) (xs : List ℤ) → ArePicked i (length xs) (other_places x i xs)
@@ -127,8 +127,10 @@ key_order-all c picks = by_hash (is_hash c.form) (is_full c 1)
     plain = (length-numbers 0 (size c), λ k. refl)
 
     picked : IsOrder (size c) (scattered (after_picks 1 picks) (numbers 0 (size c)))
-    picked = (length-scattered (after_picks 1 picks) (numbers 0 (size c)) ∙ length-numbers 0 (size c),
-        λ k. times-scattered k (after_picks 1 picks) (numbers 0 (size c)))
+    picked = (
+      length-scattered (after_picks 1 picks) (numbers 0 (size c)) ∙ length-numbers 0 (size c),
+      λ k. times-scattered k (after_picks 1 picks) (numbers 0 (size c)),
+    )
 
     by_hash : (h f : Bool) → IsOrder (size c)
         (if h then (if f then scattered (after_picks 1 picks) (numbers 0 (size c)) else numbers 0 (size c)) else numbers 0 (size c))
@@ -203,10 +205,10 @@ module _ (c d : Cont) (p from count : ℕ) (within : p ≤ size c) (fits : from 
   received_own : (k : ℕ) → times k (own_places (received p from count c).sources) ≡ times k (numbers 0 p) + times k (numbers p (size c - p))
   received_own k =
       let a : times k (own_places (olds 0 p ++ (theirs_from from count ++ olds p (size c - p))))
-          ≡ times k (own_places (olds 0 p)) + times k (own_places (theirs_from from count ++ olds p (size c - p))) =
+      ≡ times k (own_places (olds 0 p)) + times k (own_places (theirs_from from count ++ olds p (size c - p))) =
       own-append k (olds 0 p) (theirs_from from count ++ olds p (size c - p)) in
       let b : times k (own_places (theirs_from from count ++ olds p (size c - p)))
-          ≡ times k (own_places (theirs_from from count)) + times k (own_places (olds p (size c - p))) =
+      ≡ times k (own_places (theirs_from from count)) + times k (own_places (olds p (size c - p))) =
       own-append k (theirs_from from count) (olds p (size c - p)) in
       let e = own_theirs k from count in
       let f = own_olds k 0 p in
@@ -216,10 +218,10 @@ module _ (c d : Cont) (p from count : ℕ) (within : p ≤ size c) (fits : from 
   received_their : (k : ℕ) → times k (their_places (received p from count c).sources) ≡ times k (numbers from count)
   received_their k =
       let a : times k (their_places (olds 0 p ++ (theirs_from from count ++ olds p (size c - p))))
-          ≡ times k (their_places (olds 0 p)) + times k (their_places (theirs_from from count ++ olds p (size c - p))) =
+      ≡ times k (their_places (olds 0 p)) + times k (their_places (theirs_from from count ++ olds p (size c - p))) =
       their-append k (olds 0 p) (theirs_from from count ++ olds p (size c - p)) in
       let b : times k (their_places (theirs_from from count ++ olds p (size c - p)))
-          ≡ times k (their_places (theirs_from from count)) + times k (their_places (olds p (size c - p))) =
+      ≡ times k (their_places (theirs_from from count)) + times k (their_places (olds p (size c - p))) =
       their-append k (theirs_from from count) (olds p (size c - p)) in
       let e = their_theirs k from count in
       let f = their_olds k 0 p in
@@ -230,7 +232,7 @@ module _ (c d : Cont) (p from count : ℕ) (within : p ≤ size c) (fits : from 
       ≡ times k (numbers 0 from) + times k (numbers (from + count) (size d - (from + count)))
   given_own k =
       let a : times k (own_places (olds 0 from ++ olds (from + count) (size d - (from + count))))
-          ≡ times k (own_places (olds 0 from)) + times k (own_places (olds (from + count) (size d - (from + count)))) =
+      ≡ times k (own_places (olds 0 from)) + times k (own_places (olds (from + count) (size d - (from + count)))) =
       own-append k (olds 0 from) (olds (from + count) (size d - (from + count))) in
       let f = own_olds k 0 from in
       let g = own_olds k (from + count) (size d - (from + count)) in
@@ -239,7 +241,7 @@ module _ (c d : Cont) (p from count : ℕ) (within : p ≤ size c) (fits : from 
   given_their : (k : ℕ) → times k (their_places (given from count d).sources) ≡ 0
   given_their k =
       let a : times k (their_places (olds 0 from ++ olds (from + count) (size d - (from + count))))
-          ≡ times k (their_places (olds 0 from)) + times k (their_places (olds (from + count) (size d - (from + count)))) =
+      ≡ times k (their_places (olds 0 from)) + times k (their_places (olds (from + count) (size d - (from + count)))) =
       their-append k (olds 0 from) (olds (from + count) (size d - (from + count))) in
       let f = their_olds k 0 from in
       let g = their_olds k (from + count) (size d - (from + count)) in

@@ -6,7 +6,7 @@ use Rattle.std.specs.Prelude.{ℤ, pos, nat_lt, take, drop, replicate, reverse}
 use Rattle.std.specs.List.{slice_get}
 use Rattle.std.proofs.lemmas.Bool.{ltb-false}
 use Rattle.std.proofs.lemmas.List.{length-reverse, length-replicate}
-use Rattle.std.proofs.lemmas.Option.{slice_get-get_or, get_or_from_slice_get}
+use Rattle.std.proofs.lemmas.Option.{slice_get-get_or}
 use Rattle.sl_base.specs.declared.failures.TheConstants.{NO_ROOM, NOT_SORTED}
 use Rattle.sl_base.specs.declared.form.Form.TheVariants as f
 use Rattle.sl_base.specs.declared.limits.TheConstants.{ELEMENTS}
@@ -34,6 +34,7 @@ use Rattle.sl_model.specs.Actions.{changes, exception, never, too_many}
 use Rattle.sl_model.specs.WritingAlgorithms.{rewrites, output, outputs, output_stops}
 use Rattle.sl_model.specs.Rows.{of_first, algorithm_row, row_of_operator}
 use Rattle.sl_model.specs.Good.{IsSound}
+use Rattle.sl_model.proofs.After.{cont_of_there}
 use Rattle.sl_model.proofs.Called.{HasObject}
 use Rattle.sl_model.proofs.Placing.{HasPlace, how_many-low}
 use Rattle.sl_model.proofs.Counts.{length-map, length-sorted}
@@ -58,7 +59,7 @@ written_over s picks j from xs sound h =
     let there = has_container s.memory j (from + length xs) h in
     (there, overwrites-fair (cont_at s.memory j) from xs h.within (sound.small j (cont_at s.memory j) there))
 
--- and so are no more keys over a range than it has
+-- and so are keys over a range, where they are no more than it has
 over_range : (s : Situation) (picks : ℕ) (xs : List ℤ) → IsSound s.memory → HasObject of_first s → IsRange s
     → length xs ≤ range_size s 1 → IsFine classes.Nothing s (rewrites s picks xs)
 over_range s picks xs sound there r low = written_over s picks s.object (index s 1) xs sound (along_range s (length xs) there r low)
@@ -102,7 +103,7 @@ shortened-low kept n picks low =
     let d = picked-length (n - length kept) picks in
     omega arith
 
--- what sort, fill and reverse write
+-- what sort, fill and reverse write is no more than the range has
 sorted-fits : (s : Situation) → length (sorted (range_keys s 1)) ≤ range_size s 1
 sorted-fits s = let e = sorted-length (range_keys s 1) in let p = range_keys-low s in omega arith
 
@@ -112,10 +113,10 @@ filled-fits s z = let e = length-replicate (range_size s 1) z in omega arith
 reversed-fits : (s : Situation) → length (reverse (range_keys s 1)) ≤ range_size s 1
 reversed-fits s = let e = length-reverse (range_keys s 1) in let p = range_keys-low s in omega arith
 
--- a range that is shortened to what is kept of it
+-- a range that is written over by what is kept of it and by picked numbers
 shortened-fine : (s : Situation) (kept : List ℤ) → IsSound s.memory → HasObject of_first s → IsRange s → length kept ≤ length (range_keys s 1)
     → IsFine classes.Nothing s
-        (rewrites s (range_size s 1 - length kept) (kept ++ map (λ p. pos p) (picked (range_size s 1 - length kept) s.picks)))
+    (rewrites s (range_size s 1 - length kept) (kept ++ map (λ p. pos p) (picked (range_size s 1 - length kept) s.picks)))
 shortened-fine s kept sound there r low =
     over_range s (range_size s 1 - length kept) (kept ++ map (λ p. pos p) (picked (range_size s 1 - length kept) s.picks)) sound there r
     (shortened-low kept (range_size s 1) s.picks (let p = range_keys-low s in omega arith))
@@ -174,13 +175,13 @@ copy_row = algorithm c.Copy (a.IntRange ∷ a.Output ∷ []) g.Output (n.OneRang
 abbrev set_row : Call → TableRow
 set_row call = algorithm call (a.IntRange ∷ a.SecondIntRange ∷ a.Output ∷ []) g.Output (n.OneRange ∷ n.RangesSorted ∷ n.OutputFits ∷ [])
 
--- what copy writes
+-- what copy writes through an iterator
 copied-fine : (s : Situation) → IsSound s.memory → is_of s.memory a_writer (output s) ≡ true
-    → first_failure (all_failures copy_row (n.OneRange ∷ n.OutputFits ∷ []) s) ≡ None
+    → first_failure (all_failures copy_row copy_row.needs s) ≡ None
     → IsFine classes.Nothing s (outputs s (output s) (written_keys c.Copy s))
 copied-fine s sound w e =
     let fits = none_right (failures copy_row s n.OneRange) (failures copy_row s n.OutputFits ++ [])
-    (no_failure (all_failures copy_row (n.OneRange ∷ n.OutputFits ∷ []) s) e) in
+    (no_failure (all_failures copy_row copy_row.needs s) e) in
     writer-fine copy_row s (output s) (written_keys c.Copy s) sound w refl (none_left (failures copy_row s n.OutputFits) [] fits)
 
 -- a range of which no need fails is one
@@ -207,20 +208,17 @@ counted call s first second =
     by_tests (is_set_operation call) (is_ascending (range_keys s 1)) (is_ascending (range_keys s 3)) (length (written_keys call s)) first second
   where
     by_tests : (set x y : Bool) (n : ℕ) → x ≡ true → y ≡ true → (if set && not (x && y) then None else Some n) ≡ Some n
-    by_tests set true true n h k = by_set set
-      where
-        by_set : (b : Bool) → (if b && false then None else Some n) ≡ Some n
-        by_set true = refl
-        by_set false = refl
-    by_tests set true false n h k = absurd (cc)
-    by_tests set false y n h k = absurd (cc)
+    by_tests false x y n h k = refl
+    by_tests true true true n h k = refl
+    by_tests true true false n h k = absurd (cc)
+    by_tests true false y n h k = absurd (cc)
 
--- what a merge or set operation writes
+-- what a merge or set operation writes through an iterator
 set-fine : (call : Call) (s : Situation) → IsSound s.memory → is_of s.memory a_writer (output s) ≡ true
-    → first_failure (all_failures (set_row call) (n.OneRange ∷ n.RangesSorted ∷ n.OutputFits ∷ []) s) ≡ None
+    → first_failure (all_failures (set_row call) (set_row call).needs s) ≡ None
     → IsFine classes.Nothing s (outputs s (output s) (written_keys call s))
 set-fine call s sound w e =
-    let all = no_failure (all_failures (set_row call) (n.OneRange ∷ n.RangesSorted ∷ n.OutputFits ∷ []) s) e in
+    let all = no_failure (all_failures (set_row call) (set_row call).needs s) e in
     let ranges : one_range_fails false s 1 ++ (one_range_fails false s 3 ++ []) ≡ [] = none_left (failures (set_row call) s n.OneRange) _ all in
     let rest = none_right (failures (set_row call) s n.OneRange) _ all in
     let orders : order_fails_at s 1 ++ (order_fails_at s 3 ++ []) ≡ [] = none_left (failures (set_row call) s n.RangesSorted) _ rest in
@@ -238,8 +236,7 @@ sequence_there m j h = by_cont (slice_get m.conts j) refl h
   where
     by_cont : (o : Option Cont) → slice_get m.conts j ≡ o → is_sequence o ≡ true → o ≡ Some (cont_at m j)
     by_cont None e t = absurd (cc)
-    by_cont (Some x) e t = ap (λ (y : Cont). Some y) (sym
-        (get_or_from_slice_get m.conts j x (record { form = f.Vector; cells = []; end = m.fresh; room = 0 }) e))
+    by_cont (Some x) e t = ap (λ (y : Cont). Some y) (sym (cont_of_there m j x e))
 
 -- what doesn't stop a call isn't too many
 not_too_many : (n : ℕ) → too_many n ≡ never → n ≤ ELEMENTS
@@ -333,7 +330,8 @@ third_six appends = (
     (
       (λ s sound h none stops. shortened-fine s (firsts (range_keys s 1)) sound h.object (first_range s _ _ none) (firsts-low (range_keys s 1))),
       (
-        (λ s sound h none stops. shortened-fine s (others (int_of s 3) (range_keys s 1)) sound h.object (first_range s _ _ none) (others-low (int_of s 3) (range_keys s 1))),
+        (λ s sound h none stops. shortened-fine s (others (int_of s 3) (range_keys s 1)) sound h.object (first_range s _ _ none)
+            (others-low (int_of s 3) (range_keys s 1))),
         ((λ s sound h none stops. tt), ((λ s sound h none stops. tt), tt)),
       ),
     ),

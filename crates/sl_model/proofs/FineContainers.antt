@@ -1,51 +1,47 @@
 -- Each call on a container is fine: what it takes out and puts in lies in its object or in its operands, and not too much comes.
-use Rattle.std.proofs.Common.{◌≡◌, ◌≢◌, ℕ, zero, suc, ◌+◌, ◌-◌, ◌<◌, ◌≤◌, ◌==◌, ◌&&◌, ◌||◌, Bool, true, false, not, List, [], ◌∷◌, ◌++◌, Option, Some, None}
-use Rattle.std.proofs.Common.{length, map, replicate, reverse, refl, ap, sym, subst, ◌∙◌, arith, if◌then◌else◌, inl, inr, ⊎_elim, ◌⊎◌}
-use Rattle.std.specs.Prelude.{ℤ, pos, nat_lt, nat_le, int_lt, int_le, take, drop, min, slice_index_or, filter}
+use Rattle.std.proofs.Common.{◌≡◌, ◌≢◌, ℕ, zero, suc, ◌+◌, ◌-◌, ◌<◌, ◌≤◌, ◌==◌, ◌&&◌, Bool, true, false, not, List, [], ◌∷◌, ◌++◌, Option, Some, None}
+use Rattle.std.proofs.Common.{length, replicate, reverse, refl, ap, sym, subst, ◌∙◌, arith, if◌then◌else◌}
+use Rattle.std.specs.Prelude.{ℤ, pos, nat_lt, take, drop, min, slice_index_or, filter}
 use Rattle.std.specs.List.{slice_get}
-use Rattle.std.proofs.lemmas.Bool.{cases_lt, cases_eq, eqb-true, eqb-false, ltb-false, ltb-true}
-use Rattle.std.proofs.lemmas.Bool.Decides.{nat_tests}
-use Rattle.std.proofs.lemmas.List.Sums.{length-filter, count_by-le-length}
+use Rattle.std.proofs.lemmas.Bool.{eqb-true, eqb-false, ltb-false}
 use Rattle.sl_base.specs.declared.form.Form.{Form}
 use Rattle.sl_base.specs.declared.form.Form.TheVariants as f
 use Rattle.sl_base.specs.declared.limits.TheConstants.{ELEMENTS}
 use Rattle.sl_specs.specs.declared.class.Class.{Class}
-use Rattle.sl_specs.specs.Rows.{Line}
 use Rattle.sl_specs.specs.ContainerLines.{container_lines}
 use Rattle.sl_specs.specs.MultiLines.{multi_lines}
 use Rattle.sl_model.specs.Classes.{Edit, Fits}
 use Rattle.sl_model.specs.Containers.{Cell, Cont, Memory, size, cont_at, keys, items}
-use Rattle.sl_model.specs.Edits.{change_of, numbers}
+use Rattle.sl_model.specs.Edits.{numbers}
 use Rattle.sl_model.specs.Forms.{is_hash}
-use Rattle.sl_model.specs.Needs.{is_range, is_position_inside, fails_if, place_fails, element_fails, range_fails, order_fails, first_failure}
-use Rattle.sl_model.specs.Operands.{Sort, a_number, an_iterator, a_container, is_of_form, is_of, are_of}
-use Rattle.sl_model.specs.Orders.{same, has, first_of_key, index_of_key, how_many, sorted_places, first_places, other_places}
-use Rattle.sl_model.specs.Rearrangements.{arranged, retained, exchanged, received, given, moved_order}
-use Rattle.sl_model.specs.Schedule.{pick, scattered, after_picks}
+use Rattle.sl_model.specs.Needs.{is_range, is_position_inside, fails_if, place_fails, element_fails, range_fails, first_failure}
+use Rattle.sl_model.specs.Operands.{Sort, an_iterator, a_container, is_of_form, is_of, are_of}
+use Rattle.sl_model.specs.Orders.{same, first_of_key, how_many, sorted_places, first_places, other_places}
+use Rattle.sl_model.specs.Rearrangements.{arranged, exchanged, received, given, moved_order}
+use Rattle.sl_model.specs.Schedule.{pick, after_picks}
 use Rattle.sl_base.specs.declared.failures.TheConstants.{WRONG_CONTAINER, END_ITERATOR, EMPTY_CONTAINER, OVERLAP}
 use Rattle.sl_model.specs.Situation.{Situation, own, own_size, argument, place_of, index, index_in, container_of, container_of_value, their, their_size, int_of, count_of, item}
 use Rattle.sl_model.specs.Situation.{as_items, listed, range_keys, range_size}
 use Rattle.sl_model.specs.Values.{Value, nothing as no_result, number, iterator, pair, two, scalar_at, container_at, element_at}
-use Rattle.sl_model.specs.Actions.{Effect, keeps, edits, changes, trades, inserts, Stop, never, exception, exception_if, too_many}
+use Rattle.sl_model.specs.Actions.{keeps, edits, changes, trades, inserts, never, exception, too_many}
 use Rattle.sl_model.specs.AccessActions.{untouched, resized, rehashed, reserved, swap}
 use Rattle.sl_model.specs.Effects.{insertion, picks_with, room_with}
 use Rattle.sl_model.specs.KeyActions.{new_keys, place_or, key_index, key_count}
 use Rattle.sl_model.specs.ListActions.{merged, merge, splices, too_many_theirs}
 use Rattle.sl_model.specs.MakeActions.{filled, copied, refilled, copy_items, copy_picks, copy_room}
-use Rattle.sl_model.specs.Rows.{of_form, new_one}
 use Rattle.sl_model.specs.SequenceActions.{puts, drops}
 use Rattle.sl_model.specs.Good.{IsSound}
-use Rattle.sl_model.proofs.Called.{HasObject, IsCalled, own_there, own_form}
+use Rattle.sl_model.proofs.Called.{own_there}
 use Rattle.std.proofs.lemmas.List.{reverse-append, length-reverse}
 use Rattle.sl_model.proofs.Counts.{times-append}
-use Rattle.sl_model.proofs.Counts.{moved_length, times-sorted_places, length-sorted_places, times-moved, length-scattered, length-map, length-numbers, sum_of}
+use Rattle.sl_model.proofs.Counts.{moved_length, times-sorted_places, length-sorted_places, times-moved, length-scattered, length-map, length-numbers}
 use Rattle.sl_model.proofs.FairChanges.{BuriesGone, edit-fair, IsOrder, arranged-fair, rehashed-fair}
 use Rattle.sl_model.proofs.FairRearrangements.{first_places-picked, other_places-picked, ArePicked, retained-fair, exchanged-fair, received-fair, given-fair}
 use Rattle.sl_model.proofs.FairRearrangements.{merged-fair, gives-fair}
-use Rattle.sl_model.proofs.FineEffects.{IsThere, IsFine, IsFineTrade, keys_in}
+use Rattle.sl_model.proofs.FineEffects.{IsThere, IsFine, keys_in}
 use Rattle.sl_model.proofs.FineRows.{buries, class_buries, LineIsFine}
 use Rattle.sl_model.proofs.Places.{times}
-use Rattle.sl_model.proofs.Placing.{first_of_key-low, keys-length, how_many-low}
+use Rattle.sl_model.proofs.Placing.{keys-length, how_many-low}
 use Rattle.sl_model.proofs.Tells.{AllOf, all_parts}
 use Rattle.sl_model.proofs.AlgorithmsTell.{no_failure, none_left, none_right, place_there}
 use Rattle.sl_model.proofs.OutputsTell.{first_holds as both_left, second_holds as both_right}
@@ -374,9 +370,12 @@ splices-fine class s from count sound there other low fits go = by_same (contain
     by_same : (b : Bool) → (container_of s 2 == s.object) ≡ b → IsFine class s (if b
         then changes 0 s.object (arranged (moved_order (own_size s) (index s 1) from count) (own s))
         else trades (container_of s 2) (received (index s 1) from count (own s)) (given from count (their s 2)))
-    by_same true e = (there, arranged-fair (own s) (moved_order (own_size s) (index s 1) from count)
-        (moved_length (own_size s) (index s 1) from count (own_fits e), λ k. times-moved k (own_size s) (index s 1) from count (own_fits e))
-        (any_small s.memory s.object sound))
+    by_same true e = (
+      there,
+      arranged-fair (own s) (moved_order (own_size s) (index s 1) from count)
+          (moved_length (own_size s) (index s 1) from count (own_fits e), λ k. times-moved k (own_size s) (index s 1) from count (own_fits e))
+          (any_small s.memory s.object sound),
+    )
     by_same false e = record {
       own_there = there;
       other_there = other;
@@ -454,137 +453,277 @@ containers-fine = all_parts LineIsFine 7 container_lines makings (all_parts Line
     (all_parts LineIsFine 13 (drop 17 container_lines) changings (all_parts LineIsFine 10 (drop 30 container_lines) others lists)))
   where
     makings : AllOf LineIsFine (take 7 container_lines)
-    makings =
-        ((λ form class b s sound h none go. filled-fine class form s [] h.object (omega arith)),
-        ((λ form class b s sound h none go. filled-fine class form s (listed s.values) h.object
+    makings = (
+      (λ form class b s sound h none go. filled-fine class form s [] h.object (omega arith)),
+      (
+        (λ form class b s sound h none go. filled-fine class form s (listed s.values) h.object
             (let l = listed-length s.values in let m = not_too_many (length s.values) go in omega arith)),
-        ((λ form class b s sound h none go. copied-fine class form s (items (their s 1)) (copied_few s 1 sound)),
-        ((λ form class b s sound h none go. filled-fine class form s (replicate (count_of s 1) (item (pos 0))) h.object (repeated (count_of s 1) _ go)),
-        ((λ form class b s sound h none go. filled-fine class form s (replicate (count_of s 1) (item (int_of s 2))) h.object
-            (repeated (count_of s 1) _ go)),
-        ((λ form class b s sound h none go. filled-fine class form s (as_items (range_keys s 1)) h.object
-            (let l = as_items-length (range_keys s 1) in let m = not_too_many (length (range_keys s 1)) go in omega arith)),
-        ((λ form class b s sound h none go. refilled-fine class s (items (their s 1)) (b refl) (own_there form s h.object) (copied_few s 1 sound)),
-        tt)))))))
+        (
+          (λ form class b s sound h none go. copied-fine class form s (items (their s 1)) (copied_few s 1 sound)),
+          (
+            (λ form class b s sound h none go. filled-fine class form s (replicate (count_of s 1) (item (pos 0))) h.object (repeated (count_of s 1) _ go)),
+            (
+              (λ form class b s sound h none go. filled-fine class form s (replicate (count_of s 1) (item (int_of s 2))) h.object
+                  (repeated (count_of s 1) _ go)),
+              (
+                (λ form class b s sound h none go. filled-fine class form s (as_items (range_keys s 1)) h.object
+                    (let l = as_items-length (range_keys s 1) in let m = not_too_many (length (range_keys s 1)) go in omega arith)),
+                (
+                  (λ form class b s sound h none go. refilled-fine class s (items (their s 1)) (b refl) (own_there form s h.object) (copied_few s 1 sound)),
+                  tt,
+                ),
+              ),
+            ),
+          ),
+        ),
+      ),
+    )
 
     accesses : AllOf LineIsFine (take 10 (drop 7 container_lines))
-    accesses =
-        ((λ form class b s sound h none go. tt),
-        ((λ form class b s sound h none go. tt),
-        ((λ form class b s sound h none go. tt),
-        ((λ form class b s sound h none go. tt),
-        ((λ form class b s sound h none go. tt),
-        ((λ form class b s sound h none go. tt),
-        ((λ form class b s sound h none go. tt),
-        ((λ form class b s sound h none go. tt),
-        ((λ form class b s sound h none go. tt),
-        ((λ form class b s sound h none go. (own_there form s h.object, not_too_many _ go)),
-        tt))))))))))
+    accesses = (
+      (λ form class b s sound h none go. tt),
+      (
+        (λ form class b s sound h none go. tt),
+        (
+          (λ form class b s sound h none go. tt),
+          (
+            (λ form class b s sound h none go. tt),
+            (
+              (λ form class b s sound h none go. tt),
+              (
+                (λ form class b s sound h none go. tt),
+                (
+                  (λ form class b s sound h none go. tt),
+                  (
+                    (λ form class b s sound h none go. tt),
+                    (
+                      (λ form class b s sound h none go. tt),
+                      (
+                        (λ form class b s sound h none go. (own_there form s h.object, not_too_many _ go)),
+                        tt,
+                      ),
+                    ),
+                  ),
+                ),
+              ),
+            ),
+          ),
+        ),
+      ),
+    )
 
     changings : AllOf LineIsFine (take 13 (drop 17 container_lines))
-    changings =
-        ((λ form class b s sound h none go. puts-fine class s (own_size s) _ (own_there form s h.object) (omega arith) (not_too_many _ go)),
-        ((λ form class b s sound h none go. puts-fine class s 0 _ (own_there form s h.object) (omega arith) (not_too_many _ go)),
-        ((λ form class b s sound h none go. drops-fine class s (own_size s - 1) 1 sound (b refl) (own_there form s h.object)
-            (let p = filled_one s (first_need _ _ none) in omega arith)),
-        ((λ form class b s sound h none go. drops-fine class s 0 1 sound (b refl) (own_there form s h.object)
-            (let p = filled_one s (first_need _ _ none) in omega arith)),
-        ((λ form class b s sound h none go. puts-fine class s (index s 1) _ (own_there form s h.object)
-            (in_container s 1 1 s.object (first_need _ _ none)) (not_too_many _ go)),
-        ((λ form class b s sound h none go. puts-fine class s (index s 1) _ (own_there form s h.object)
-            (in_container s 1 1 s.object (first_need _ _ none)) (not_too_many _ go)),
-        ((λ form class b s sound h none go. puts-fine class s (index s 1) _ (own_there form s h.object)
-            (in_container s 1 1 s.object (first_need _ _ none)) (not_too_many _ go)),
-        ((λ form class b s sound h none go. (own_there form s h.object, not_too_many _ go)),
-        ((λ form class b s sound h none go. insert_keys-fine class s (range_keys s 1) (own_there form s h.object) (not_too_many _ go)),
-        ((λ form class b s sound h none go. (own_there form s h.object, not_too_many _ go)),
-        ((λ form class b s sound h none go. drops-fine class s (index s 1) 1 sound (b refl) (own_there form s h.object)
-            (let p = on_element s 1 1 s.object (first_need _ _ none) in omega arith)),
-        ((λ form class b s sound h none go. drops-fine class s (index s 1) (range_size s 1) sound (b refl) (own_there form s h.object)
-            (between s 1 1 s.object (first_need _ _ none))),
-        ((λ form class b s sound h none go. drops-fine class s _ _ sound (b refl) (own_there form s h.object) (key_fits s (int_of s 1))),
-        tt)))))))))))))
+    changings = (
+      (λ form class b s sound h none go. puts-fine class s (own_size s) _ (own_there form s h.object) (omega arith) (not_too_many _ go)),
+      (
+        (λ form class b s sound h none go. puts-fine class s 0 _ (own_there form s h.object) (omega arith) (not_too_many _ go)),
+        (
+          (λ form class b s sound h none go. drops-fine class s (own_size s - 1) 1 sound (b refl) (own_there form s h.object)
+              (let p = filled_one s (first_need _ _ none) in omega arith)),
+          (
+            (λ form class b s sound h none go. drops-fine class s 0 1 sound (b refl) (own_there form s h.object)
+                (let p = filled_one s (first_need _ _ none) in omega arith)),
+            (
+              (λ form class b s sound h none go. puts-fine class s (index s 1) _ (own_there form s h.object)
+                  (in_container s 1 1 s.object (first_need _ _ none)) (not_too_many _ go)),
+              (
+                (λ form class b s sound h none go. puts-fine class s (index s 1) _ (own_there form s h.object)
+                    (in_container s 1 1 s.object (first_need _ _ none)) (not_too_many _ go)),
+                (
+                  (λ form class b s sound h none go. puts-fine class s (index s 1) _ (own_there form s h.object)
+                      (in_container s 1 1 s.object (first_need _ _ none)) (not_too_many _ go)),
+                  (
+                    (λ form class b s sound h none go. (own_there form s h.object, not_too_many _ go)),
+                    (
+                      (λ form class b s sound h none go. insert_keys-fine class s (range_keys s 1) (own_there form s h.object) (not_too_many _ go)),
+                      (
+                        (λ form class b s sound h none go. (own_there form s h.object, not_too_many _ go)),
+                        (
+                          (λ form class b s sound h none go. drops-fine class s (index s 1) 1 sound (b refl) (own_there form s h.object)
+                              (let p = on_element s 1 1 s.object (first_need _ _ none) in omega arith)),
+                          (
+                            (λ form class b s sound h none go. drops-fine class s (index s 1) (range_size s 1) sound (b refl) (own_there form s h.object)
+                                (between s 1 1 s.object (first_need _ _ none))),
+                            (
+                              (λ form class b s sound h none go. drops-fine class s _ _ sound (b refl) (own_there form s h.object) (key_fits s (int_of s 1))),
+                              tt,
+                            ),
+                          ),
+                        ),
+                      ),
+                    ),
+                  ),
+                ),
+              ),
+            ),
+          ),
+        ),
+      ),
+    )
 
     others : AllOf LineIsFine (take 10 (drop 30 container_lines))
-    others =
-        ((λ form class b s sound h none go. drops-fine class s 0 (own_size s) sound (b refl) (own_there form s h.object) (omega arith)),
-        ((λ form class b s sound h none go. resized-fine class s (count_of s 1) (pos 0) sound (b refl) (own_there form s h.object) (not_too_many _ go)),
-        ((λ form class b s sound h none go. resized-fine class s (count_of s 1) (int_of s 2) sound (b refl) (own_there form s h.object)
-            (not_too_many _ go)),
-        ((λ form class b s sound h none go. refilled-fine class s (replicate (count_of s 1) (item (int_of s 2))) (b refl) (own_there form s h.object)
-            (repeated (count_of s 1) _ go)),
-        ((λ form class b s sound h none go. reserved-fine class s (count_of s 1) sound (own_there form s h.object)),
-        ((λ form class b s sound h none go. swap-fine class s sound (own_there form s h.object) (first_container s.memory form [] s.values h.operands)),
-        ((λ form class b s sound h none go. tt),
-        ((λ form class b s sound h none go. tt),
-        ((λ form class b s sound h none go. tt),
-        ((λ form class b s sound h none go. tt),
-        tt))))))))))
+    others = (
+      (λ form class b s sound h none go. drops-fine class s 0 (own_size s) sound (b refl) (own_there form s h.object) (omega arith)),
+      (
+        (λ form class b s sound h none go. resized-fine class s (count_of s 1) (pos 0) sound (b refl) (own_there form s h.object) (not_too_many _ go)),
+        (
+          (λ form class b s sound h none go. resized-fine class s (count_of s 1) (int_of s 2) sound (b refl) (own_there form s h.object)
+              (not_too_many _ go)),
+          (
+            (λ form class b s sound h none go. refilled-fine class s (replicate (count_of s 1) (item (int_of s 2))) (b refl) (own_there form s h.object)
+                (repeated (count_of s 1) _ go)),
+            (
+              (λ form class b s sound h none go. reserved-fine class s (count_of s 1) sound (own_there form s h.object)),
+              (
+                (λ form class b s sound h none go. swap-fine class s sound (own_there form s h.object) (first_container s.memory form [] s.values h.operands)),
+                (
+                  (λ form class b s sound h none go. tt),
+                  (
+                    (λ form class b s sound h none go. tt),
+                    (
+                      (λ form class b s sound h none go. tt),
+                      (
+                        (λ form class b s sound h none go. tt),
+                        tt,
+                      ),
+                    ),
+                  ),
+                ),
+              ),
+            ),
+          ),
+        ),
+      ),
+    )
 
     lists : AllOf LineIsFine (drop 40 container_lines)
-    lists =
-        ((λ form class b s sound h none go. (own_there form s h.object,
-            arranged-fair (own s) (sorted_places (keys (own s))) (sorted_all (own s)) (any_small s.memory s.object sound))),
-        ((λ form class b s sound h none go. (own_there form s h.object,
-            arranged-fair (own s) (reverse (numbers 0 (own_size s))) (reversed_all (own_size s)) (any_small s.memory s.object sound))),
-        ((λ form class b s sound h none go. (own_there form s h.object,
+    lists = (
+      (λ form class b s sound h none go. (
+        own_there form s h.object,
+        arranged-fair (own s) (sorted_places (keys (own s))) (sorted_all (own s)) (any_small s.memory s.object sound),
+      )),
+      (
+        (λ form class b s sound h none go. (
+          own_there form s h.object,
+          arranged-fair (own s) (reverse (numbers 0 (own_size s))) (reversed_all (own_size s)) (any_small s.memory s.object sound),
+        )),
+        (
+          (λ form class b s sound h none go. (
+            own_there form s h.object,
             retained-fair (own s) (first_places (keys (own s))) (picked_of (own s) _ (first_places-picked (keys (own s))))
-            (any_small s.memory s.object sound))),
-        ((λ form class b s sound h none go. (own_there form s h.object,
-            retained-fair (own s) (other_places (int_of s 1) 0 (keys (own s))) (picked_of (own s) _ (other_places-picked (int_of s 1) 0 (keys (own s))))
-            (any_small s.memory s.object sound))),
-        ((λ form class b s sound h none go. merge-fine class s sound (own_there form s h.object) (first_container s.memory form [] s.values h.operands) go),
-        ((λ form class b s sound h none go. splices-fine class s 0 (their_size s 2) sound (own_there form s h.object)
-            (second_container s.memory form [] s.values h.operands) (in_container s 1 1 s.object (first_need _ _ none)) (omega arith) go),
-        ((λ form class b s sound h none go. splices-fine class s (index s 3) 1 sound (own_there form s h.object)
-            (second_container s.memory form (an_iterator ∷ []) s.values h.operands) (in_container s 1 1 s.object (first_need _ _ none))
-            (let p : index s 3 < their_size s 2 = on_element s 3 3 (container_of s 2) (second_need (place_fails s.object (place_of s 1) 1)
-            (element_fails (container_of s 2) (their_size s 2) (place_of s 3) 3) [] none) in omega arith) go),
-        ((λ form class b s sound h none go. splices-fine class s (index s 3) (range_size s 3) sound (own_there form s h.object)
-            (second_container s.memory form (an_iterator ∷ an_iterator ∷ []) s.values h.operands) (in_container s 1 1 s.object (first_need _ _ none))
-            (between s 3 3 (container_of s 2) (none_left (range_fails (container_of s 2) (place_of s 3) (place_of s 4) 3) (inner_position s)
-            (second_need (place_fails s.object (place_of s 1) 1)
-            (range_fails (container_of s 2) (place_of s 3) (place_of s 4) 3 ++ inner_position s) [] none))) go),
-        tt))))))))
+                (any_small s.memory s.object sound),
+          )),
+          (
+            (λ form class b s sound h none go. (
+              own_there form s h.object,
+              retained-fair (own s) (other_places (int_of s 1) 0 (keys (own s))) (picked_of (own s) _ (other_places-picked (int_of s 1) 0 (keys (own s))))
+                  (any_small s.memory s.object sound),
+            )),
+            (
+              (λ form class b s sound h none go. merge-fine class s sound (own_there form s h.object) (first_container s.memory form [] s.values h.operands) go),
+              (
+                (λ form class b s sound h none go. splices-fine class s 0 (their_size s 2) sound (own_there form s h.object)
+                    (second_container s.memory form [] s.values h.operands) (in_container s 1 1 s.object (first_need _ _ none)) (omega arith) go),
+                (
+                  (λ form class b s sound h none go. splices-fine class s (index s 3) 1 sound (own_there form s h.object)
+                      (second_container s.memory form (an_iterator ∷ []) s.values h.operands) (in_container s 1 1 s.object (first_need _ _ none))
+                      (let p : index s 3 < their_size s 2 = on_element s 3 3 (container_of s 2) (second_need (place_fails s.object (place_of s 1) 1)
+                      (element_fails (container_of s 2) (their_size s 2) (place_of s 3) 3) [] none) in omega arith) go),
+                  (
+                    (λ form class b s sound h none go. splices-fine class s (index s 3) (range_size s 3) sound (own_there form s h.object)
+                        (second_container s.memory form (an_iterator ∷ an_iterator ∷ []) s.values h.operands) (in_container s 1 1 s.object (first_need _ _ none))
+                        (between s 3 3 (container_of s 2) (none_left (range_fails (container_of s 2) (place_of s 3) (place_of s 4) 3) (inner_position s)
+                        (second_need (place_fails s.object (place_of s 1) 1)
+                        (range_fails (container_of s 2) (place_of s 3) (place_of s 4) 3 ++ inner_position s) [] none))) go),
+                    tt,
+                  ),
+                ),
+              ),
+            ),
+          ),
+        ),
+      ),
+    )
 
 -- each call on a multiset or multimap
 pub multis-fine : AllOf LineIsFine multi_lines
 multis-fine = all_parts LineIsFine 9 multi_lines first (all_parts LineIsFine 8 (drop 9 multi_lines) changings searches)
   where
     first : AllOf LineIsFine (take 9 multi_lines)
-    first =
-        ((λ form class b s sound h none go. filled-fine class form s [] h.object (omega arith)),
-        ((λ form class b s sound h none go. copied-fine class form s (items (their s 1)) (copied_few s 1 sound)),
-        ((λ form class b s sound h none go. filled-fine class form s (listed s.values) h.object
-            (let l = listed-length s.values in let m = not_too_many (length s.values) go in omega arith)),
-        ((λ form class b s sound h none go. filled-fine class form s (as_items (range_keys s 1)) h.object
-            (let l = as_items-length (range_keys s 1) in let m = not_too_many (length (range_keys s 1)) go in omega arith)),
-        ((λ form class b s sound h none go. refilled-fine class s (items (their s 1)) (b refl) (own_there form s h.object) (copied_few s 1 sound)),
-        ((λ form class b s sound h none go. tt),
-        ((λ form class b s sound h none go. tt),
-        ((λ form class b s sound h none go. tt),
-        ((λ form class b s sound h none go. tt),
-        tt)))))))))
+    first = (
+      (λ form class b s sound h none go. filled-fine class form s [] h.object (omega arith)),
+      (
+        (λ form class b s sound h none go. copied-fine class form s (items (their s 1)) (copied_few s 1 sound)),
+        (
+          (λ form class b s sound h none go. filled-fine class form s (listed s.values) h.object
+              (let l = listed-length s.values in let m = not_too_many (length s.values) go in omega arith)),
+          (
+            (λ form class b s sound h none go. filled-fine class form s (as_items (range_keys s 1)) h.object
+                (let l = as_items-length (range_keys s 1) in let m = not_too_many (length (range_keys s 1)) go in omega arith)),
+            (
+              (λ form class b s sound h none go. refilled-fine class s (items (their s 1)) (b refl) (own_there form s h.object) (copied_few s 1 sound)),
+              (
+                (λ form class b s sound h none go. tt),
+                (
+                  (λ form class b s sound h none go. tt),
+                  (
+                    (λ form class b s sound h none go. tt),
+                    (
+                      (λ form class b s sound h none go. tt),
+                      tt,
+                    ),
+                  ),
+                ),
+              ),
+            ),
+          ),
+        ),
+      ),
+    )
 
     changings : AllOf LineIsFine (take 8 (drop 9 multi_lines))
-    changings =
-        ((λ form class b s sound h none go. (own_there form s h.object, not_too_many _ go)),
-        ((λ form class b s sound h none go. insert_keys-fine class s (range_keys s 1) (own_there form s h.object) (not_too_many _ go)),
-        ((λ form class b s sound h none go. (own_there form s h.object, not_too_many _ go)),
-        ((λ form class b s sound h none go. drops-fine class s (index s 1) 1 sound (b refl) (own_there form s h.object)
-            (let p = on_element s 1 1 s.object (first_need _ _ none) in omega arith)),
-        ((λ form class b s sound h none go. drops-fine class s (index s 1) (range_size s 1) sound (b refl) (own_there form s h.object)
-            (between s 1 1 s.object (first_need _ _ none))),
-        ((λ form class b s sound h none go. drops-fine class s _ _ sound (b refl) (own_there form s h.object) (key_fits s (int_of s 1))),
-        ((λ form class b s sound h none go. drops-fine class s 0 (own_size s) sound (b refl) (own_there form s h.object) (omega arith)),
-        ((λ form class b s sound h none go. swap-fine class s sound (own_there form s h.object) (first_container s.memory form [] s.values h.operands)),
-        tt))))))))
+    changings = (
+      (λ form class b s sound h none go. (own_there form s h.object, not_too_many _ go)),
+      (
+        (λ form class b s sound h none go. insert_keys-fine class s (range_keys s 1) (own_there form s h.object) (not_too_many _ go)),
+        (
+          (λ form class b s sound h none go. (own_there form s h.object, not_too_many _ go)),
+          (
+            (λ form class b s sound h none go. drops-fine class s (index s 1) 1 sound (b refl) (own_there form s h.object)
+                (let p = on_element s 1 1 s.object (first_need _ _ none) in omega arith)),
+            (
+              (λ form class b s sound h none go. drops-fine class s (index s 1) (range_size s 1) sound (b refl) (own_there form s h.object)
+                  (between s 1 1 s.object (first_need _ _ none))),
+              (
+                (λ form class b s sound h none go. drops-fine class s _ _ sound (b refl) (own_there form s h.object) (key_fits s (int_of s 1))),
+                (
+                  (λ form class b s sound h none go. drops-fine class s 0 (own_size s) sound (b refl) (own_there form s h.object) (omega arith)),
+                  (
+                    (λ form class b s sound h none go. swap-fine class s sound (own_there form s h.object) (first_container s.memory form [] s.values h.operands)),
+                    tt,
+                  ),
+                ),
+              ),
+            ),
+          ),
+        ),
+      ),
+    )
 
     searches : AllOf LineIsFine (drop 17 multi_lines)
-    searches =
-        ((λ form class b s sound h none go. tt),
-        ((λ form class b s sound h none go. tt),
-        ((λ form class b s sound h none go. tt),
-        ((λ form class b s sound h none go. tt),
-        ((λ form class b s sound h none go. tt),
-        tt)))))
+    searches = (
+      (λ form class b s sound h none go. tt),
+      (
+        (λ form class b s sound h none go. tt),
+        (
+          (λ form class b s sound h none go. tt),
+          (
+            (λ form class b s sound h none go. tt),
+            (
+              (λ form class b s sound h none go. tt),
+              tt,
+            ),
+          ),
+        ),
+      ),
+    )

@@ -1,14 +1,13 @@
 -- What an effect of a call has to be, so that it leaves a sound memory sound and no mark vanishes.
-use Rattle.std.proofs.Common.{◌≡◌, ◌≢◌, ℕ, zero, suc, ◌+◌, ◌-◌, ◌<◌, ◌≤◌, ◌==◌, Bool, true, false, List, [], ◌∷◌, ◌++◌, Option, Some, None, length, map, refl}
-use Rattle.std.proofs.Common.{ap, sym, ◌∙◌, arith, ◌⊎◌, inl, inr, ⊎_elim, ℤ, if◌then◌else◌, subst}
+use Rattle.std.proofs.Common.{◌≡◌, ◌≢◌, ℕ, suc, ◌+◌, ◌-◌, ◌<◌, ◌≤◌, Bool, true, false, List, [], ◌∷◌, Option, Some, None, length, map, refl}
+use Rattle.std.proofs.Common.{ap, sym, ◌∙◌, arith, ◌⊎◌, inl, inr, ℤ, if◌then◌else◌}
 use Rattle.std.specs.List.{slice_get}
 use Rattle.sl_base.specs.declared.form.Form.{Form}
-use Rattle.sl_base.specs.declared.form.Form.TheVariants as f
 use Rattle.sl_base.specs.declared.limits.TheConstants.{ELEMENTS}
 use Rattle.sl_specs.specs.declared.class.Class.{Class}
-use Rattle.sl_model.specs.Classes.{Edit, Fits}
+use Rattle.sl_model.specs.Classes.{Edit}
 use Rattle.sl_model.specs.Containers.{Cont, Grave, Memory, cont_at, size, stamps, refers, keys, made, IsGrave}
-use Rattle.sl_model.specs.Edits.{Change, change_of, changed, buried, after, after_two}
+use Rattle.sl_model.specs.Edits.{Change, change_of, changed, buried, after}
 use Rattle.sl_model.specs.Schedule.{after_picks}
 use Rattle.sl_model.specs.Situation.{Situation, own, item}
 use Rattle.sl_model.specs.Actions.{Effect, keeps, edits, changes, trades, inserts, appends, makes, makes_by_keys}
@@ -19,7 +18,7 @@ use Rattle.sl_model.specs.Orders.{has}
 use Rattle.sl_model.specs.Forms.{holds_equal_keys}
 use Rattle.sl_model.specs.KeyActions.{count_new, new_keys}
 use Rattle.sl_model.proofs.Counts.{length-map}
-use Rattle.sl_model.specs.Good.{Stands, IsSound, NoneVanishFrom, NoneVanishes}
+use Rattle.sl_model.specs.Good.{Stands, IsSound}
 use Rattle.sl_model.proofs.After.{Leaves, get-after-own, cont_at-after-own, cont_of_there, size-changed, change-leaves}
 use Rattle.sl_model.proofs.AfterTwo.{trade-leaves}
 use Rattle.sl_model.proofs.Making.{made-leaves, made-there, fresh-size}

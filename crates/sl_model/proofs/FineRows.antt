@@ -1,18 +1,15 @@
 -- What each row has to be: where it is called, its needs hold and nothing stops it, its effect is fine.
-use Rattle.std.proofs.Common.{◌≡◌, ℕ, ◌+◌, ◌<◌, ◌≤◌, ◌==◌, ◌&&◌, ◌||◌, Bool, true, false, not, List, [], ◌∷◌, ◌++◌, Option, Some, None, option_map}
-use Rattle.std.proofs.Common.{refl, ap, sym, ◌∙◌, arith, if◌then◌else◌}
-use Rattle.std.specs.Prelude.{find}
+use Rattle.std.proofs.Common.{◌≡◌, Bool, true, false, Some, None}
+use Rattle.std.proofs.Common.{refl, arith}
 use Rattle.std.proofs.lemmas.Bool.Decides.{nat_tests}
 use Rattle.sl_base.specs.declared.form.Form.{Form}
-use Rattle.sl_base.specs.declared.limits.TheConstants.{ELEMENTS}
 use Rattle.sl_specs.specs.declared.call.Call.{Call}
 use Rattle.sl_specs.specs.declared.call.Call.TheVariants as c
 use Rattle.sl_specs.specs.declared.class.Class.{Class}
 use Rattle.sl_specs.specs.declared.class.Class.TheVariants as classes
-use Rattle.sl_specs.specs.Forms.{same_form}
-use Rattle.sl_specs.specs.Rows.{Row as TableRow, Line, row_of as row_of_line, class_on, rows_on}
-use Rattle.sl_model.specs.Classes.{Edit, Fits, kills, loses}
-use Rattle.sl_model.specs.Containers.{Cont, Memory, size, cont_at}
+use Rattle.sl_specs.specs.Rows.{Line, row_of as row_of_line}
+use Rattle.sl_model.specs.Classes.{Edit}
+use Rattle.sl_model.specs.Containers.{Cont}
 use Rattle.sl_model.specs.Situation.{Situation}
 use Rattle.sl_model.specs.Needs.{first_failure}
 use Rattle.sl_model.specs.Actions.{never}

@@ -1,20 +1,19 @@
 -- Which keys a container has after a key came in, and how many come of several.
-use Rattle.std.proofs.Common.{◌≡◌, ℕ, zero, suc, ◌+◌, ◌<◌, ◌≤◌, ◌||◌, ◌&&◌, Bool, true, false, List, [], ◌∷◌, ◌++◌, Option, Some, None, length, map, take, drop}
-use Rattle.std.proofs.Common.{refl, ap, sym, ◌∙◌, arith, ◌⊎◌, inl, inr, ⊎_elim, ℤ, pos, if◌then◌else◌}
-use Rattle.std.specs.Prelude.{nat_lt, int_le, slice_get}
+use Rattle.std.proofs.Common.{◌≡◌, ℕ, zero, suc, ◌+◌, ◌||◌, Bool, true, false, List, [], ◌∷◌, Option, Some, None, length, map}
+use Rattle.std.proofs.Common.{refl, ap, sym, ◌∙◌, arith, ℤ, pos, if◌then◌else◌}
+use Rattle.std.specs.Prelude.{nat_lt, slice_get}
 use Rattle.sl_base.specs.declared.scalar.Scalar.TheVariants as t
 use Rattle.sl_specs.specs.declared.class.Class.{Class}
 use Rattle.sl_model.specs.Numbers.{converted}
 use Rattle.sl_model.specs.Containers.{Cell, Cont, size, keys}
-use Rattle.sl_model.specs.Edits.{Source, old, written, theirs, new, Change, numbers, from_source, from_sources, rebuilt, changed, mark_after}
+use Rattle.sl_model.specs.Edits.{Source, old, written, theirs, new, Change, numbers, from_source, from_sources, changed, mark_after}
 use Rattle.sl_model.specs.Effects.{key_change, key_order, key_place, known_key, is_full}
 use Rattle.sl_model.specs.Forms.{is_hash, holds_equal_keys}
 use Rattle.sl_model.specs.KeyActions.{count_new, new_keys}
 use Rattle.sl_model.specs.Orders.{same, has, first_of_key, index_of_key}
-use Rattle.sl_model.specs.Schedule.{put_at, put_all, scattered, hash_place, pick, after_picks}
+use Rattle.sl_model.specs.Schedule.{put_at, scattered, after_picks}
 use Rattle.std.proofs.lemmas.Bool.{lt-ltb}
-use Rattle.sl_model.proofs.Counts.{sum_of, length-map, sum-map, sum-put_at, sum-scattered}
-use Rattle.sl_model.proofs.FairRearrangements.{key_order-all}
+use Rattle.sl_model.proofs.Counts.{sum_of, sum-map, sum-put_at, sum-scattered}
 
 -- the key at a place, and 0 where there is none
 abbrev pub key_at : Cont → ℕ → ℤ
@@ -36,10 +35,13 @@ keys_from ch base own other next (x ∷ xs) = by_source x (keys_from ch base own
     missing : Cell
     missing = record { stamp = next; refer = next; key = pos 0; value = pos 0 }
 
-    of_cell : (k : ℕ) (o : Option Cell) → (elim o as (λ _. Cell) [ None ↦ missing | Some y ↦ record y {
-      stamp = mark_after ch.kill base k y.stamp;
-      refer = mark_after ch.lose base k y.refer;
-    } ]).key ≡ elim o as (λ _. ℤ) [ None ↦ pos 0 | Some y ↦ y.key ]
+    of_cell : (k : ℕ) (o : Option Cell) → (elim o as (λ _. Cell) [
+      | None ↦ missing
+      | Some y ↦ record y {
+        stamp = mark_after ch.kill base k y.stamp;
+        refer = mark_after ch.lose base k y.refer;
+      }
+    ]).key ≡ elim o as (λ _. ℤ) [ None ↦ pos 0 | Some y ↦ y.key ]
     of_cell k None = refl
     of_cell k (Some y) = refl
 
@@ -96,7 +98,7 @@ sum_places g (x ∷ cells) =
     let f : ℕ → ℕ = λ k. g (elim (slice_get (x ∷ cells) k) as (λ _. ℤ) [ None ↦ pos 0 | Some y ↦ y.key ]) in
     let a : sum_of f (numbers (0 + 1) (length cells)) ≡ sum_of (λ k. f (k + 1)) (numbers 0 (length cells)) = sum_shift f 0 (length cells) in
     let b : sum_of (λ k. f (k + 1)) (numbers 0 (length cells))
-        ≡ sum_of (λ k. g (elim (slice_get cells k) as (λ _. ℤ) [ None ↦ pos 0 | Some y ↦ y.key ])) (numbers 0 (length cells)) =
+    ≡ sum_of (λ k. g (elim (slice_get cells k) as (λ _. ℤ) [ None ↦ pos 0 | Some y ↦ y.key ])) (numbers 0 (length cells)) =
     sum_same (λ k. f (k + 1)) (λ k. g (elim (slice_get cells k) as (λ _. ℤ) [ None ↦ pos 0 | Some y ↦ y.key ])) (numbers 0 (length cells))
     (λ k. ap (λ n. g (elim (slice_get (x ∷ cells) n) as (λ _. ℤ) [ None ↦ pos 0 | Some y ↦ y.key ])) (one_more k)) in
     ap (λ n. g x.key + n) (a ∙ (b ∙ sum_places g cells))

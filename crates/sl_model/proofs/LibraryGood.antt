@@ -1,16 +1,13 @@
 -- The library keeps what holds of all states of a run: each row gives its shape and stamps that were used, and it makes a container
 -- or leaves as many.
-use Rattle.std.proofs.Common.{◌≡◌, ℕ, Bool, true, false, List, [], ◌∷◌, ◌++◌, Option, Some, None, length, refl, ap, ◌∙◌, subst}
-use Rattle.std.specs.Prelude.{option_map, slice_get, codes}
+use Rattle.std.proofs.Common.{◌≡◌, ℕ, Bool, true, false, List, Option, Some, None, length, refl, ap, ◌∙◌, subst}
 use Rattle.sl_base.specs.declared.form.Form.{Form}
-use Rattle.sl_base.specs.declared.form.Form.TheVariants as f
 use Rattle.sl_specs.specs.Rows.{Row as TableRow, Line, rows_on}
 use Rattle.sl_specs.specs.ContainerLines.{container_lines}
 use Rattle.sl_specs.specs.MultiLines.{multi_lines}
 use Rattle.sl_specs.specs.AlgorithmRows.{algorithm_rows}
 use Rattle.sl_specs.specs.Table.{table}
 use Rattle.sl_syntax.specs.declared.typed.callee.Callee.{Callee}
-use Rattle.sl_syntax.specs.declared.typed.callee.Callee.TheVariants as callees
 use Rattle.sl_model.specs.Containers.{Memory}
 use Rattle.sl_model.specs.Forms.{holds_equal_keys}
 use Rattle.sl_model.specs.Values.{Args, LibOut, trapped}
@@ -18,8 +15,7 @@ use Rattle.sl_model.specs.Situation.{Situation}
 use Rattle.sl_model.specs.Needs.{first_failure}
 use Rattle.sl_model.specs.Actions.{Answer, nothing, gives_number, gives_place, gives_place_and, gives_places, gives_element, Stop, never, exception}
 use Rattle.sl_model.specs.Actions.{overflow}
-use Rattle.sl_model.specs.Operators.{operator_name}
-use Rattle.sl_model.specs.Rows.{Row, meaning_of, row_numbered, row_of_operator, row_of}
+use Rattle.sl_model.specs.Rows.{Row, meaning_of, row_of}
 use Rattle.sl_model.specs.Library.{value_in, form_of, carried_out, row_out, called_row, lib}
 use Rattle.sl_model.specs.Good.{IsSound}
 use Rattle.sl_model.specs.Shapes.{Shape, HasShape, is_new_one, shape_of_row, row_makes, lib_shape, lib_makes}
@@ -29,7 +25,7 @@ use Rattle.sl_model.proofs.LibrarySound.{lib-leaves}
 use Rattle.sl_model.proofs.Called.{IsCalled, situation, row_by}
 use Rattle.sl_model.proofs.Growing.{grown, does-grows}
 use Rattle.sl_model.proofs.Placing.{IsPlaced, place_used}
-use Rattle.sl_model.proofs.Tells.{shape_of_answer, memory_after, Tells, RowTells, LineTells, AllOf, all_append, all_at, all_rows_on, all_lines}
+use Rattle.sl_model.proofs.Tells.{shape_of_answer, memory_after, Tells, RowTells, LineTells, AllOf, all_rows_on, all_lines}
 use Rattle.sl_model.proofs.TableRows.{all_table, row-holds}
 use Rattle.sl_model.proofs.ContainersTell.{container-tells, multi-tells}
 use Rattle.sl_model.proofs.AlgorithmRowsTell.{algorithm-tells, appending-tells, operator-tells}

@@ -1,12 +1,12 @@
 -- What a library has to be: each of its calls leaves a sound memory sound, and no mark vanishes: each stands afterwards, or was
 -- dropped at the call's site. The library is one, since each of its rows is fine.
 use Rattle.std.proofs.Common.{◌≡◌, ℕ, ◌&&◌, ◌||◌, Bool, true, false, not, List, [], ◌∷◌, Option, Some, None, refl, subst, option_map, if◌then◌else◌}
-use Rattle.std.specs.Prelude.{slice_get, find}
+use Rattle.std.specs.Prelude.{find}
 use Rattle.std.specs.List.{cons_option}
 use Rattle.sl_base.specs.declared.form.Form.{Form}
 use Rattle.sl_specs.specs.declared.class.Class.{Class}
 use Rattle.sl_specs.specs.Forms.{same_form}
-use Rattle.sl_specs.specs.Rows.{Row as TableRow, Line, row_of as row_of_line, class_on, rows_on}
+use Rattle.sl_specs.specs.Rows.{Line, row_of as row_of_line, class_on, rows_on}
 use Rattle.sl_specs.specs.ContainerLines.{container_lines}
 use Rattle.sl_specs.specs.MultiLines.{multi_lines}
 use Rattle.sl_specs.specs.AlgorithmRows.{algorithm_rows}
@@ -17,7 +17,7 @@ use Rattle.sl_model.specs.Values.{Value, Args, Lib, LibOut, trapped, thrown, fau
 use Rattle.sl_model.specs.Situation.{Situation}
 use Rattle.sl_model.specs.Needs.{first_failure}
 use Rattle.sl_model.specs.Actions.{Stop, never, exception, overflow}
-use Rattle.sl_model.specs.Rows.{Row, member_row, algorithm_row, meaning_of, row_of}
+use Rattle.sl_model.specs.Rows.{Row, member_row, meaning_of, row_of}
 use Rattle.sl_model.specs.Library.{form_of, carried_out, row_out, called_row, lib}
 use Rattle.sl_model.specs.Good.{IsSound}
 use Rattle.sl_model.proofs.Keeps.{InAnswer}
@@ -25,7 +25,7 @@ use Rattle.sl_model.proofs.After.{Leaves}
 use Rattle.sl_model.proofs.Called.{IsCalled, situation, row_by}
 use Rattle.sl_model.proofs.Tells.{AllOf}
 use Rattle.sl_model.proofs.TableRows.{all_table, row-holds}
-use Rattle.sl_model.proofs.FineEffects.{IsFine, does-leaves}
+use Rattle.sl_model.proofs.FineEffects.{does-leaves}
 use Rattle.sl_model.proofs.FineRows.{RowIsFine, erases, buries, LineIsFine}
 use Rattle.sl_model.proofs.FineContainers.{containers-fine, multis-fine}
 use Rattle.sl_model.proofs.FineAlgorithms.{algorithms-fine, appending-fine, operator-fine}

@@ -1,16 +1,16 @@
 -- A change of one list of marks among many: they stay apart, and none vanishes.
 use Rattle.std.proofs.Common.{◌≡◌, ◌≢◌, ℕ, zero, suc, ◌+◌, ◌<◌, ◌≤◌, Bool, true, false, List, [], ◌∷◌, ◌++◌, Some, length, refl, ap, sym, ◌∙◌, arith}
-use Rattle.std.proofs.Common.{◌⊎◌, inl, inr, ⊎_elim, subst}
+use Rattle.std.proofs.Common.{◌⊎◌, inl, inr, ⊎_elim}
 use Rattle.std.specs.List.{slice_get, slice_set}
 use Rattle.std.proofs.lemmas.Bool.{cases_eq, both_ways}
 use Rattle.sl_model.specs.Containers.{Grave, IsGrave}
 use Rattle.sl_model.specs.Edits.{Source, buried}
 use Rattle.sl_model.specs.Good.{Stands, AreKeptApart, NoneVanishFrom}
-use Rattle.sl_model.proofs.Getting.{get_set_same, get_set_other, get_within, get_right}
-use Rattle.sl_model.proofs.Apart.{StandsSomewhere, Renews, renewed-apart, IsDistinct, AllBelow, HaveNone, list_distinct, list_below}
-use Rattle.sl_model.proofs.Buried.{StoodAt, grave_cases, buried_stood, buried_has}
-use Rattle.sl_model.proofs.Columns.{TakesOwn, TakesTheirs, IsNew, AllInside, marks_from, stays_at, comes_at}
-use Rattle.sl_model.proofs.ColumnLaws.{TakenOnce, IsTaken, IsTakenOver, IsColumn, column-came, column-below, column-distinct}
+use Rattle.sl_model.proofs.Getting.{get_set_same, get_set_other, get_within}
+use Rattle.sl_model.proofs.Apart.{StandsSomewhere, renewed-apart, list_distinct, list_below}
+use Rattle.sl_model.proofs.Buried.{grave_cases, buried_stood, buried_has}
+use Rattle.sl_model.proofs.Columns.{marks_from, stays_at}
+use Rattle.sl_model.proofs.ColumnLaws.{IsTaken, IsTakenOver, IsColumn, column-came, column-below, column-distinct}
 
 -- each of n places is taken by one of these sources, or it is renewed, so that its mark is buried
 abbrev pub AllTaken : (ℕ → Bool) → ℕ → List Source → Type 0

@@ -1,16 +1,14 @@
 -- Which places the sources of a change take, counted: a change is fair where each place is taken at most once, and each that isn't taken
 -- has its marks dropped.
-use Rattle.std.proofs.Common.{◌≡◌, ◌≢◌, ℕ, zero, suc, ◌+◌, ◌-◌, ◌<◌, ◌≤◌, ◌==◌, Bool, true, false, List, [], ◌∷◌, ◌++◌, Some, length, map, take, drop, reverse}
-use Rattle.std.proofs.Common.{refl, ap, sym, ◌∙◌, arith, ◌⊎◌, inl, inr, ⊎_elim, ℤ, if◌then◌else◌, subst}
+use Rattle.std.proofs.Common.{◌≡◌, ℕ, zero, suc, ◌+◌, ◌<◌, ◌≤◌, ◌==◌, Bool, true, false, List, [], ◌∷◌, Some, length}
+use Rattle.std.proofs.Common.{refl, ap, sym, arith, ◌⊎◌, inl, inr, ⊎_elim, if◌then◌else◌, subst}
 use Rattle.std.specs.List.{slice_get}
-use Rattle.std.proofs.lemmas.Bool.{cases_lt, cases_eq, eqb-true, eqb-false, eq-eqb}
-use Rattle.std.proofs.lemmas.Bool.Decides.{nat_tests}
+use Rattle.std.proofs.lemmas.Bool.{cases_lt, eqb-true, eq-eqb}
 use Rattle.sl_base.specs.declared.limits.TheConstants.{ELEMENTS}
 use Rattle.sl_model.specs.Containers.{Cont, size}
-use Rattle.sl_model.specs.Edits.{Source, old, written, theirs, new, Change, numbers, olds, theirs_from, news}
-use Rattle.sl_model.specs.Schedule.{put_at}
+use Rattle.sl_model.specs.Edits.{Source, old, written, theirs, new, Change}
 use Rattle.sl_model.proofs.Columns.{TakesOwn, TakesTheirs, IsInside, AllInside}
-use Rattle.sl_model.proofs.ColumnLaws.{TakenOnce, IsTaken, IsTakenOver, TakenByOne}
+use Rattle.sl_model.proofs.ColumnLaws.{IsTaken, IsTakenOver}
 use Rattle.sl_model.proofs.After.{IsFair}
 use Rattle.sl_model.proofs.AfterTwo.{IsFairSide}
 
@@ -181,11 +179,14 @@ their_found (x ∷ xs) k h = by_source x h (their_found xs k)
 inside_by : (n n' : ℕ) (xs : List Source) → ((k : ℕ) → n ≤ k → times k (own_places xs) ≡ 0) → ((k : ℕ) → n' ≤ k → times k (their_places xs) ≡ 0)
     → AllInside n n' xs
 inside_by n n' [] own their = tt
-inside_by n n' (x ∷ xs) own their = (by_source x own their, inside_by n n' xs
-    (λ k h. let m : times k (own_places xs) ≤ times k (own_places (x ∷ xs)) = own_more x xs k in
-    let z : times k (own_places (x ∷ xs)) ≡ 0 = own k h in omega arith)
-    (λ k h. let m : times k (their_places xs) ≤ times k (their_places (x ∷ xs)) = their_more x xs k in
-    let z : times k (their_places (x ∷ xs)) ≡ 0 = their k h in omega arith))
+inside_by n n' (x ∷ xs) own their = (
+  by_source x own their,
+  inside_by n n' xs
+      (λ k h. let m : times k (own_places xs) ≤ times k (own_places (x ∷ xs)) = own_more x xs k in
+      let z : times k (own_places (x ∷ xs)) ≡ 0 = own k h in omega arith)
+      (λ k h. let m : times k (their_places xs) ≤ times k (their_places (x ∷ xs)) = their_more x xs k in
+      let z : times k (their_places (x ∷ xs)) ≡ 0 = their k h in omega arith),
+)
   where
     below_own : (i : ℕ) → ((k : ℕ) → n ≤ k → hit k i + times k (own_places xs) ≡ 0) → i < n
     below_own i o = ⊎_elim (λ (low : i < n). low)

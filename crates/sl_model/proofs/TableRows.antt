@@ -44,8 +44,19 @@ all_in_turn P (xs ∷ more) last h k = all_append P xs (in_turn more last) h.0 (
 pub all_table : (P : TableRow → Type 0) → ((form : Form) → holds_equal_keys form ≡ false → AllOf P (rows_on form container_lines))
     → ((form : Form) → holds_equal_keys form ≡ true → AllOf P (rows_on form multi_lines)) → AllOf P algorithm_rows → AllOf P table
 unfolding table
-all_table P one many last = all_in_turn P form_rows algorithm_rows (one f.Vector refl, (one f.Deque refl, (one f.List refl, (one f.Set refl,
-    (one f.Map refl, (one f.HashSet refl, (one f.HashMap refl, (many f.MultiSet refl, (many f.MultiMap refl, tt))))))))) last
+all_table P one many last = all_in_turn P form_rows algorithm_rows (
+  one f.Vector refl,
+  (
+    one f.Deque refl,
+    (
+      one f.List refl,
+      (
+        one f.Set refl,
+        (one f.Map refl, (one f.HashSet refl, (one f.HashMap refl, (many f.MultiSet refl, (many f.MultiMap refl, tt))))),
+      ),
+    ),
+  ),
+) last
 
 module _ (P : Row → Type 0) (by_table : (appends : Bool) → AllOf (λ r. P (meaning_of appends r)) table)
     (by_operator : (name : List ℕ) (o : Operator) → P (row_of_operator name o)) where

@@ -1,15 +1,15 @@
 -- A change of two lists of marks that exchange numbers, among many: they stay apart, and none vanishes.
-use Rattle.std.proofs.Common.{◌≡◌, ◌≢◌, ℕ, ◌+◌, ◌<◌, ◌≤◌, Bool, true, false, List, [], ◌∷◌, ◌++◌, Some, length, refl, ap, sym, ◌∙◌, arith}
+use Rattle.std.proofs.Common.{◌≡◌, ◌≢◌, ℕ, ◌+◌, ◌<◌, ◌≤◌, Bool, true, false, List, ◌++◌, Some, length, refl, ap, sym, ◌∙◌, arith}
 use Rattle.std.proofs.Common.{◌⊎◌, inl, inr, ⊎_elim}
 use Rattle.std.specs.List.{slice_get, slice_set}
 use Rattle.std.proofs.lemmas.Bool.{cases_eq, both_ways}
 use Rattle.sl_model.specs.Containers.{Grave, IsGrave}
 use Rattle.sl_model.specs.Edits.{Source, buried}
 use Rattle.sl_model.specs.Good.{Stands, AreKeptApart, NoneVanishFrom}
-use Rattle.sl_model.proofs.Getting.{get_set_same, get_set_other, get_within, get_some}
-use Rattle.sl_model.proofs.Apart.{StandsSomewhere, renewed-apart, HaveNone, list_distinct, list_below}
+use Rattle.sl_model.proofs.Getting.{get_set_same, get_set_other, get_within}
+use Rattle.sl_model.proofs.Apart.{StandsSomewhere, renewed-apart, HaveNone, list_distinct}
 use Rattle.sl_model.proofs.Buried.{grave_cases}
-use Rattle.sl_model.proofs.Columns.{TakesOwn, TakesTheirs, marks_from, stays_at, comes_at}
+use Rattle.sl_model.proofs.Columns.{marks_from, stays_at, comes_at}
 use Rattle.sl_model.proofs.ColumnLaws.{IsTaken, IsTakenOver, IsColumn, TakenByOne, CameFrom, column-came, column-below, column-distinct, columns-apart}
 use Rattle.sl_model.proofs.OneChange.{DiesIn, buried_grave, still_grave, buried_dies}
 

@@ -1,16 +1,16 @@
 -- A number that is written in an element leaves all marks where they are.
 use Rattle.std.proofs.Common.{◌≡◌, ◌≢◌, ℕ, zero, suc, ◌≤◌, Bool, true, false, List, [], ◌∷◌, ◌++◌, Option, Some, None, length, map, refl, ap, sym, ◌∙◌}
-use Rattle.std.proofs.Common.{arith, ℤ, ◌⊎◌, inl, inr, ⊎_elim, subst, if◌then◌else◌}
+use Rattle.std.proofs.Common.{arith, ℤ, ⊎_elim, subst, if◌then◌else◌}
 use Rattle.std.specs.List.{slice_get, slice_set}
 use Rattle.std.proofs.Math.ListN.{length-set}
 use Rattle.std.proofs.lemmas.Bool.{cases_eq}
 use Rattle.sl_base.specs.declared.limits.TheConstants.{ELEMENTS}
 use Rattle.sl_base.specs.declared.scalar.Scalar.TheVariants as t
 use Rattle.sl_model.specs.Numbers.{converted}
-use Rattle.sl_model.specs.Containers.{Cell, Cont, Memory, size, stamps, refers, killer, Part, key_part, value_part, with_part, is_writable, cells_with}
+use Rattle.sl_model.specs.Containers.{Cell, Cont, Memory, size, stamps, refers, Part, key_part, value_part, with_part, is_writable, cells_with}
 use Rattle.sl_model.specs.Containers.{cont_with, write_element}
-use Rattle.sl_model.specs.Good.{AreKeptApart, IsAt, IsSound}
-use Rattle.sl_model.proofs.Getting.{get_set_same, get_set_other, get_within, map_set}
+use Rattle.sl_model.specs.Good.{AreKeptApart, IsSound}
+use Rattle.sl_model.proofs.Getting.{get_set_same, get_set_other, get_within}
 
 -- setting what is there already changes nothing
 set_there : {A : Type 0} (xs : List A) (j : ℕ) (x : A) → slice_get xs j ≡ Some x → slice_set xs j x ≡ xs

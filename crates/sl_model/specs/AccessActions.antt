@@ -5,9 +5,7 @@
 -- [list.capacity] (`resize`, `reserve`).
 -- Chosen here: `clear` keeps the room; `reserve` of a vector picks a room where it is more than the room that is there, and of a
 -- hash form always, and puts all elements in again; `a.swap(a)` invalidates the end.
-use Rattle.std.specs.Prelude.{ℕ, ◌+◌, ◌-◌, ◌==◌, nat_lt, nat_le, true, min, max, List, [], ◌∷◌, map, replicate, ℤ, pos, if◌then◌else◌}
-use Rattle.sl_base.specs.declared.form.Form.{Form}
-use Rattle.sl_base.specs.declared.form.Form.TheVariants as f
+use Rattle.std.specs.Prelude.{ℕ, ◌+◌, ◌-◌, ◌==◌, nat_lt, nat_le, true, min, max, List, [], map, replicate, ℤ, pos, if◌then◌else◌}
 use Rattle.sl_model.specs.Classes.{Edit}
 use Rattle.sl_model.specs.Containers.{Cont, size, key_part}
 use Rattle.sl_model.specs.Edits.{Change, old, numbers, nowhere}
@@ -15,8 +13,8 @@ use Rattle.sl_model.specs.Forms.{is_hash}
 use Rattle.sl_model.specs.Numbers.{truth}
 use Rattle.sl_model.specs.Rearrangements.{exchanged}
 use Rattle.sl_model.specs.Schedule.{pick, after_picks, scattered}
-use Rattle.sl_model.specs.Situation.{Situation, own, own_size, container_of, their, int_of, count_of, item}
-use Rattle.sl_model.specs.Actions.{Effect, keeps, edits, changes, trades, nothing, gives_number, gives_place, gives_element, Action, never, exception_if}
+use Rattle.sl_model.specs.Situation.{Situation, own, own_size, container_of, their, count_of, item}
+use Rattle.sl_model.specs.Actions.{Effect, edits, changes, trades, nothing, gives_number, gives_place, gives_element, Action, never, exception_if}
 use Rattle.sl_model.specs.Actions.{too_many, tells}
 use Rattle.sl_model.specs.Effects.{room_with, picks_with}
 
@@ -110,7 +108,7 @@ abbrev pub swap : Action
 swap = record {
   stops = λ s. never;
   effect = λ s. if container_of s 1 == s.object
-    then edits 0 (untouched (own s).room)
-    else trades (container_of s 1) (exchanged (own s) (their s 1)) (exchanged (their s 1) (own s));
+      then edits 0 (untouched (own s).room)
+      else trades (container_of s 1) (exchanged (own s) (their s 1)) (exchanged (their s 1) (own s));
   answer = λ s. nothing;
 }

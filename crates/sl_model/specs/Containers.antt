@@ -163,7 +163,7 @@ end_from site n m = record m {
 -- new elements, each with a stamp and a refer of its own, from `next` on
 abbrev pub new_cells : ℕ → List (ℤ × ℤ) → List Cell
 new_cells next [] = []
-new_cells next (x ∷ xs) = 
+new_cells next (x ∷ xs) =
     record { stamp = next; refer = next; key = converted t.Int x.0; value = converted t.Int x.1 } ∷ new_cells (next + 1) xs
 
 -- a new container of a form, with a room and these elements, as the last

@@ -5,7 +5,7 @@
 -- their iterators and references).
 -- Chosen here: what stays and is invalidated gets a mark that was never used, and what goes loses its own. A number that comes into
 -- a container is converted to an int ([conv.integral]).
-use Rattle.std.specs.Prelude.{ℕ, zero, suc, ◌+◌, ◌-◌, ◌==◌, nat_lt, Bool, true, false, List, [], ◌∷◌, ◌++◌, map, length, ℤ, pos, Some, None}
+use Rattle.std.specs.Prelude.{ℕ, zero, suc, ◌+◌, ◌-◌, nat_lt, Bool, false, List, [], ◌∷◌, ◌++◌, map, length, ℤ, pos, Some, None}
 use Rattle.std.specs.Prelude.{slice_get, slice_set, if◌then◌else◌}
 use Rattle.sl_base.specs.declared.scalar.Scalar.TheVariants as t
 use Rattle.sl_specs.specs.declared.class.Class.{Class}

@@ -4,14 +4,14 @@
 -- ones), [unord.req] (growth puts all elements in again) and [back.insert.iterator] (one `push_back` for each element).
 -- Chosen here: where a vector or hash form grows, its new room is its new size and a pick; picks come in this order: the room, the
 -- places of the elements that are put in again, the place of the new one.
-use Rattle.std.specs.Prelude.{ℕ, ◌+◌, ◌-◌, ◌==◌, nat_lt, Bool, List, [], ◌∷◌, map, length, ℤ, pos, Option, Some, None, int_lt, int_le, if◌then◌else◌}
+use Rattle.std.specs.Prelude.{ℕ, ◌+◌, ◌-◌, ◌==◌, nat_lt, Bool, List, [], ◌∷◌, map, length, ℤ, Option, Some, None, int_lt, int_le, if◌then◌else◌}
 use Rattle.sl_base.specs.declared.form.Form.{Form}
 use Rattle.sl_base.specs.declared.form.Form.TheVariants as f
 use Rattle.sl_specs.specs.declared.class.Class.{Class}
 use Rattle.sl_specs.specs.declared.class.Class.TheVariants as classes
 use Rattle.sl_model.specs.Classes.{Edit, kills, loses}
 use Rattle.sl_model.specs.Containers.{Cont, Memory, cont_at, size, keys, made}
-use Rattle.sl_model.specs.Edits.{Change, Source, old, new, numbers, change_of, after, after_two}
+use Rattle.sl_model.specs.Edits.{Change, old, new, numbers, change_of, after, after_two}
 use Rattle.sl_model.specs.Forms.{is_hash, holds_equal_keys}
 use Rattle.sl_model.specs.Orders.{index_of_key, how_many}
 use Rattle.sl_model.specs.Schedule.{pick, pick_at, after_picks, put_at, hash_place, scattered}
@@ -109,9 +109,9 @@ known_key c k = if holds_equal_keys c.form then None else index_of_key k (keys c
 abbrev pub insert_key : Class → ℕ → ℕ → Cont → ℤ × ℤ → Left → Left
 insert_key class site j c x left = elim (known_key c x.0) [
   | None ↦ record {
-      memory = after (key_change class c x left.picks) left.memory j c site;
-      picks = after_picks (key_picks c) left.picks;
-    }
+    memory = after (key_change class c x left.picks) left.memory j c site;
+    picks = after_picks (key_picks c) left.picks;
+  }
   | Some k ↦ left
 ]
 

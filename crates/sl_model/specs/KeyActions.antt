@@ -4,15 +4,14 @@
 -- `equal_range`), [unord.req], [map.access] and [unord.map.elem] (`m[k]`, `at`).
 -- Chosen here: `find` gives the first of equal keys.
 use Rattle.std.specs.Prelude.{ℕ, ◌+◌, Bool, true, false, List, [], ◌∷◌, length, ℤ, pos, int_lt, int_le, Option, Some, None, if◌then◌else◌}
-use Rattle.sl_base.specs.declared.form.Form.{Form}
 use Rattle.sl_base.specs.declared.scalar.Scalar.TheVariants as t
-use Rattle.sl_model.specs.Containers.{Cont, keys, key_part, value_part}
+use Rattle.sl_model.specs.Containers.{Cont, keys, value_part}
 use Rattle.sl_model.specs.Forms.{holds_equal_keys}
 use Rattle.sl_model.specs.Numbers.{converted}
 use Rattle.sl_model.specs.Orders.{same, has, index_of_key, how_many}
 use Rattle.sl_model.specs.Situation.{Situation, own, own_size, int_of, item, as_items, range_keys}
-use Rattle.sl_model.specs.Actions.{Effect, inserts, Answer, nothing, gives_number, gives_place, gives_place_and, gives_places, gives_element, Action}
-use Rattle.sl_model.specs.Actions.{Stop, never, exception_if, too_many, tells}
+use Rattle.sl_model.specs.Actions.{inserts, Answer, nothing, gives_number, gives_place, gives_place_and, gives_places, gives_element, Action}
+use Rattle.sl_model.specs.Actions.{exception_if, too_many, tells}
 use Rattle.sl_model.specs.Effects.{key_place, known_key}
 use Rattle.sl_model.specs.SequenceActions.{erasure}
 

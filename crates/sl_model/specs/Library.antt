@@ -5,15 +5,15 @@
 -- Chosen here: needs come first, by ascending kind and then argument; then exceptions; then the effect. A call that no row takes has
 -- no meaning: a number without a row, an object that isn't there, is of another form or is too many, another number or sort of
 -- operands. No well typed text has one.
-use Rattle.std.specs.Prelude.{ℕ, ◌&&◌, Bool, true, false, List, [], ◌∷◌, length, Option, Some, None, slice_get, slice_index_or, if◌then◌else◌}
+use Rattle.std.specs.Prelude.{ℕ, List, length, Option, Some, None, slice_get, slice_index_or, if◌then◌else◌}
 use Rattle.sl_base.specs.declared.form.Form.{Form}
-use Rattle.sl_model.specs.Containers.{Cont, Memory, cont_at, stamp_at}
+use Rattle.sl_model.specs.Containers.{Memory, stamp_at}
 use Rattle.sl_model.specs.Values.{Value, nothing as no_result, number, iterator, pair, two, element_at, Args, LibOut, trapped, thrown, faulted, gives}
 use Rattle.sl_model.specs.Values.{unbuilt, Lib}
 use Rattle.sl_model.specs.Operands.{is_of_form, are_of}
 use Rattle.sl_model.specs.Situation.{Situation, own, container_of_value}
 use Rattle.sl_model.specs.Needs.{first_failure}
-use Rattle.sl_model.specs.Actions.{Effect, Answer, nothing, gives_number, gives_place, gives_place_and, gives_places, gives_element}
+use Rattle.sl_model.specs.Actions.{Answer, nothing, gives_number, gives_place, gives_place_and, gives_places, gives_element}
 use Rattle.sl_model.specs.Actions.{Stop, never, exception, overflow}
 use Rattle.sl_model.specs.Effects.{Left, does}
 use Rattle.sl_model.specs.Rows.{Object, of_form, new_one, of_first, Row, row_of}

@@ -7,7 +7,7 @@
 use Rattle.std.specs.Prelude.{ℕ, ◌+◌, ◌==◌, List, [], ◌∷◌, ◌++◌, map, reverse, ℤ, if◌then◌else◌}
 use Rattle.sl_specs.specs.declared.letter.Letter.{Letter}
 use Rattle.sl_specs.specs.declared.letter.Letter.TheVariants as a
-use Rattle.sl_model.specs.Containers.{Cont, size, keys}
+use Rattle.sl_model.specs.Containers.{Cont, keys}
 use Rattle.sl_model.specs.Edits.{Change, Source, old, theirs, nowhere, numbers}
 use Rattle.sl_model.specs.Orders.{sorted_entries, sorted_places, first_places, other_places}
 use Rattle.sl_model.specs.Rearrangements.{arranged, retained, received, given, moved_order}
@@ -58,8 +58,8 @@ abbrev pub merge : Action
 merge = record {
   stops = λ s. too_many_theirs s 1 (their_size s 1);
   effect = λ s. if container_of s 1 == s.object
-    then keeps
-    else trades (container_of s 1) (merged (own s) (their s 1)) (given 0 (their_size s 1) (their s 1));
+      then keeps
+      else trades (container_of s 1) (merged (own s) (their s 1)) (given 0 (their_size s 1) (their s 1));
   answer = λ s. nothing;
 }
 

@@ -10,7 +10,7 @@ use Rattle.sl_base.specs.declared.form.Form.{Form}
 use Rattle.sl_base.specs.declared.form.Form.TheVariants as f
 use Rattle.sl_specs.specs.declared.letter.Letter.{Letter}
 use Rattle.sl_specs.specs.declared.letter.Letter.TheVariants as a
-use Rattle.sl_model.specs.Containers.{Cont, size, items}
+use Rattle.sl_model.specs.Containers.{size, items}
 use Rattle.sl_model.specs.Schedule.{pick, after_picks, scattered}
 use Rattle.sl_model.specs.Situation.{Situation, own, their, int_of, count_of, item, as_items, listed, range_keys}
 use Rattle.sl_model.specs.Actions.{Effect, edits, makes, makes_by_keys, nothing, Action, never, too_many, Stop}

@@ -13,11 +13,11 @@ use Rattle.sl_specs.specs.declared.call.Call.TheVariants as c
 use Rattle.sl_specs.specs.declared.letter.Letter.{Letter}
 use Rattle.sl_specs.specs.declared.letter.Letter.TheVariants as a
 use Rattle.sl_specs.specs.Forms.{same_form}
-use Rattle.sl_model.specs.Containers.{Cont, Memory, cont_at}
+use Rattle.sl_model.specs.Containers.{Cont, Memory}
 use Rattle.sl_model.specs.Forms.{is_keyed}
 use Rattle.sl_model.specs.Orders.{is_ascending, sorted, union_of, intersection_of, minus}
 use Rattle.sl_model.specs.Values.{Value, number, iterator, container_at}
-use Rattle.sl_model.specs.Situation.{Situation, place_in, container_of_value, difference_of, range_keys}
+use Rattle.sl_model.specs.Situation.{Situation, place_in, difference_of, range_keys}
 
 -- what sort of value an operand is
 pub data Sort : Type 0 where

@@ -4,7 +4,7 @@
 -- (`--`) and [random.access.iterators] (`+`, `-`, `+=`, `-=`, `<` and its like).
 -- Chosen here: `+=`, `-=`, `++` and `--` give the moved iterator, which the variable takes; two iterators that are compared have to
 -- stand in one container.
-use Rattle.std.specs.Prelude.{ℕ, ◌==◌, nat_lt, nat_le, Bool, not, List, [], ◌∷◌, ◌++◌, ℤ, pos, neg_ℤ, negsuc, Option, Some, None, codes}
+use Rattle.std.specs.Prelude.{ℕ, List, [], ◌∷◌, ◌++◌, ℤ, pos, neg_ℤ, negsuc, Option, Some, None, codes}
 use Rattle.sl_base.specs.declared.failures.TheConstants.{INVALID_ITERATOR, OUT_OF_RANGE}
 use Rattle.sl_syntax.specs.declared.operator.Comparison.{Comparison}
 use Rattle.sl_syntax.specs.declared.operator.Comparison.TheVariants as c

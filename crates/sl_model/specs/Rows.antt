@@ -4,7 +4,7 @@
 -- Restates ISO/IEC 14882:2017, [containers], [algorithms], [numeric.ops] and [iterator.operations]; the table itself (sl_specs) says
 -- which calls there are, their needs and their classes, and each action's file restates what it does.
 -- Chosen here: a range-for asks for the operators `!=`, `*` and `++` by itself, and is named `for` then.
-use Rattle.std.specs.Prelude.{ℕ, Bool, true, false, List, [], ◌∷◌, ℤ, pos, Option, Some, None, option_map, slice_get, codes, if◌then◌else◌}
+use Rattle.std.specs.Prelude.{ℕ, Bool, true, false, List, [], ◌∷◌, pos, Option, Some, None, option_map, slice_get, codes, if◌then◌else◌}
 use Rattle.sl_base.specs.declared.form.Form.{Form}
 use Rattle.sl_base.specs.declared.form.Form.TheVariants as f
 use Rattle.sl_specs.specs.declared.call.Call.{Call}

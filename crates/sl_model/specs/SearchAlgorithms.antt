@@ -4,7 +4,7 @@
 -- [alg.min.max].
 -- Chosen here: `includes` counts repeated elements ([includes] says so of ranges in order); a sum that passes an int is an overflow.
 use Rattle.std.specs.Prelude.{ℕ, ◌+◌, ◌-◌, ◌==◌, ◌||◌, nat_le, Bool, false, not, List, [], ◌∷◌, length, ℤ, pos, neg_ℤ, ◌+ℤ◌, int_lt, int_le}
-use Rattle.std.specs.Prelude.{Some, None, if◌then◌else◌}
+use Rattle.std.specs.Prelude.{if◌then◌else◌}
 use Rattle.sl_base.specs.declared.scalar.Scalar.TheVariants as t
 use Rattle.sl_specs.specs.declared.call.Call.{Call}
 use Rattle.sl_model.specs.Forms.{step_of}
@@ -12,7 +12,7 @@ use Rattle.sl_model.specs.Numbers.{truth, fits}
 use Rattle.sl_model.specs.Operands.{steps_of}
 use Rattle.sl_model.specs.Orders.{same, index_of_key, has, how_many, minus, least_place, greatest_place}
 use Rattle.sl_model.specs.Situation.{Situation, own_size, index, int_of, range_keys, range_size}
-use Rattle.sl_model.specs.Actions.{keeps, Answer, gives_number, gives_place, Action, never, overflow, tells}
+use Rattle.sl_model.specs.Actions.{Answer, gives_number, gives_place, Action, never, overflow, tells}
 use Rattle.sl_model.specs.KeyActions.{place_or}
 
 -- the place so far behind the beginning of the range

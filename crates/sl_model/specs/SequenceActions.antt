@@ -6,7 +6,7 @@ use Rattle.std.specs.Prelude.{ℕ, ◌+◌, ◌-◌, List, [], ◌∷◌, length
 use Rattle.sl_specs.specs.declared.letter.Letter.{Letter}
 use Rattle.sl_specs.specs.declared.letter.Letter.TheVariants as a
 use Rattle.sl_model.specs.Situation.{Situation, own, own_size, index, int_of, count_of, item, as_items, range_keys, range_size}
-use Rattle.sl_model.specs.Actions.{Effect, edits, Answer, nothing, gives_place, Action, never, Stop, too_many}
+use Rattle.sl_model.specs.Actions.{Effect, edits, Answer, nothing, gives_place, Action, never, too_many}
 use Rattle.sl_model.specs.Effects.{picks_with, insertion}
 
 -- these come into the object, a sequence, at place k

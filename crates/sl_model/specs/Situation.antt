@@ -3,7 +3,7 @@
 -- [conv.integral]: a number that becomes an element or a count is converted.
 -- Chosen here: a call that makes a container has for its object the number that the container gets, and one of an algorithm or
 -- operator the container that its first operand stands in.
-use Rattle.std.specs.Prelude.{ℕ, ◌+◌, ◌-◌, List, ◌∷◌, [], map, ℤ, pos, Option, Some, None, slice_index_or, slice_range}
+use Rattle.std.specs.Prelude.{ℕ, ◌+◌, ◌-◌, List, map, ℤ, pos, Option, Some, None, slice_index_or, slice_range}
 use Rattle.sl_base.specs.declared.scalar.Scalar.TheVariants as t
 use Rattle.sl_model.specs.Containers.{Cont, Memory, cont_at, size, keys, locate}
 use Rattle.sl_model.specs.Numbers.{converted, modulo}

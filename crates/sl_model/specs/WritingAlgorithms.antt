@@ -4,7 +4,7 @@
 -- [alg.remove] and [back.inserter].
 -- Chosen here: what an algorithm writes is computed from its input before its first write; what `unique` and `remove` leave behind
 -- the end that they return is picked.
-use Rattle.std.specs.Prelude.{ℕ, ◌+◌, ◌-◌, List, [], ◌∷◌, ◌++◌, map, length, replicate, reverse, ℤ, pos}
+use Rattle.std.specs.Prelude.{ℕ, ◌+◌, ◌-◌, List, ◌++◌, map, length, replicate, reverse, ℤ, pos}
 use Rattle.sl_specs.specs.declared.call.Call.{Call}
 use Rattle.sl_model.specs.Containers.{size}
 use Rattle.sl_model.specs.Operands.{written_keys}
@@ -13,7 +13,7 @@ use Rattle.sl_model.specs.Rearrangements.{overwrites}
 use Rattle.sl_model.specs.Schedule.{picked}
 use Rattle.sl_model.specs.Values.{Value, container_at}
 use Rattle.sl_model.specs.Situation.{Situation, own, argument, index, container_of, their, int_of, range_keys, range_size}
-use Rattle.sl_model.specs.Actions.{Effect, keeps, changes, appends, Answer, nothing, gives_place, Action, Stop, never, too_many}
+use Rattle.sl_model.specs.Actions.{Effect, changes, appends, Answer, nothing, gives_place, Action, Stop, never, too_many}
 use Rattle.sl_model.specs.SearchAlgorithms.{along}
 
 -- the object with these over the range, after so many picks

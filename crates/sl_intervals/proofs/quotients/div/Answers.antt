@@ -1,0 +1,26 @@
+use Rattle.std.proofs.Common.{inl, inr, arith}
+use Rattle.std.proofs.lemmas.Int.{ints}
+use Rattle.sl_syntax.specs.declared.operator.Arithmetic.TheVariants as operator
+use Rattle.sl_model.specs.Numbers.{operated}
+use Rattle.sl_intervals.proofs.Joined.{within_of}
+use Rattle.sl_intervals.proofs.Divided.{low_quotient, high_quotient}
+use Rattle.sl_intervals.proofs.Spanning.{no_members}
+use Rattle.sl_intervals.proofs.quotients.div.Goals as goal
+
+pub returns-then-a-clause-outcome : goal.returns-then-a-clause-outcome
+returns-then-a-clause-outcome c = no_members (operated operator.Divide c.args.ty) c.args.ty c.args.a c.args.b c.no_outcome.result
+    (inl (grind (arith, ints))) c.no_outcome.ensures.value c.no_outcome.ensures.fault
+
+pub returns-then-b-clause-outcome : goal.returns-then-b-clause-outcome
+returns-then-b-clause-outcome c = no_members (operated operator.Divide c.args.ty) c.args.ty c.args.a c.args.b c.no_outcome-then-b.result
+    (inr (grind (arith, ints))) c.no_outcome-then-b.ensures.value c.no_outcome-then-b.ensures.fault
+
+pub returns-clause-low : goal.returns-clause-low
+returns-clause-low c = λ fa fb up above. low_quotient c.args.ty c.args.a c.args.b c.plain_quotients.result c.requires.number
+    (within_of c.args.ty c.args.a fa c.requires.first) (within_of c.args.ty c.args.b fb c.requires.second) fa fb up above
+    c.plain_quotients.ensures.outcome c.plain_quotients.ensures.ends
+
+pub returns-clause-high : goal.returns-clause-high
+returns-clause-high c = λ fa fb up above. high_quotient c.args.ty c.args.a c.args.b c.plain_quotients.result c.requires.number
+    (within_of c.args.ty c.args.a fa c.requires.first) (within_of c.args.ty c.args.b fb c.requires.second) fa fb up above
+    c.plain_quotients.ensures.outcome c.plain_quotients.ensures.ends
