@@ -1,6 +1,6 @@
 -- What a row has to be, by example: where `clear` invalidates nothing, what stood before vanishes, and where it invalidates all, each
 -- mark has the call's site beside it.
-use Rattle.std.proofs.Common.{◌≡◌, ℕ, zero, suc, [], ◌∷◌, map, refl, ◌⊎◌, ⊎_elim}
+use Rattle.std.proofs.Common.{◌≡◌, ℕ, zero, suc, [], ◌∷◌, map, refl, ⊎_elim}
 use Rattle.std.specs.Prelude.{codes}
 use Rattle.sl_base.specs.declared.form.Form.TheVariants as f
 use Rattle.sl_specs.specs.declared.class.Class.{Class}
