@@ -131,8 +131,9 @@ lib-push_back m j c z picks site h form = ap (λ (r : Option Row). called_row r 
 abbrev pub at_element : ℕ → ℕ → ℕ → Memory → List ℕ → LibOut
 at_element j k n m picks = if k == n then trapped 4 1 else gives (element_at j k key_part) m picks
 
-element_case : (j k : ℕ) (m : Memory) (picks : List ℕ) (at_end : Bool) →
-    (elim (first_failure (fails_if at_end END_ITERATOR 1)) as (λ _. LibOut) [ Some f ↦ trapped f.0 f.1 | None ↦ gives (element_at j k key_part) m picks ])
+element_case : (j k : ℕ) (m : Memory) (picks : List ℕ) (at_end : Bool)
+    → (elim (first_failure (fails_if at_end END_ITERATOR 1)) as (λ _. LibOut)
+    [ Some f ↦ trapped f.0 f.1 | None ↦ gives (element_at j k key_part) m picks ])
     ≡ (if at_end then trapped 4 1 else gives (element_at j k key_part) m picks)
 element_case j k m picks true = refl
 element_case j k m picks false = refl

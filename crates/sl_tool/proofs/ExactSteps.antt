@@ -137,7 +137,8 @@ plain-push k own place v name site z n s p lt few =
     subst (λ (out : LibOut). GoesOn (with_push k v site) n (push_flow h (number (pos z) ∷ []) now out))
     (sym (ap (λ (j : ℕ). lib (callees.Row push_back_row) (pushing site j (pos z)) s.memory s.picks) at
     ∙ lib-push_back s.memory v c.0 (pos z) s.picks site c.1 (d.forms v c.0 c.1)))
-    (push_plain k h (number (pos z) ∷ []) n now v c.0 (converted t.Int (pos z)) site (record { described = d; full = p.full; picks = p.picks; steps = left }) c.1 few))
+    (push_plain k h (number (pos z) ∷ []) n now v c.0 (converted t.Int (pos z)) site
+    (record { described = d; full = p.full; picks = p.picks; steps = left }) c.1 few))
 
 -- `*` of an iterator that was dropped
 star_gone : (names : List (List ℕ)) (place : Place) (name stamp site x : ℕ) (xs killers : List ℕ) (s : State) → killers ≡ x ∷ xs
