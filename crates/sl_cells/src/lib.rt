@@ -1,0 +1,12 @@
+//! What is known of the elements of a container. No call takes memory.
+#![tactic(auto)]
+
+mod cells;
+mod item;
+mod places;
+mod sorted;
+mod window;
+
+pub use cells::Cells;
+pub use item::Item;
+pub use sorted::Sorted;
