@@ -1,2 +1,5 @@
 pub mod Orders
 pub mod Windows
+pub mod Verdicts
+-- What private contracts say. Nobody has to believe it.
+pub mod Means

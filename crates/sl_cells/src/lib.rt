@@ -3,6 +3,7 @@
 
 mod cells;
 mod item;
+mod order;
 mod places;
 mod sorted;
 mod window;
