@@ -48,16 +48,16 @@ pub record IsNear (items : List Item) (i : ℕ) (a b : Interval) : Type 0 where
   pub second : IsKeyAt b items i
 
 pub near_always : (order : Order) (x : Interval) (items : List Item) (i : ℕ) (a b : Interval) (r : Sure) → IsComparison order x a b r → IsNear items i a b → r ≡ Always → (z : ℤ) (ys : List (ℤ × ℤ)) → Holds x z → AllZip HoldsItem items ys → (k : ℕ) (d e : ℤ × ℤ) → suc k ≡ i → Stands order z (get_or ys k d).0 (get_or ys (suc k) e).0
-near_always order x items i a b r is near yes z ys m zip k d e at =
+near_always order x items i a b r is near sure z ys m zip k d e at =
     let one = near.above in let in' = near.inside in
-    is.always yes z _ _ m
+    is.always sure z _ _ m
     (key_holds items ys (i - 1) k a d near.first (omega arith) (omega arith) zip)
     (key_holds items ys i (suc k) b e near.second (omega arith) (omega arith) zip)
 
 pub near_never : (order : Order) (x : Interval) (items : List Item) (i : ℕ) (a b : Interval) (r : Sure) → IsComparison order x a b r → IsNear items i a b → r ≡ Never → (z : ℤ) (ys : List (ℤ × ℤ)) (d e : ℤ × ℤ) → Holds x z → AllZip HoldsItem items ys → (k : ℕ) → suc k ≡ i → Stands order z (get_or ys k d).0 (get_or ys (suc k) e).0 → ⊥
-near_never order x items i a b r is near no z ys d e m zip k at =
+near_never order x items i a b r is near never z ys d e m zip k at =
     let one = near.above in let in' = near.inside in
-    is.never no z _ _ m
+    is.never never z _ _ m
     (key_holds items ys (i - 1) k a d near.first (omega arith) (omega arith) zip)
     (key_holds items ys i (suc k) b e near.second (omega arith) (omega arith) zip)
 

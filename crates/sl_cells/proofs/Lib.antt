@@ -4,3 +4,6 @@ pub mod Zips
 -- ## Orders
 pub mod Ordered
 pub mod Comparisons
+-- ## Questions
+pub mod Reading
+pub mod Asking

@@ -1,2 +1,3 @@
 -- What private contracts say. Nobody has to believe it.
 pub mod Comparisons
+pub mod Puts

@@ -22,8 +22,11 @@ pub record IsVerdict (w : Window) (from to : Interval) (P : List (ℤ × ℤ) �
   pub always : r ≡ Always → (xs : List (ℤ × ℤ)) (f t : ℕ) → Describes w xs → IsPart from to xs f t → P (slice_range xs f t)
   pub never : r ≡ Never → (xs : List (ℤ × ℤ)) (f t : ℕ) → Describes w xs → IsPart from to xs f t → P (slice_range xs f t) → ⊥
 
--- the answer isn't May where single numbers decide, and is Always for an empty part and where the keys ascend
-pub record IsDecided (w : Window) (from to : Interval) (r : Sure) : Type 0 where
-  pub known : (xs : List (ℤ × ℤ)) (f t : ℕ) → Knows w xs → IsSingle from (pos f) → IsSingle to (pos t) → f ≤ t → t ≤ length xs → r ≢ May
+-- the answer isn't May where single numbers decide
+abbrev pub IsDecided : Window → Interval → Interval → Sure → Type 0
+IsDecided w from to r = (xs : List (ℤ × ℤ)) (f t : ℕ) → Knows w xs → IsSingle from (pos f) → IsSingle to (pos t) → f ≤ t → t ≤ length xs → r ≢ May
+
+-- the answer is Always for a part without elements, and where the keys are known to ascend
+pub record IsAtOnce (w : Window) (from to : Interval) (r : Sure) : Type 0 where
   pub none : (f : ℕ) → IsSingle from (pos f) → IsSingle to (pos f) → r ≡ Always
   pub ordered : w.sorted ≡ Yes → r ≡ Always

@@ -31,15 +31,14 @@ pub record IsOnly (i : Item) (x : ℤ × ℤ) : Type 0 where
   pub key : IsSingle i.key x.0
   pub value : IsSingle i.value x.1
 
--- the key and the value of x are in these ranges
-pub record IsInRanges (keys values : Interval) (x : ℤ × ℤ) : Type 0 where
-  pub key : Holds keys x.0
-  pub value : Holds values x.1
+-- the ranges of w as what they say of each element
+abbrev pub ranges : Window → Item
+ranges w = record { key = w.keys; value = w.values }
 
 -- all that w says is so of xs
 pub record Describes (w : Window) (xs : List (ℤ × ℤ)) : Type 0 where
   pub window : w.all ≡ true → AllZip HoldsItem w.known xs
-  pub ranged : AllByRecursion (IsInRanges w.keys w.values) xs
+  pub ranged : AllByRecursion (HoldsItem (ranges w)) xs
   pub order : w.sorted ≡ Yes → IsAscending xs
 
 -- w describes xs, and all elements are known as single numbers

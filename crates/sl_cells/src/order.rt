@@ -1,11 +1,17 @@
 //! Orders of elements, asked of known elements.
-ghost use Rattle.std.specs.Prelude.{◌≡◌, ◌≢◌, ◌⊎◌, ◌<◌, length, slice_index_or};
+ghost use Rattle.std.specs.Prelude.{◌≡◌, ◌≢◌, ◌⊎◌, ◌<◌, ◌≤◌, ◌≤ℤ◌, ◌<ℤ◌, ℕ, ℤ, suc, true, false, List, length, slice_index_or, slice_range};
+ghost use Rattle.std.specs.List.{AllZip};
 ghost use Rattle.sl_intervals.specs.declared.sure.Sure.{Sure};
 ghost use Rattle.sl_cells.specs.declared.item.Item.{Item};
 ghost use Rattle.sl_cells.specs.declared.order.Order.{Order};
+ghost use Rattle.sl_cells.specs.declared.sorted.Sorted.{Sorted};
+ghost use Rattle.sl_cells.specs.Edits.{IsBetween};
+ghost use Rattle.sl_cells.specs.Orders.{IsAscending};
+ghost use Rattle.sl_cells.specs.Windows.{HoldsItem};
 ghost use Rattle.sl_cells.specs.Means.Comparisons.{IsComparison, IsWeighing};
 
 use crate::item::Item;
+use crate::sorted::Sorted;
 use sl_intervals::{Interval, Sure};
 
 /// An order of elements: their keys ascend, those with a key below a number come first, or those with a key that isn't
@@ -108,4 +114,62 @@ pub fn weigh(order: Order, x: Interval, items: &[Item]) -> Sure
         sure = both(sure, compare(order, x, key_at(items, i - 1), key_at(items, i)));
     }
     sure
+}
+
+/// Whether the elements of a part stand in the order.
+pub fn weigh_part(order: Order, x: Interval, items: &[Item], from: usize, to: usize) -> Sure
+    requires order { from ≤ to }
+    requires inside { to ≤ length items.now }
+    ensures { IsWeighing order x (slice_range items.now from to) result }
+{
+    weigh(order, x, &items[from..to])
+}
+
+/// Whether the keys of these elements surely ascend.
+pub fn shown_order(items: &[Item]) -> Sorted
+    ensures yes { (ys : List (ℤ × ℤ)) → result ≡ Sorted.Yes → AllZip HoldsItem items.now ys → IsAscending ys }
+{
+    let nothing = Interval { low: 0, high: 0 };
+    match weigh(Order::Ascending, nothing, items) {
+        Sure::Always => Sorted::Yes,
+        _ => Sorted::Unknown,
+    }
+}
+
+/// Whether a key surely isn't below that of the element in front of a place.
+fn is_behind(items: &[Item], place: usize, key: Interval) -> bool
+    requires { place ≤ length items.now }
+    ensures behind { result ≡ true →
+        (k : ℕ) (d : Item) → suc k ≡ place → (slice_index_or items.now k d).key.high ≤ℤ key.low }
+    ensures not_behind { result ≡ false →
+        (k : ℕ) × (suc k ≡ place) × ((d : Item) → key.low <ℤ (slice_index_or items.now k d).key.high) }
+{
+    if place == 0 {
+        return true;
+    }
+    key_at(items, place - 1).high <= key.low
+}
+
+/// Whether a key surely isn't above that of the element at a place.
+fn is_before(items: &[Item], place: usize, key: Interval) -> bool
+    requires { place ≤ length items.now }
+    ensures before { result ≡ true →
+        (d : Item) → place < length items.now → key.high ≤ℤ (slice_index_or items.now place d).key.low }
+    ensures not_before { result ≡ false →
+        (place < length items.now) × ((d : Item) → (slice_index_or items.now place d).key.low <ℤ key.high) }
+{
+    if place >= items.len() {
+        return true;
+    }
+    key.high <= key_at(items, place).low
+}
+
+/// Whether neighbours show that a key fits between the first elements up to a place and those from another on.
+pub fn fits_between(items: &[Item], front: usize, back: usize, key: Interval) -> bool
+    requires front { front ≤ length items.now }
+    requires back { back ≤ length items.now }
+    ensures fits { result ≡ true → IsBetween items.now front back key }
+    ensures misfits { result ≡ false → IsBetween items.now front back key → ⊥ }
+{
+    is_behind(items, front, key) & is_before(items, back, key)
 }

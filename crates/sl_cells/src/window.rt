@@ -1,7 +1,10 @@
 //! Lists of known elements.
-ghost use Rattle.std.specs.Prelude.{◌≡◌, ◌<◌, ◌≤◌, ◌+◌, ◌++◌, ◌∷◌, length, take, drop, reverse};
-ghost use Rattle.std.specs.List.{insert, remove_range};
+ghost use Rattle.std.specs.Prelude.{◌≡◌, ◌≤◌, ◌<◌, ◌+◌, ◌++◌, ◌∷◌, ℕ, ℤ, List, length, take, drop, reverse};
+ghost use Rattle.std.specs.List.{AllZip, remove_range};
 ghost use Rattle.arrayvec.specs.ArrayVec.{array_vec_len};
+ghost use Rattle.sl_cells.specs.declared.sorted.Sorted.{Sorted};
+ghost use Rattle.sl_cells.specs.Orders.{IsAscending};
+ghost use Rattle.sl_cells.specs.Windows.{HoldsItem};
 
 use crate::item::Item;
 use arrayvec::ArrayVec;
@@ -16,21 +19,22 @@ fn append<const N: usize>(known: &mut ArrayVec<Item, N>, items: &[Item])
     }
 }
 
-/// These with one more.
-pub fn inserted<const N: usize>(items: &[Item], place: usize, item: Item) -> ArrayVec<Item, N>
-    requires place { place ≤ length items.now }
-    requires room { length items.now < N }
-    ensures { result.items ≡ insert items.now place item }
+/// One between the first ones up to a place and those from another on.
+pub fn with_item<const N: usize>(items: &[Item], front: usize, back: usize, item: Item) -> ArrayVec<Item, N>
+    requires order { front ≤ back }
+    requires inside { back ≤ length items.now }
+    requires room { length items.now + front < N + back }
+    ensures { result.items ≡ take front items.now ++ item ∷ drop back items.now }
 {
     let mut known = ArrayVec::new();
-    append(&mut known, &items[..place]);
+    append(&mut known, &items[..front]);
     known.push(item);
-    append(&mut known, &items[place..]);
+    append(&mut known, &items[back..]);
     known
 }
 
 /// These without a stretch.
-pub fn erased<const N: usize>(items: &[Item], from: usize, to: usize) -> ArrayVec<Item, N>
+pub fn without<const N: usize>(items: &[Item], from: usize, to: usize) -> ArrayVec<Item, N>
     requires order { from ≤ to }
     requires inside { to ≤ length items.now }
     requires room { length items.now ≤ N }
@@ -39,19 +43,6 @@ pub fn erased<const N: usize>(items: &[Item], from: usize, to: usize) -> ArrayVe
     let mut known = ArrayVec::new();
     append(&mut known, &items[..from]);
     append(&mut known, &items[to..]);
-    known
-}
-
-/// These with another item at a place.
-pub fn replaced<const N: usize>(items: &[Item], place: usize, item: Item) -> ArrayVec<Item, N>
-    requires place { place < length items.now }
-    requires room { length items.now ≤ N }
-    ensures { result.items ≡ take place items.now ++ item ∷ drop (place + 1) items.now }
-{
-    let mut known = ArrayVec::new();
-    append(&mut known, &items[..place]);
-    known.push(item);
-    append(&mut known, &items[place + 1..]);
     known
 }
 

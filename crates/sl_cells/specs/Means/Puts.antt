@@ -1,0 +1,17 @@
+-- What is known once an element comes between others.
+use Rattle.std.specs.Prelude.{◌≡◌, ℕ, ◌+◌, ◌<◌, ◌≤◌, true, List, ◌∷◌, ◌++◌, length, take, drop, ℤ}
+use Rattle.sl_cells.specs.declared.item.Item.{Item}
+use Rattle.sl_cells.specs.declared.sorted.Sorted.TheVariants.{Yes}
+use Rattle.sl_cells.specs.Edits.{IsBetween}
+use Rattle.sl_cells.specs.Orders.{IsAscending}
+use Rattle.sl_cells.specs.Ranges.{IsUnion}
+use Rattle.sl_cells.specs.Windows.{Window, Describes}
+
+-- r is w where an element stands between the first ones up to front and those from back on; n elements have room
+pub record IsPut (n : ℕ) (w : Window) (front back : ℕ) (item : Item) (r : Window) : Type 0 where
+  pub window : r.all ≡ true → r.known ≡ take front w.known ++ item ∷ drop back w.known
+  pub room : length w.known + front < n + back → r.all ≡ true
+  pub keys : IsUnion w.keys item.key r.keys
+  pub values : IsUnion w.values item.value r.values
+  pub sorted : r.sorted ≡ Yes → ((xs : List (ℤ × ℤ)) → Describes w xs → IsAscending xs) × IsBetween w.known front back item.key
+  pub order : w.sorted ≡ Yes → IsBetween w.known front back item.key → r.sorted ≡ Yes
