@@ -7,3 +7,5 @@ pub mod Comparisons
 -- ## Questions
 pub mod Reading
 pub mod Asking
+-- ## Edits
+pub mod Between
