@@ -9,3 +9,4 @@ pub mod Reading
 pub mod Asking
 -- ## Edits
 pub mod Between
+pub mod Edits
