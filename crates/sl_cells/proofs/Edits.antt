@@ -39,8 +39,8 @@ union_int a b r u p q = from_ends r (u.least (lowest kind.Int) (low_end a p) (lo
 put_ints : (n : ℕ) (w : Window) (front back : ℕ) (item : Item) (r : Window) → IsPut n w front back item r → IsOfInts w → IsInt item → IsOfInts r
 put_ints n w front back item r put is h = record {
   known = ⊎_elim
-      (λ (e : r.all ≡ true). rw put.window e (each_append IsInt (take front w.known) (item ∷ drop back w.known) (each_take IsInt front w.known is.known) (h, each_drop IsInt back w.known is.known)))
-      (λ (e : r.all ≡ false). rw put.none e tt)
+      (λ (e : r.all ≡ true). rw (put.window e) (each_append IsInt (take front w.known) (item ∷ drop back w.known) (each_take IsInt front w.known is.known) (h, each_drop IsInt back w.known is.known)))
+      (λ (e : r.all ≡ false). rw (put.none e) tt)
       (cases_Bool r.all);
   keys = union_int w.keys item.key r.keys put.keys is.keys h.key;
   values = union_int w.values item.value r.values put.values is.values h.value;
@@ -54,7 +54,7 @@ put_insertion n w at p item r put all s l = record {
       subst (λ j. Describes r (insert xs j x)) same (put_describes n w p p item r put all (omega arith) l xs x is i);
   exact = λ xs x k is h m room i.
       let same : p ≡ k = one_place at p k s h in
-      let n = zip_length IsOnly w.known xs is.known in
+      let len = zip_length IsOnly w.known xs is.known in
       subst (λ j. Knows r (insert xs j x)) same (put_knows n w p p item r put (omega arith) l (omega arith) xs x is i);
   order = λ k a sorted h m b. let same : p ≡ k = one_place at p k s h in put.order sorted (subst (λ j. IsBetween w.known j j item.key) (sym same) b);
   keys = put.keys;

@@ -10,3 +10,4 @@ pub mod Asking
 -- ## Edits
 pub mod Between
 pub mod Edits
+pub mod Arrangements

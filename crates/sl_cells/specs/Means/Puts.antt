@@ -1,5 +1,5 @@
 -- What is known once an element comes to others, or some of them go.
-use Rattle.std.specs.Prelude.{◌≡◌, ℕ, ◌+◌, ◌<◌, ◌≤◌, true, false, List, [], ◌∷◌, ◌++◌, length, take, drop, ℤ}
+use Rattle.std.specs.Prelude.{◌≡◌, ℕ, ◌+◌, ◌<◌, ◌≤◌, Bool, true, false, List, [], ◌∷◌, ◌++◌, length, take, drop, ℤ}
 use Rattle.sl_cells.specs.declared.item.Item.{Item}
 use Rattle.sl_cells.specs.declared.sorted.Sorted.{Sorted}
 use Rattle.sl_cells.specs.declared.sorted.Sorted.TheVariants.{Yes}
@@ -32,3 +32,11 @@ pub record IsLess (w r : Window) : Type 0 where
   pub values : r.values ≡ w.values
   pub order : w.sorted ≡ Yes → r.sorted ≡ Yes
   pub kept : r.sorted ≡ Yes → w.sorted ≡ Yes
+
+-- r has these known elements and this order, in the ranges of w
+pub record IsRearranged (w : Window) (all : Bool) (known : List Item) (sorted : Sorted) (r : Window) : Type 0 where
+  pub whole : r.all ≡ all
+  pub items : r.known ≡ known
+  pub keys : r.keys ≡ w.keys
+  pub values : r.values ≡ w.values
+  pub order : r.sorted ≡ sorted
