@@ -11,3 +11,4 @@ pub mod Asking
 pub mod Between
 pub mod Edits
 pub mod Arrangements
+pub mod Joins
