@@ -150,3 +150,10 @@ module _ (R : Interval → Interval → Interval → Type 0) (mix : IsMixing R) 
           ranged = second_ranged xs d.ranged;
           order = λ e. right xs e d;
         }
+
+-- ranges under other names
+pub mixed : (R : Interval → Interval → Interval → Type 0) (a b c x y z : Interval) → a ≡ x → b ≡ y → c ≡ z → R a b c → R x y z
+mixed R a b c x y z p q s h = subst (λ i. R i y z) p (subst (λ i. R a i z) q (subst (λ i. R a b i) s h))
+
+pub itemwise_of : (R : Interval → Interval → Interval → Type 0) (a b x y rs : List Item) → a ≡ x → b ≡ y → IsItemwise R a b rs → IsItemwise R x y rs
+itemwise_of R a b x y rs p q h = subst (λ i. IsItemwise R i y rs) p (subst (λ i. IsItemwise R a i rs) q h)

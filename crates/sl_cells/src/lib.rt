@@ -6,6 +6,7 @@ mod item;
 mod order;
 mod places;
 mod sorted;
+mod sorting;
 mod window;
 
 pub use cells::Cells;

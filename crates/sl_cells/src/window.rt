@@ -21,6 +21,16 @@ fn append<const N: usize>(known: &mut ArrayVec<Item, N>, items: &[Item])
     }
 }
 
+/// These.
+pub fn copied<const N: usize>(items: &[Item]) -> ArrayVec<Item, N>
+    requires { length items.now ≤ N }
+    ensures { result.items ≡ items.now }
+{
+    let mut known = ArrayVec::new();
+    append(&mut known, items);
+    known
+}
+
 /// One between the first ones up to a place and those from another on.
 pub fn with_item<const N: usize>(items: &[Item], front: usize, back: usize, item: Item) -> ArrayVec<Item, N>
     requires order { front ≤ back }
@@ -53,8 +63,7 @@ pub fn reversed<const N: usize>(items: &[Item]) -> ArrayVec<Item, N>
     requires { length items.now ≤ N }
     ensures { result.items ≡ reverse items.now }
 {
-    let mut known = ArrayVec::new();
-    append(&mut known, items);
+    let mut known = copied(items);
     known.reverse();
     known
 }
