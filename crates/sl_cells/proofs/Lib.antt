@@ -12,3 +12,5 @@ pub mod Between
 pub mod Edits
 pub mod Arrangements
 pub mod Joins
+-- ## Sorting
+pub mod Sorts
