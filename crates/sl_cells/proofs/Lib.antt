@@ -14,3 +14,4 @@ pub mod Arrangements
 pub mod Joins
 -- ## Sorting
 pub mod Sorts
+pub mod SortedItems
