@@ -1,6 +1,7 @@
 -- What comparisons of neighbours tell.
-use Rattle.std.proofs.Common.{◌≡◌, ◌≢◌, ℕ, suc, ◌+◌, ◌-◌, ◌<◌, ◌≤◌, ℤ, List, length, get_or, sym, ap, subst, ◌∙◌, ⊎_elim, ◌⊎◌, arith}
+use Rattle.std.proofs.Common.{◌≡◌, ◌≢◌, ℕ, suc, ◌+◌, ◌-◌, ◌<◌, ◌≤◌, ℤ, ◌≤ℤ◌, List, length, get_or, refl, sym, ap, subst, ◌∙◌, ⊎_elim, ◌⊎◌, arith}
 use Rattle.std.proofs.lemmas.Bool.{cases_eq}
+use Rattle.std.proofs.lemmas.Int.{ints}
 use Rattle.std.specs.List.{AllZip}
 use Rattle.sl_intervals.specs.declared.interval.Interval.{Interval}
 use Rattle.sl_intervals.specs.declared.sure.Sure.{Sure}
@@ -8,19 +9,19 @@ use Rattle.sl_intervals.specs.declared.sure.Sure.TheVariants.{Never, May, Always
 use Rattle.sl_intervals.specs.Intervals.{Holds, IsSingle}
 use Rattle.sl_cells.specs.declared.item.Item.{Item}
 use Rattle.sl_cells.specs.declared.order.Order.{Order}
-use Rattle.sl_cells.specs.Windows.{HoldsItem, IsOnly}
+use Rattle.sl_cells.specs.Windows.{HoldsItem, IsOnly, ShowsOrder}
 use Rattle.sl_cells.specs.Means.Comparisons.{Stands, IsComparison}
 use Rattle.sl_cells.proofs.Zips.{zip_at}
 
 -- the three answers
 pub sure_order : (order : Order) (x a b : Interval) → ((z p q : ℤ) → Holds x z → Holds a p → Holds b q → Stands order z p q) → IsComparison order x a b Always
-sure_order order x a b h = record { always = λ e. h; never = λ e. absurd (cc); exact = λ z p q u v w e. cc }
+sure_order order x a b h = record { always = λ e. h; never = λ e. absurd (cc); exact = λ z p q u v w e. cc; shown = λ l. refl }
 
-pub sure_disorder : (order : Order) (x a b : Interval) → ((z p q : ℤ) → Holds x z → Holds a p → Holds b q → Stands order z p q → ⊥) → IsComparison order x a b Never
-sure_disorder order x a b h = record { always = λ e. absurd (cc); never = λ e. h; exact = λ z p q u v w e. cc }
+pub sure_disorder : (order : Order) (x a b : Interval) → ((z p q : ℤ) → Holds x z → Holds a p → Holds b q → Stands order z p q → ⊥) → (a.high ≤ℤ b.low → ⊥) → IsComparison order x a b Never
+sure_disorder order x a b h n = record { always = λ e. absurd (cc); never = λ e. h; exact = λ z p q u v w e. cc; shown = λ l. absurd (n l) }
 
-pub unsure_order : (order : Order) (x a b : Interval) → ((z p q : ℤ) → IsSingle x z → IsSingle a p → IsSingle b q → ⊥) → IsComparison order x a b May
-unsure_order order x a b h = record { always = λ e. absurd (cc); never = λ e. absurd (cc); exact = λ z p q u v w e. h z p q u v w }
+pub unsure_order : (order : Order) (x a b : Interval) → ((z p q : ℤ) → IsSingle x z → IsSingle a p → IsSingle b q → ⊥) → (a.high ≤ℤ b.low → ⊥) → IsComparison order x a b May
+unsure_order order x a b h n = record { always = λ e. absurd (cc); never = λ e. absurd (cc); exact = λ z p q u v w e. h z p q u v w; shown = λ l. absurd (n l) }
 
 -- a is the key of the item at a place
 abbrev pub IsKeyAt : Interval → List Item → ℕ → Type 0
@@ -67,6 +68,16 @@ near_exact order x items i a b r is near z ys m zip =
     is.exact z _ _ m
     (key_single items ys (i - 1) (i - 1) a (z, z) near.first (omega arith) (omega arith) zip)
     (key_single items ys i i b (z, z) near.second (omega arith) (omega arith) zip)
+
+pub near_shown : (order : Order) (x : Interval) (items : List Item) (i : ℕ) (a b : Interval) (r : Sure) → IsComparison order x a b r → IsNear items i a b → ShowsOrder items → r ≡ Always
+near_shown order x items i a b r is near shows =
+    let one = near.above in let in' = near.inside in
+    let none : Item = record { key = a; value = a } in
+    let next : suc (i - 1) ≡ i = omega arith in
+    let l = shows (i - 1) none (omega arith) in
+    let p : a.high ≡ (get_or items (i - 1) none).key.high = ap (λ v. v.high) (near.first none) in
+    let q : b.low ≡ (get_or items (suc (i - 1)) none).key.low = ap (λ v. v.low) (near.second none ∙ ap (λ n. (get_or items n none).key) (sym next)) in
+    is.shown (omega (arith, ints))
 
 -- a place before the next one is one of those before, or the last of them
 pub below_next : {P : Type 0} (k i : ℕ) → suc k < i + 1 → (suc k < i → P) → (suc k ≡ i → P) → P

@@ -10,6 +10,7 @@ use Rattle.sl_intervals.specs.declared.interval.Interval.{Interval}
 use Rattle.sl_intervals.specs.Intervals.{Holds, IsSingle, LiesIn, IsWithin, IsEmpty, IsAtLeast, IsAtMost}
 use Rattle.sl_cells.specs.declared.item.Item.{Item}
 use Rattle.sl_cells.specs.declared.sorted.Sorted.TheVariants.{Yes, Unknown}
+use Rattle.sl_cells.specs.Orders.{IsAscending}
 use Rattle.sl_cells.specs.Windows.{Window, ranges, HoldsItem, IsOnly, Describes, Knows, IsInt, IsOfInts}
 use Rattle.sl_cells.specs.Ranges.{IsUnion}
 use Rattle.sl_cells.specs.Edits.{IsBetween, IsInsertion, IsErasure, IsWrite}
@@ -105,11 +106,11 @@ spread_write w at item r s open' = record {
 }
 
 -- without a stretch: between known places, and between unknown ones
-less_describes : (w r : Window) (xs : List (ℤ × ℤ)) (f t : ℕ) → r.keys ≡ w.keys → r.values ≡ w.values → (r.sorted ≡ Yes → w.sorted ≡ Yes) → f ≤ t → Describes w xs → (r.all ≡ true → AllZip HoldsItem r.known (remove_range xs f t)) → Describes r (remove_range xs f t)
+less_describes : (w r : Window) (xs : List (ℤ × ℤ)) (f t : ℕ) → r.keys ≡ w.keys → r.values ≡ w.values → (r.sorted ≡ Yes → (ys : List (ℤ × ℤ)) → Describes w ys → IsAscending ys) → f ≤ t → Describes w xs → (r.all ≡ true → AllZip HoldsItem r.known (remove_range xs f t)) → Describes r (remove_range xs f t)
 less_describes w r xs f t k v order l is zip = record {
   window = zip;
   ranged = subst (λ (i : Item). AllByRecursion (HoldsItem i) (remove_range xs f t)) (sym (same_ranges w r k v)) (each_cut (HoldsItem (ranges w)) f t xs is.ranged);
-  order = λ e. ordered_cut (λ p q. p ≤ℤ q) f t xs l (is.order (order e));
+  order = λ e. ordered_cut (λ p q. p ≤ℤ q) f t xs l (order e xs is);
 }
   where
   same_ranges : (w r : Window) → r.keys ≡ w.keys → r.values ≡ w.values → ranges r ≡ ranges w
@@ -126,13 +127,13 @@ known_erasure w from to f t r s given known all a b =
           let p : f ≡ g = same_place from f g a part.first in
           let q : t ≡ u = same_place to t u b part.last in
           let l = part.order in
-          subst (Describes r) (place g u p q xs) (less_describes w r xs f t s.keys s.values s.kept (omega arith) is
+          subst (Describes r) (place g u p q xs) (less_describes w r xs f t s.keys s.values s.sorted (omega arith) is
           (λ e. rw known (zip_cut HoldsItem f t w.known xs (is.window all))));
       exact = λ xs g u is h i l m.
           let p : f ≡ g = one_place from f g a h in
           let q : t ≡ u = one_place to t u b i in
           subst (Knows r) (place g u p q xs) (record {
-            describes = less_describes w r xs f t s.keys s.values s.kept (omega arith) is.describes
+            describes = less_describes w r xs f t s.keys s.values s.sorted (omega arith) is.describes
                 (λ e. rw known (zip_cut HoldsItem f t w.known xs (is.describes.window all)));
             all = given;
             known = rw known (zip_cut IsOnly f t w.known xs is.known);
@@ -145,7 +146,7 @@ known_erasure w from to f t r s given known all a b =
 
 pub open_erasure : (w : Window) (from to : Interval) (r : Window) → IsLess w r → r.all ≡ false → r.known ≡ [] → (w.all ≡ true → (f t : ℕ) → f ≤ t → t ≤ length w.known → IsSingle from (pos f) → IsSingle to (pos t) → ⊥) → IsErasure w from to r
 open_erasure w from to r s none known open' = record {
-  describes = λ xs f t is part. less_describes w r xs f t s.keys s.values s.kept part.order is (λ e. absurd (cc));
+  describes = λ xs f t is part. less_describes w r xs f t s.keys s.values s.sorted part.order is (λ e. absurd (cc));
   exact = λ xs f t is a b l m. let n = zip_length IsOnly w.known xs is.known in absurd (open' is.all f t l (omega arith) a b);
   order = s.order;
   keys = s.keys;

@@ -10,7 +10,7 @@ use Rattle.sl_cells.specs.declared.item.Item.{Item}
 use Rattle.sl_cells.specs.declared.sorted.Sorted.{Sorted}
 use Rattle.sl_cells.specs.declared.sorted.Sorted.TheVariants.{Yes, Unknown}
 use Rattle.sl_cells.specs.Orders.{IsAscending}
-use Rattle.sl_cells.specs.Windows.{Window, ranges, HoldsItem, IsOnly, Describes, Knows, IsInt, IsOfInts}
+use Rattle.sl_cells.specs.Windows.{Window, ranges, HoldsItem, IsOnly, Describes, Knows, KnowsOrder, IsInt, IsOfInts}
 use Rattle.sl_cells.specs.Ranges.{IsUnion, IsWidening, IsItemwise}
 use Rattle.sl_cells.specs.Joins.{IsJoin}
 use Rattle.sl_cells.proofs.Each.{each_weaker}
@@ -87,7 +87,7 @@ module _ (R : Interval → Interval → Interval → Type 0) (mix : IsMixing R) 
       (λ x i. record { key = mix.holds w.keys v.keys r.keys x.0 keys (inr i.key); value = mix.holds w.values v.values r.values x.1 values (inr i.value) }) xs h
 
   -- no known elements
-  pub open_join : r.all ≡ false → r.known ≡ [] → ((xs : List (ℤ × ℤ)) → r.sorted ≡ Yes → Describes w xs → IsAscending xs) → ((xs : List (ℤ × ℤ)) → r.sorted ≡ Yes → Describes v xs → IsAscending xs) → (w.sorted ≡ Yes → v.sorted ≡ Yes → r.sorted ≡ Yes) → (w.all ≡ true → v.all ≡ true → length w.known ≡ length v.known → ⊥) → IsJoin R w v r
+  pub open_join : r.all ≡ false → r.known ≡ [] → ((xs : List (ℤ × ℤ)) → r.sorted ≡ Yes → Describes w xs → IsAscending xs) → ((xs : List (ℤ × ℤ)) → r.sorted ≡ Yes → Describes v xs → IsAscending xs) → (KnowsOrder w → KnowsOrder v → r.sorted ≡ Yes) → (w.all ≡ true → v.all ≡ true → length w.known ≡ length v.known → ⊥) → IsJoin R w v r
   open_join none empty left right order unlike = record {
     first = λ xs d. record { window = λ e. absurd (cc); ranged = first_ranged xs d.ranged; order = λ e. left xs e d };
     second = λ xs d. record { window = λ e. absurd (cc); ranged = second_ranged xs d.ranged; order = λ e. right xs e d };
@@ -101,7 +101,7 @@ module _ (R : Interval → Interval → Interval → Type 0) (mix : IsMixing R) 
   }
 
   -- as many known elements in both
-  pub known_join : r.all ≡ true → IsItemwise R w.known v.known r.known → ((xs : List (ℤ × ℤ)) → r.sorted ≡ Yes → Describes w xs → IsAscending xs) → ((xs : List (ℤ × ℤ)) → r.sorted ≡ Yes → Describes v xs → IsAscending xs) → (w.sorted ≡ Yes → v.sorted ≡ Yes → r.sorted ≡ Yes) → w.all ≡ true → v.all ≡ true → length w.known ≡ length v.known → IsJoin R w v r
+  pub known_join : r.all ≡ true → IsItemwise R w.known v.known r.known → ((xs : List (ℤ × ℤ)) → r.sorted ≡ Yes → Describes w xs → IsAscending xs) → ((xs : List (ℤ × ℤ)) → r.sorted ≡ Yes → Describes v xs → IsAscending xs) → (KnowsOrder w → KnowsOrder v → r.sorted ≡ Yes) → w.all ≡ true → v.all ≡ true → length w.known ≡ length v.known → IsJoin R w v r
   known_join given each left right order wall vall same = record {
     first = λ xs d. first' xs d;
     second = λ xs d. second' xs d;

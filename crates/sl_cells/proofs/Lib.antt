@@ -1,3 +1,5 @@
+-- ## Examples
+mod Examples
 -- ## Lists
 pub mod Each
 pub mod Zips

@@ -11,7 +11,7 @@ use Rattle.sl_cells.specs.declared.item.Item.{Item}
 use Rattle.sl_cells.specs.declared.sorted.Sorted.TheVariants.{Yes}
 use Rattle.sl_cells.specs.Ranges.{IsUnion}
 use Rattle.sl_cells.specs.Verdicts.{IsPart}
-use Rattle.sl_cells.specs.Windows.{Window, HoldsItem, IsOnly, Describes, Knows, IsInt, IsOfInts}
+use Rattle.sl_cells.specs.Windows.{Window, HoldsItem, IsOnly, Describes, Knows, KnowsOrder, IsInt, IsOfInts}
 
 -- the keys of the first elements up to front aren't above the key, and those from back on aren't below it: their neighbours show it
 pub record IsBetween (known : List Item) (front back : ℕ) (key : Interval) : Type 0 where
@@ -22,7 +22,7 @@ pub record IsBetween (known : List Item) (front back : ℕ) (key : Interval) : T
 pub record IsInsertion (n : ℕ) (w : Window) (at : Interval) (item : Item) (r : Window) : Type 0 where
   pub describes : (xs : List (ℤ × ℤ)) (x : ℤ × ℤ) (k : ℕ) → Describes w xs → Holds at (pos k) → k ≤ length xs → HoldsItem item x → Describes r (insert xs k x)
   pub exact : (xs : List (ℤ × ℤ)) (x : ℤ × ℤ) (k : ℕ) → Knows w xs → IsSingle at (pos k) → k ≤ length xs → length xs < n → IsOnly item x → Knows r (insert xs k x)
-  pub order : (k : ℕ) → w.all ≡ true → w.sorted ≡ Yes → IsSingle at (pos k) → k ≤ length w.known → IsBetween w.known k k item.key → r.sorted ≡ Yes
+  pub order : (k : ℕ) → w.all ≡ true → KnowsOrder w → IsSingle at (pos k) → k ≤ length w.known → IsBetween w.known k k item.key → r.sorted ≡ Yes
   pub keys : IsUnion w.keys item.key r.keys
   pub values : IsUnion w.values item.value r.values
   pub ints : IsOfInts w → IsInt item → IsOfInts r
@@ -31,7 +31,7 @@ pub record IsInsertion (n : ℕ) (w : Window) (at : Interval) (item : Item) (r :
 pub record IsErasure (w : Window) (from to : Interval) (r : Window) : Type 0 where
   pub describes : (xs : List (ℤ × ℤ)) (f t : ℕ) → Describes w xs → IsPart from to xs f t → Describes r (remove_range xs f t)
   pub exact : (xs : List (ℤ × ℤ)) (f t : ℕ) → Knows w xs → IsSingle from (pos f) → IsSingle to (pos t) → f ≤ t → t ≤ length xs → Knows r (remove_range xs f t)
-  pub order : w.sorted ≡ Yes → r.sorted ≡ Yes
+  pub order : KnowsOrder w → r.sorted ≡ Yes
   pub keys : r.keys ≡ w.keys
   pub values : r.values ≡ w.values
   pub ints : IsOfInts w → IsOfInts r
@@ -40,7 +40,7 @@ pub record IsErasure (w : Window) (from to : Interval) (r : Window) : Type 0 whe
 pub record IsWrite (w : Window) (at : Interval) (item : Item) (r : Window) : Type 0 where
   pub describes : (xs : List (ℤ × ℤ)) (x : ℤ × ℤ) (k : ℕ) → Describes w xs → Holds at (pos k) → k < length xs → HoldsItem item x → Describes r (slice_set xs k x)
   pub exact : (xs : List (ℤ × ℤ)) (x : ℤ × ℤ) (k : ℕ) → Knows w xs → IsSingle at (pos k) → k < length xs → IsOnly item x → Knows r (slice_set xs k x)
-  pub order : (k : ℕ) → w.all ≡ true → w.sorted ≡ Yes → IsSingle at (pos k) → k < length w.known → IsBetween w.known k (suc k) item.key → r.sorted ≡ Yes
+  pub order : (k : ℕ) → w.all ≡ true → KnowsOrder w → IsSingle at (pos k) → k < length w.known → IsBetween w.known k (suc k) item.key → r.sorted ≡ Yes
   pub keys : IsUnion w.keys item.key r.keys
   pub values : IsUnion w.values item.value r.values
   pub ints : IsOfInts w → IsInt item → IsOfInts r

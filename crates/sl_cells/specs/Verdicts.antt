@@ -2,13 +2,12 @@
 --
 -- Chosen here: the part lies between two places that are known as intervals, and the question is only asked where the
 -- first isn't behind the second, and that one is a place of the list or its end.
-use Rattle.std.specs.Prelude.{◌≡◌, ◌≢◌, ℕ, ◌≤◌, ℤ, pos, List, length, slice_range}
+use Rattle.std.specs.Prelude.{◌≡◌, ◌≢◌, ℕ, ◌≤◌, ℤ, pos, ◌≤ℤ◌, List, length, slice_range}
 use Rattle.sl_intervals.specs.declared.interval.Interval.{Interval}
 use Rattle.sl_intervals.specs.declared.sure.Sure.{Sure}
 use Rattle.sl_intervals.specs.declared.sure.Sure.TheVariants.{Never, May, Always}
 use Rattle.sl_intervals.specs.Intervals.{Holds, IsSingle}
-use Rattle.sl_cells.specs.declared.sorted.Sorted.TheVariants.{Yes}
-use Rattle.sl_cells.specs.Windows.{Window, Describes, Knows}
+use Rattle.sl_cells.specs.Windows.{Window, Describes, Knows, KnowsOrder}
 
 -- f and t are members of the two intervals, and a part of xs lies between them
 pub record IsPart (from to : Interval) (xs : List (ℤ × ℤ)) (f t : ℕ) : Type 0 where
@@ -26,7 +25,7 @@ pub record IsVerdict (w : Window) (from to : Interval) (P : List (ℤ × ℤ) �
 abbrev pub IsDecided : Window → Interval → Interval → Sure → Type 0
 IsDecided w from to r = (xs : List (ℤ × ℤ)) (f t : ℕ) → Knows w xs → IsSingle from (pos f) → IsSingle to (pos t) → f ≤ t → t ≤ length xs → r ≢ May
 
--- the answer is Always for a part without elements, and where the keys are known to ascend
+-- the answer is Always where each such part is without elements, and where the keys are known to ascend
 pub record IsAtOnce (w : Window) (from to : Interval) (r : Sure) : Type 0 where
-  pub none : (f : ℕ) → IsSingle from (pos f) → IsSingle to (pos f) → r ≡ Always
-  pub ordered : w.sorted ≡ Yes → r ≡ Always
+  pub none : to.high ≤ℤ from.low → r ≡ Always
+  pub ordered : KnowsOrder w → r ≡ Always

@@ -3,7 +3,7 @@
 -- Chosen here: it is a window of known elements, each as an interval of its key and one of its value, beside a range
 -- of all keys, a range of all values, and whether the keys ascend. Where not all elements are known, the window says
 -- nothing.
-use Rattle.std.specs.Prelude.{◌≡◌, ℤ, Bool, true, List}
+use Rattle.std.specs.Prelude.{◌≡◌, ◌⊎◌, ℕ, suc, ◌<◌, ℤ, ◌≤ℤ◌, Bool, true, List, length, slice_index_or}
 use Rattle.std.specs.List.{AllZip, AllByRecursion}
 use Rattle.sl_base.specs.declared.scalar.Scalar.TheVariants as kind
 use Rattle.sl_intervals.specs.declared.interval.Interval.{Interval}
@@ -20,6 +20,14 @@ pub record Window : Type 0 where
   pub keys : Interval
   pub values : Interval
   pub sorted : Sorted
+
+-- neighbours show that the keys of these elements ascend
+abbrev pub ShowsOrder : List Item → Type 0
+ShowsOrder known = (k : ℕ) (d : Item) → suc k < length known → (slice_index_or known k d).key.high ≤ℤ (slice_index_or known (suc k) d).key.low
+
+-- the keys are known to ascend, or the known elements show it
+abbrev pub KnowsOrder : Window → Type 0
+KnowsOrder w = (w.sorted ≡ Yes) ⊎ ((w.all ≡ true) × ShowsOrder w.known)
 
 -- the element x is one of those that i says
 pub record HoldsItem (i : Item) (x : ℤ × ℤ) : Type 0 where

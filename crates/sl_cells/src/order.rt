@@ -7,7 +7,7 @@ ghost use Rattle.sl_cells.specs.declared.order.Order.{Order};
 ghost use Rattle.sl_cells.specs.declared.sorted.Sorted.{Sorted};
 ghost use Rattle.sl_cells.specs.Edits.{IsBetween};
 ghost use Rattle.sl_cells.specs.Orders.{IsAscending};
-ghost use Rattle.sl_cells.specs.Windows.{HoldsItem};
+ghost use Rattle.sl_cells.specs.Windows.{HoldsItem, ShowsOrder};
 ghost use Rattle.sl_cells.specs.Means.Comparisons.{IsComparison, IsWeighing};
 
 use crate::item::Item;
@@ -87,6 +87,7 @@ fn both(a: Sure, b: Sure) -> Sure
     ensures first { result ≡ Sure.Always → a ≡ Sure.Always }
     ensures second { result ≡ Sure.Always → b ≡ Sure.Always }
     ensures never { result ≡ Sure.Never → (a ≡ Sure.Never ⊎ b ≡ Sure.Never) }
+    ensures always { a ≡ Sure.Always → b ≡ Sure.Always → result ≡ Sure.Always }
     ensures exact { a ≢ Sure.May → b ≢ Sure.May → result ≢ Sure.May }
 {
     match (a, b) {
@@ -128,6 +129,7 @@ pub fn weigh_part(order: Order, x: Interval, items: &[Item], from: usize, to: us
 /// Whether the keys of these elements surely ascend.
 pub fn shown_order(items: &[Item]) -> Sorted
     ensures yes { (ys : List (ℤ × ℤ)) → result ≡ Sorted.Yes → AllZip HoldsItem items.now ys → IsAscending ys }
+    ensures shown { ShowsOrder items.now → result ≡ Sorted.Yes }
 {
     let nothing = Interval { low: 0, high: 0 };
     match weigh(Order::Ascending, nothing, items) {

@@ -6,7 +6,7 @@ use Rattle.sl_cells.specs.declared.sorted.Sorted.TheVariants.{Yes}
 use Rattle.sl_cells.specs.Edits.{IsBetween}
 use Rattle.sl_cells.specs.Orders.{IsAscending}
 use Rattle.sl_cells.specs.Ranges.{IsUnion}
-use Rattle.sl_cells.specs.Windows.{Window, Describes}
+use Rattle.sl_cells.specs.Windows.{Window, Describes, KnowsOrder}
 
 -- r is w where an element stands between the first ones up to front and those from back on; n elements have room
 pub record IsPut (n : ℕ) (w : Window) (front back : ℕ) (item : Item) (r : Window) : Type 0 where
@@ -16,7 +16,7 @@ pub record IsPut (n : ℕ) (w : Window) (front back : ℕ) (item : Item) (r : Wi
   pub keys : IsUnion w.keys item.key r.keys
   pub values : IsUnion w.values item.value r.values
   pub sorted : r.sorted ≡ Yes → ((xs : List (ℤ × ℤ)) → Describes w xs → IsAscending xs) × IsBetween w.known front back item.key
-  pub order : w.sorted ≡ Yes → IsBetween w.known front back item.key → r.sorted ≡ Yes
+  pub order : KnowsOrder w → IsBetween w.known front back item.key → r.sorted ≡ Yes
 
 -- r says no element, and is w with wider ranges and this order
 pub record IsSpread (w : Window) (item : Item) (sorted : Sorted) (r : Window) : Type 0 where
@@ -26,12 +26,12 @@ pub record IsSpread (w : Window) (item : Item) (sorted : Sorted) (r : Window) : 
   pub values : IsUnion w.values item.value r.values
   pub order : r.sorted ≡ sorted
 
--- r has the ranges and the order of w
+-- r has the ranges of w, and its order
 pub record IsLess (w r : Window) : Type 0 where
   pub keys : r.keys ≡ w.keys
   pub values : r.values ≡ w.values
-  pub order : w.sorted ≡ Yes → r.sorted ≡ Yes
-  pub kept : r.sorted ≡ Yes → w.sorted ≡ Yes
+  pub order : KnowsOrder w → r.sorted ≡ Yes
+  pub sorted : r.sorted ≡ Yes → (xs : List (ℤ × ℤ)) → Describes w xs → IsAscending xs
 
 -- r has these known elements and this order, in the ranges of w
 pub record IsRearranged (w : Window) (all : Bool) (known : List Item) (sorted : Sorted) (r : Window) : Type 0 where

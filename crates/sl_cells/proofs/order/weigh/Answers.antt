@@ -5,7 +5,7 @@ use Rattle.sl_cells.specs.Windows.{HoldsItem}
 use Rattle.sl_cells.specs.Means.Comparisons.{Stands}
 use Rattle.sl_cells.proofs.Zips.{zip_length}
 use Rattle.sl_cells.proofs.Ordered.{from_neighbours, neighbours, stands_then}
-use Rattle.sl_cells.proofs.Comparisons.{IsNear, near_always, near_never, near_exact, below_next}
+use Rattle.sl_cells.proofs.Comparisons.{IsNear, near_always, near_never, near_exact, near_shown, below_next}
 use Rattle.sl_cells.proofs.order.weigh.Goals as goal
 
 pub loop-i-preserved : goal.loop-i-preserved
@@ -29,6 +29,7 @@ loop-i-preserved c =
       exact = λ z ys x zip. c.both-sure.ensures.exact
           (c.loop-i.invariant.exact z ys x zip)
           (near_exact c.args.order c.args.x items c.loop-i.i _ _ _ c.compare.ensures near z ys x zip);
+      shown = λ shows. c.both-sure.ensures.always (c.loop-i.invariant.shown shows) (near_shown c.args.order c.args.x items c.loop-i.i _ _ _ c.compare.ensures near shows);
     }
 
 pub returns : goal.returns
@@ -43,4 +44,5 @@ returns c =
           let l = w.1 in
           w.2 z ys (z, z) (z, z) x zip (neighbours (Stands c.args.order z) ys w.0 (z, z) (z, z) (omega arith) o);
       exact = c.loop-i.invariant.exact;
+      shown = c.loop-i.invariant.shown;
     }

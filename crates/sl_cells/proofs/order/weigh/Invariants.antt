@@ -2,7 +2,7 @@ use Rattle.std.proofs.Common.{◌≡◌, ◌≢◌, ◌+◌, ◌<◌, ◌≤◌,
 use Rattle.std.specs.List.{AllZip}
 use Rattle.sl_intervals.specs.declared.sure.Sure.TheVariants.{Never, May, Always}
 use Rattle.sl_intervals.specs.Intervals.{Holds, IsSingle}
-use Rattle.sl_cells.specs.Windows.{HoldsItem, IsOnly}
+use Rattle.sl_cells.specs.Windows.{HoldsItem, IsOnly, ShowsOrder}
 use Rattle.sl_cells.specs.Means.Comparisons.{Stands}
 use Rattle.sl_cells.proofs.order.weigh.Given as goal
 
@@ -15,4 +15,5 @@ invariant-loop-i l = record {
       → (k : ℕ) × (suc k < length l.items) × ((z : ℤ) (ys : List (ℤ × ℤ)) (d e : ℤ × ℤ) → Holds l.x z → AllZip HoldsItem l.items ys
       → Stands l.order z (get_or ys k d).0 (get_or ys (suc k) e).0 → ⊥);
   exact : (z : ℤ) (ys : List (ℤ × ℤ)) → IsSingle l.x z → AllZip IsOnly l.items ys → l.sure ≢ May;
+  shown : ShowsOrder l.items → l.sure ≡ Always;
 }
