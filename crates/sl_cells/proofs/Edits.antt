@@ -1,21 +1,21 @@
 -- Insertions, erasures and writes.
-use Rattle.std.proofs.Common.{◌≡◌, ℕ, zero, suc, ◌+◌, ◌-◌, ◌<◌, ◌≤◌, ℤ, pos, ◌≤ℤ◌, true, false, List, [], ◌∷◌, ◌++◌, length, take, drop, sym, ap, subst, ◌∙◌, arith, ◌⊎◌, inl, inr, ⊎_elim}
-use Rattle.std.proofs.lemmas.Int.{ints}
+use Rattle.std.proofs.Common.{◌≡◌, ℕ, suc, ◌<◌, ◌≤◌, ℤ, pos, ◌≤ℤ◌, true, false, List, [], ◌∷◌, length, take, drop, sym, ap, subst, ◌∙◌, arith, inl, inr, ⊎_elim}
 use Rattle.std.proofs.lemmas.Bool.{cases_Bool}
 use Rattle.std.proofs.lemmas.List.{set_split}
-use Rattle.std.specs.List.{AllByRecursion, AllZip, insert, remove_range, slice_set}
+use Rattle.std.specs.List.{AllByRecursion, AllZip, insert, remove_range}
 use Rattle.sl_base.specs.declared.scalar.Scalar.TheVariants as kind
 use Rattle.sl_model.specs.Numbers.{lowest, highest}
 use Rattle.sl_intervals.specs.declared.interval.Interval.{Interval}
-use Rattle.sl_intervals.specs.Intervals.{Holds, IsSingle, LiesIn, IsWithin, IsEmpty, IsAtLeast, IsAtMost}
+use Rattle.sl_intervals.specs.Intervals.{IsSingle, LiesIn, IsWithin, IsEmpty, IsAtLeast, IsAtMost}
 use Rattle.sl_cells.specs.declared.item.Item.{Item}
+use Rattle.sl_cells.specs.declared.sorted.Sorted.{Sorted}
 use Rattle.sl_cells.specs.declared.sorted.Sorted.TheVariants.{Yes, Unknown}
 use Rattle.sl_cells.specs.Orders.{IsAscending}
-use Rattle.sl_cells.specs.Windows.{Window, ranges, HoldsItem, IsOnly, Describes, Knows, IsInt, IsOfInts}
+use Rattle.sl_cells.specs.Windows.{Window, ranges, HoldsItem, IsOnly, Describes, Knows, KnowsOrder, IsInt, IsOfInts}
 use Rattle.sl_cells.specs.Ranges.{IsUnion}
 use Rattle.sl_cells.specs.Edits.{IsBetween, IsInsertion, IsErasure, IsWrite}
-use Rattle.sl_cells.specs.Means.Puts.{IsPut, IsSpread, IsLess}
-use Rattle.sl_cells.proofs.Each.{each_append, each_take, each_drop, each_weaker, each_cut}
+use Rattle.sl_cells.specs.Means.Puts.{IsPut, IsSpread, IsRearranged}
+use Rattle.sl_cells.proofs.Each.{each_append, each_take, each_drop, each_cut}
 use Rattle.sl_cells.proofs.Zips.{zip_cut, zip_length}
 use Rattle.sl_cells.proofs.Ordered.{ordered_cut}
 use Rattle.sl_cells.proofs.Reading.{same_place, one_place}
@@ -105,6 +105,11 @@ spread_write w at item r s open' = record {
   ints = spread_ints w r item s.none s.keys s.values;
 }
 
+-- what is known of the order of w
+pub record IsOrderOf (w : Window) (sorted : Sorted) : Type 0 where
+  pub ascends : sorted ≡ Yes → (xs : List (ℤ × ℤ)) → Describes w xs → IsAscending xs
+  pub kept : KnowsOrder w → sorted ≡ Yes
+
 -- without a stretch: between known places, and between unknown ones
 less_describes : (w r : Window) (xs : List (ℤ × ℤ)) (f t : ℕ) → r.keys ≡ w.keys → r.values ≡ w.values → (r.sorted ≡ Yes → (ys : List (ℤ × ℤ)) → Describes w ys → IsAscending ys) → f ≤ t → Describes w xs → (r.all ≡ true → AllZip HoldsItem r.known (remove_range xs f t)) → Describes r (remove_range xs f t)
 less_describes w r xs f t k v order l is zip = record {
@@ -113,43 +118,46 @@ less_describes w r xs f t k v order l is zip = record {
   order = λ e. ordered_cut (λ p q. p ≤ℤ q) f t xs l (order e xs is);
 }
   where
-  same_ranges : (w r : Window) → r.keys ≡ w.keys → r.values ≡ w.values → ranges r ≡ ranges w
-  same_ranges w r k v = λ i. record { key = k i; value = v i }
+    same_ranges : (w r : Window) → r.keys ≡ w.keys → r.values ≡ w.values → ranges r ≡ ranges w
+    same_ranges w r k v = λ i. record { key = k i; value = v i }
 
 less_ints : (w r : Window) → r.keys ≡ w.keys → r.values ≡ w.values → (IsOfInts w → AllByRecursion IsInt r.known) → IsOfInts w → IsOfInts r
 less_ints w r k v known is = record { known = known is; keys = rw k is.keys; values = rw v is.values }
 
-pub known_erasure : (w : Window) (from to : Interval) (f t : ℕ) (r : Window) → IsLess w r → r.all ≡ true → r.known ≡ remove_range w.known f t → w.all ≡ true → IsSingle from (pos f) → IsSingle to (pos t) → IsErasure w from to r
-known_erasure w from to f t r s given known all a b =
+pub known_erasure : (w : Window) (from to : Interval) (f t : ℕ) (sorted : Sorted) (r : Window) → IsRearranged w true (remove_range w.known f t) sorted r → IsOrderOf w sorted → w.all ≡ true → IsSingle from (pos f) → IsSingle to (pos t) → IsErasure w from to r
+known_erasure w from to f t sorted r s order all a b =
     let place = λ (g u : ℕ) (p : f ≡ g) (q : t ≡ u) (xs : List (ℤ × ℤ)). ap (λ j. remove_range xs j t) p ∙ ap (λ j. remove_range xs g j) q in
     record {
       describes = λ xs g u is part.
           let p : f ≡ g = same_place from f g a part.first in
           let q : t ≡ u = same_place to t u b part.last in
           let l = part.order in
-          subst (Describes r) (place g u p q xs) (less_describes w r xs f t s.keys s.values s.sorted (omega arith) is
-          (λ e. rw known (zip_cut HoldsItem f t w.known xs (is.window all))));
+          subst (Describes r) (place g u p q xs) (cut xs (omega arith) is);
       exact = λ xs g u is h i l m.
           let p : f ≡ g = one_place from f g a h in
           let q : t ≡ u = one_place to t u b i in
           subst (Knows r) (place g u p q xs) (record {
-            describes = less_describes w r xs f t s.keys s.values s.sorted (omega arith) is.describes
-                (λ e. rw known (zip_cut HoldsItem f t w.known xs (is.describes.window all)));
-            all = given;
-            known = rw known (zip_cut IsOnly f t w.known xs is.known);
+            describes = cut xs (omega arith) is.describes;
+            all = s.whole;
+            known = rw s.items (zip_cut IsOnly f t w.known xs is.known);
           });
-      order = s.order;
+      order = λ o. s.order ∙ order.kept o;
       keys = s.keys;
       values = s.values;
-      ints = less_ints w r s.keys s.values (λ is. rw known (each_cut IsInt f t w.known is.known));
+      ints = less_ints w r s.keys s.values (λ is. rw s.items (each_cut IsInt f t w.known is.known));
     }
+  where
+    cut : (xs : List (ℤ × ℤ)) → f ≤ t → Describes w xs → Describes r (remove_range xs f t)
+    cut xs l is = less_describes w r xs f t s.keys s.values (λ e. order.ascends (sym s.order ∙ e)) l is
+        (λ e. rw s.items (zip_cut HoldsItem f t w.known xs (is.window all)))
 
-pub open_erasure : (w : Window) (from to : Interval) (r : Window) → IsLess w r → r.all ≡ false → r.known ≡ [] → (w.all ≡ true → (f t : ℕ) → f ≤ t → t ≤ length w.known → IsSingle from (pos f) → IsSingle to (pos t) → ⊥) → IsErasure w from to r
-open_erasure w from to r s none known open' = record {
-  describes = λ xs f t is part. less_describes w r xs f t s.keys s.values s.sorted part.order is (λ e. absurd (cc));
+pub open_erasure : (w : Window) (from to : Interval) (sorted : Sorted) (r : Window) → IsRearranged w false [] sorted r → IsOrderOf w sorted → (w.all ≡ true → (f t : ℕ) → f ≤ t → t ≤ length w.known → IsSingle from (pos f) → IsSingle to (pos t) → ⊥) → IsErasure w from to r
+open_erasure w from to sorted r s order open' = record {
+  describes = λ xs f t is part. less_describes w r xs f t s.keys s.values (λ e. order.ascends (sym s.order ∙ e)) part.order is
+      (λ e. let none = s.whole in absurd (cc));
   exact = λ xs f t is a b l m. let n = zip_length IsOnly w.known xs is.known in absurd (open' is.all f t l (omega arith) a b);
-  order = s.order;
+  order = λ o. s.order ∙ order.kept o;
   keys = s.keys;
   values = s.values;
-  ints = less_ints w r s.keys s.values (λ is. rw known tt);
+  ints = less_ints w r s.keys s.values (λ is. rw s.items tt);
 }

@@ -1,11 +1,10 @@
 -- Closed lists and windows, each with what is so of it.
-use Rattle.std.proofs.Common.{◌≡◌, ℕ, zero, suc, ◌<◌, ℤ, pos, ◌≤ℤ◌, ◌<ℤ◌, true, false, List, [], ◌∷◌, length, get_or, refl, sym, ap, subst, ◌∙◌, arith}
+use Rattle.std.proofs.Common.{◌≡◌, ℕ, zero, suc, ℤ, pos, ◌≤ℤ◌, true, false, List, [], ◌∷◌, get_or, refl, sym, ap, subst, ◌∙◌, arith}
 use Rattle.std.proofs.lemmas.Int.{ints}
-use Rattle.sl_intervals.specs.declared.interval.Interval.{Interval}
 use Rattle.sl_cells.specs.declared.item.Item.{Item}
 use Rattle.sl_cells.specs.declared.sorted.Sorted.TheVariants.{Yes, Unknown}
 use Rattle.sl_cells.specs.Orders.{IsAscending, IsPartitionedBelow, IsPartitionedAbove, with_key, IsSortOf}
-use Rattle.sl_cells.specs.Windows.{Window, ShowsOrder, HoldsItem, IsOnly, Describes, Knows}
+use Rattle.sl_cells.specs.Windows.{Window, HoldsItem, Describes, Knows}
 use Rattle.sl_cells.specs.Edits.{IsBetween}
 use Rattle.sl_cells.proofs.Sorts.{by_key, skips}
 
@@ -96,10 +95,13 @@ ordered = record { all = false; known = []; keys = record { low = pos 1; high = 
 ordered_describes_one_two_two : Describes ordered one_two_two
 ordered_describes_one_two_two = record {
   window = λ e. absurd (cc);
-  ranged =
-      (record { key = record { low = omega (arith, ints); high = omega (arith, ints) }; value = record { low = omega (arith, ints); high = omega (arith, ints) } },
-      (record { key = record { low = omega (arith, ints); high = omega (arith, ints) }; value = record { low = omega (arith, ints); high = omega (arith, ints) } },
-      (record { key = record { low = omega (arith, ints); high = omega (arith, ints) }; value = record { low = omega (arith, ints); high = omega (arith, ints) } }, tt)));
+  ranged = (
+    record { key = record { low = omega (arith, ints); high = omega (arith, ints) }; value = record { low = omega (arith, ints); high = omega (arith, ints) } },
+    (
+      record { key = record { low = omega (arith, ints); high = omega (arith, ints) }; value = record { low = omega (arith, ints); high = omega (arith, ints) } },
+      (record { key = record { low = omega (arith, ints); high = omega (arith, ints) }; value = record { low = omega (arith, ints); high = omega (arith, ints) } }, tt),
+    ),
+  );
   order = λ e. one_two_two_ascend;
 }
 
@@ -113,9 +115,9 @@ ordered_describes_no_three_one d = three_one_do_not_ascend (d.order refl)
 two_fits_behind : IsBetween (one_or_two ∷ []) 1 1 (record { low = pos 2; high = pos 2 })
 two_fits_behind = record { behind = behind; before = λ d l. absurd (omega arith) }
   where
-  behind : (k : ℕ) (d : Item) → suc k ≡ 1 → (get_or (one_or_two ∷ []) k d).key.high ≤ℤ pos 2
-  behind zero d e = omega (arith, ints)
-  behind (suc k) d e = absurd (omega arith)
+    behind : (k : ℕ) (d : Item) → suc k ≡ 1 → (get_or (one_or_two ∷ []) k d).key.high ≤ℤ pos 2
+    behind zero d e = omega (arith, ints)
+    behind (suc k) d e = absurd (omega arith)
 
 two_does_not_fit_before : IsBetween (one_or_two ∷ []) 0 0 (record { low = pos 2; high = pos 2 }) → ⊥
 two_does_not_fit_before b = let h = b.before one_or_two (omega arith) in omega (arith, ints)

@@ -1,16 +1,15 @@
 -- Joins and widenings.
-use Rattle.std.proofs.Common.{◌≡◌, ℕ, zero, suc, ◌+◌, ◌<◌, ◌≤◌, ℤ, ◌≤ℤ◌, ◌<ℤ◌, true, false, List, [], ◌∷◌, ◌++◌, length, get_or, refl, sym, ap, subst, ◌∙◌, arith, ◌⊎◌, inl, inr, ⊎_elim}
+use Rattle.std.proofs.Common.{◌≡◌, ℕ, zero, suc, ◌+◌, ◌<◌, ℤ, ◌≤ℤ◌, true, false, List, [], ◌∷◌, ◌++◌, length, get_or, refl, sym, subst, ◌∙◌, arith, ◌⊎◌, inl, inr, ⊎_elim}
 use Rattle.std.proofs.lemmas.Int.{ints}
 use Rattle.std.proofs.lemmas.Bool.{cases_eq}
 use Rattle.std.specs.List.{AllByRecursion, AllZip}
 use Rattle.sl_base.specs.declared.scalar.Scalar.TheVariants as kind
 use Rattle.sl_intervals.specs.declared.interval.Interval.{Interval}
-use Rattle.sl_intervals.specs.Intervals.{Holds, IsSingle, LiesIn, IsEmpty, IsFilled, IsAtLeast, IsAtMost}
+use Rattle.sl_intervals.specs.Intervals.{Holds, IsSingle, LiesIn, IsEmpty}
 use Rattle.sl_cells.specs.declared.item.Item.{Item}
-use Rattle.sl_cells.specs.declared.sorted.Sorted.{Sorted}
-use Rattle.sl_cells.specs.declared.sorted.Sorted.TheVariants.{Yes, Unknown}
+use Rattle.sl_cells.specs.declared.sorted.Sorted.TheVariants.{Yes}
 use Rattle.sl_cells.specs.Orders.{IsAscending}
-use Rattle.sl_cells.specs.Windows.{Window, ranges, HoldsItem, IsOnly, Describes, Knows, KnowsOrder, IsInt, IsOfInts}
+use Rattle.sl_cells.specs.Windows.{Window, ranges, HoldsItem, IsOnly, Describes, KnowsOrder, IsInt}
 use Rattle.sl_cells.specs.Ranges.{IsUnion, IsWidening, IsItemwise}
 use Rattle.sl_cells.specs.Joins.{IsJoin}
 use Rattle.sl_cells.proofs.Each.{each_weaker}
@@ -122,34 +121,37 @@ module _ (R : Interval → Interval → Interval → Type 0) (mix : IsMixing R) 
     };
   }
     where
-    holds : (k : ℕ) (d : Item) → k < length w.known → (x : ℤ × ℤ) → (HoldsItem (get_or w.known k d) x ⊎ HoldsItem (get_or v.known k d) x) → HoldsItem (get_or r.known k d) x
-    holds k d l x h = ⊎_elim
-        (λ (i : HoldsItem (get_or w.known k d) x). record { key = mix.holds _ _ _ x.0 (each.keys k d l) (inl i.key); value = mix.holds _ _ _ x.1 (each.values k d l) (inl i.value) })
-        (λ (i : HoldsItem (get_or v.known k d) x). record { key = mix.holds _ _ _ x.0 (each.keys k d l) (inr i.key); value = mix.holds _ _ _ x.1 (each.values k d l) (inr i.value) })
-        h
-    only : (xs : List (ℤ × ℤ)) → AllZip IsOnly w.known xs → AllZip IsOnly v.known xs → AllZip IsOnly r.known xs
-    only xs z y =
-        let n = zip_length IsOnly w.known xs z in let many = each.many in
-        zip_from_places IsOnly r.known xs (omega arith) (λ k d e l.
-        let a = zip_at IsOnly w.known xs k d e z (omega arith) in
-        let b = zip_at IsOnly v.known xs k d e y (omega arith) in
-        record { key = mix.single _ _ _ _ (each.keys k d (omega arith)) a.key b.key; value = mix.single _ _ _ _ (each.values k d (omega arith)) a.value b.value })
-    first' : (xs : List (ℤ × ℤ)) → Describes w xs → Describes r xs
-    first' xs d =
-        let z = d.window wall in let n = zip_length HoldsItem w.known xs z in let many = each.many in
-        record {
-          window = λ e. zip_from_places HoldsItem r.known xs (omega arith) (λ k i x l. holds k i (omega arith) (get_or xs k x) (inl (zip_at HoldsItem w.known xs k i x z (omega arith))));
-          ranged = first_ranged xs d.ranged;
-          order = λ e. left xs e d;
-        }
-    second' : (xs : List (ℤ × ℤ)) → Describes v xs → Describes r xs
-    second' xs d =
-        let z = d.window vall in let n = zip_length HoldsItem v.known xs z in let many = each.many in
-        record {
-          window = λ e. zip_from_places HoldsItem r.known xs (omega arith) (λ k i x l. holds k i (omega arith) (get_or xs k x) (inr (zip_at HoldsItem v.known xs k i x z (omega arith))));
-          ranged = second_ranged xs d.ranged;
-          order = λ e. right xs e d;
-        }
+      holds : (k : ℕ) (d : Item) → k < length w.known → (x : ℤ × ℤ) → (HoldsItem (get_or w.known k d) x ⊎ HoldsItem (get_or v.known k d) x) → HoldsItem (get_or r.known k d) x
+      holds k d l x h = ⊎_elim
+          (λ (i : HoldsItem (get_or w.known k d) x). record { key = mix.holds _ _ _ x.0 (each.keys k d l) (inl i.key); value = mix.holds _ _ _ x.1 (each.values k d l) (inl i.value) })
+          (λ (i : HoldsItem (get_or v.known k d) x). record { key = mix.holds _ _ _ x.0 (each.keys k d l) (inr i.key); value = mix.holds _ _ _ x.1 (each.values k d l) (inr i.value) })
+          h
+
+      only : (xs : List (ℤ × ℤ)) → AllZip IsOnly w.known xs → AllZip IsOnly v.known xs → AllZip IsOnly r.known xs
+      only xs z y =
+          let n = zip_length IsOnly w.known xs z in let many = each.many in
+          zip_from_places IsOnly r.known xs (omega arith) (λ k d e l.
+          let a = zip_at IsOnly w.known xs k d e z (omega arith) in
+          let b = zip_at IsOnly v.known xs k d e y (omega arith) in
+          record { key = mix.single _ _ _ _ (each.keys k d (omega arith)) a.key b.key; value = mix.single _ _ _ _ (each.values k d (omega arith)) a.value b.value })
+
+      first' : (xs : List (ℤ × ℤ)) → Describes w xs → Describes r xs
+      first' xs d =
+          let z = d.window wall in let n = zip_length HoldsItem w.known xs z in let many = each.many in
+          record {
+            window = λ e. zip_from_places HoldsItem r.known xs (omega arith) (λ k i x l. holds k i (omega arith) (get_or xs k x) (inl (zip_at HoldsItem w.known xs k i x z (omega arith))));
+            ranged = first_ranged xs d.ranged;
+            order = λ e. left xs e d;
+          }
+
+      second' : (xs : List (ℤ × ℤ)) → Describes v xs → Describes r xs
+      second' xs d =
+          let z = d.window vall in let n = zip_length HoldsItem v.known xs z in let many = each.many in
+          record {
+            window = λ e. zip_from_places HoldsItem r.known xs (omega arith) (λ k i x l. holds k i (omega arith) (get_or xs k x) (inr (zip_at HoldsItem v.known xs k i x z (omega arith))));
+            ranged = second_ranged xs d.ranged;
+            order = λ e. right xs e d;
+          }
 
 -- ranges under other names
 pub mixed : (R : Interval → Interval → Interval → Type 0) (a b c x y z : Interval) → a ≡ x → b ≡ y → c ≡ z → R a b c → R x y z

@@ -1,11 +1,11 @@
 -- What is known of one element.
-use Rattle.std.proofs.Common.{◌≡◌, ℕ, zero, suc, ◌<◌, ◌≤◌, ℤ, pos, true, List, [], ◌∷◌, length, get_or, Some, sym, ap, subst, ◌∙◌, arith}
+use Rattle.std.proofs.Common.{◌≡◌, ℕ, zero, suc, ◌<◌, pos, true, List, [], ◌∷◌, length, get_or, Some, sym, ap, subst, ◌∙◌, arith}
 use Rattle.std.proofs.lemmas.Int.{ints}
-use Rattle.std.specs.List.{AllByRecursion, AllZip, slice_get}
+use Rattle.std.specs.List.{AllByRecursion, slice_get}
 use Rattle.sl_intervals.specs.declared.interval.Interval.{Interval}
 use Rattle.sl_intervals.specs.Intervals.{Holds, IsSingle}
 use Rattle.sl_cells.specs.declared.item.Item.{Item}
-use Rattle.sl_cells.specs.Windows.{Window, ranges, HoldsItem, IsOnly, Describes, Knows, IsInt, IsOfInts}
+use Rattle.sl_cells.specs.Windows.{Window, ranges, HoldsItem, IsOnly, IsInt}
 use Rattle.sl_cells.specs.Reads.{IsRead}
 use Rattle.sl_cells.proofs.Zips.{zip_at, zip_length}
 

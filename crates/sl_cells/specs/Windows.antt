@@ -10,7 +10,7 @@ use Rattle.sl_intervals.specs.declared.interval.Interval.{Interval}
 use Rattle.sl_intervals.specs.Intervals.{Holds, IsSingle, LiesIn}
 use Rattle.sl_cells.specs.declared.item.Item.{Item}
 use Rattle.sl_cells.specs.declared.sorted.Sorted.{Sorted}
-use Rattle.sl_cells.specs.declared.sorted.Sorted.TheVariants.{Yes, Unknown}
+use Rattle.sl_cells.specs.declared.sorted.Sorted.TheVariants.{Yes}
 use Rattle.sl_cells.specs.Orders.{IsAscending}
 
 -- whether all elements are known, the known ones, the ranges of all keys and values, and whether the keys ascend

@@ -11,11 +11,19 @@ pub struct Item {
 }
 
 impl Default for Item {
-    /// The item that no element has.
+    /// What is known of no element.
     fn default() -> Item {
         Item {
-            key: Interval { low: 1, high: 0 },
-            value: Interval { low: 1, high: 0 },
+            key: nothing(),
+            value: nothing(),
         }
     }
+}
+
+/// No numbers.
+pub fn nothing() -> Interval
+    ensures low { result.low ≡ pos 1 }
+    ensures high { result.high ≡ pos 0 }
+{
+    Interval { low: 1, high: 0 }
 }

@@ -30,7 +30,11 @@ fn ascending(x: Interval, a: Interval, b: Interval) -> Sure
     if a.high <= b.low {
         return Sure::Always;
     }
-    if b.high < a.low { Sure::Never } else { Sure::May }
+    if b.high < a.low {
+        Sure::Never
+    } else {
+        Sure::May
+    }
 }
 
 /// Whether keys in `b` may stand behind keys in `a` where those below a member of `x` come first.
@@ -49,7 +53,11 @@ fn below(x: Interval, a: Interval, b: Interval) -> Sure
     if a.low < x.high {
         return Sure::May;
     }
-    if b.high < x.low { Sure::Never } else { Sure::May }
+    if b.high < x.low {
+        Sure::Never
+    } else {
+        Sure::May
+    }
 }
 
 /// Whether keys in `b` may stand behind keys in `a` where those not above a member of `x` come first.
@@ -68,7 +76,11 @@ fn above(x: Interval, a: Interval, b: Interval) -> Sure
     if a.low <= x.high {
         return Sure::May;
     }
-    if b.high <= x.low { Sure::Never } else { Sure::May }
+    if b.high <= x.low {
+        Sure::Never
+    } else {
+        Sure::May
+    }
 }
 
 /// Whether keys in `b` may stand behind keys in `a`.
@@ -112,7 +124,10 @@ pub fn weigh(order: Order, x: Interval, items: &[Item]) -> Sure
 {
     let mut sure = Sure::Always;
     for i in 1..items.len() {
-        sure = both(sure, compare(order, x, key_at(items, i - 1), key_at(items, i)));
+        sure = both(
+            sure,
+            compare(order, x, key_at(items, i - 1), key_at(items, i)),
+        );
     }
     sure
 }

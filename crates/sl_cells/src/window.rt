@@ -32,7 +32,12 @@ pub fn copied<const N: usize>(items: &[Item]) -> ArrayVec<Item, N>
 }
 
 /// One between the first ones up to a place and those from another on.
-pub fn with_item<const N: usize>(items: &[Item], front: usize, back: usize, item: Item) -> ArrayVec<Item, N>
+pub fn with_item<const N: usize>(
+    items: &[Item],
+    front: usize,
+    back: usize,
+    item: Item,
+) -> ArrayVec<Item, N>
     requires order { front ≤ back }
     requires inside { back ≤ length items.now }
     requires room { length items.now + front < N + back }
@@ -114,7 +119,11 @@ pub fn widen_items(a: Item, b: Item, constants: &[i128]) -> Item
 }
 
 /// The elements of one list, widened by those of another of one length.
-pub fn widened<const N: usize>(firsts: &[Item], seconds: &[Item], constants: &[i128]) -> ArrayVec<Item, N>
+pub fn widened<const N: usize>(
+    firsts: &[Item],
+    seconds: &[Item],
+    constants: &[i128],
+) -> ArrayVec<Item, N>
     requires first { AllByRecursion IsInt firsts.now }
     requires second { AllByRecursion IsInt seconds.now }
     requires same { length firsts.now ≡ length seconds.now }

@@ -1,5 +1,5 @@
 -- What is known once an element comes to others, or some of them go.
-use Rattle.std.specs.Prelude.{◌≡◌, ℕ, ◌+◌, ◌<◌, ◌≤◌, Bool, true, false, List, [], ◌∷◌, ◌++◌, length, take, drop, ℤ}
+use Rattle.std.specs.Prelude.{◌≡◌, ℕ, ◌+◌, ◌<◌, Bool, true, false, List, [], ◌∷◌, ◌++◌, length, take, drop, ℤ}
 use Rattle.sl_cells.specs.declared.item.Item.{Item}
 use Rattle.sl_cells.specs.declared.sorted.Sorted.{Sorted}
 use Rattle.sl_cells.specs.declared.sorted.Sorted.TheVariants.{Yes}
@@ -25,13 +25,6 @@ pub record IsSpread (w : Window) (item : Item) (sorted : Sorted) (r : Window) : 
   pub keys : IsUnion w.keys item.key r.keys
   pub values : IsUnion w.values item.value r.values
   pub order : r.sorted ≡ sorted
-
--- r has the ranges of w, and its order
-pub record IsLess (w r : Window) : Type 0 where
-  pub keys : r.keys ≡ w.keys
-  pub values : r.values ≡ w.values
-  pub order : KnowsOrder w → r.sorted ≡ Yes
-  pub sorted : r.sorted ≡ Yes → (xs : List (ℤ × ℤ)) → Describes w xs → IsAscending xs
 
 -- r has these known elements and this order, in the ranges of w
 pub record IsRearranged (w : Window) (all : Bool) (known : List Item) (sorted : Sorted) (r : Window) : Type 0 where

@@ -1,7 +1,6 @@
 use Rattle.std.proofs.Common.{◌≡◌, false, ⊎_elim, arith}
 use Rattle.std.proofs.lemmas.Int.{ints}
 use Rattle.std.proofs.lemmas.Bool.{and_cases}
-use Rattle.sl_intervals.specs.declared.interval.Interval.{Interval}
 use Rattle.sl_cells.specs.declared.item.Item.{Item}
 use Rattle.sl_cells.proofs.order.fits_between.Goals as goal
 

@@ -1,6 +1,5 @@
-use Rattle.std.proofs.Common.{◌≡◌, ◌≢◌, ◌⊎◌, ℕ, suc, ◌-◌, ◌<◌, length, ⊎_elim, arith}
-use Rattle.std.specs.List.{AllZip}
-use Rattle.sl_intervals.specs.declared.sure.Sure.TheVariants.{Never, May, Always}
+use Rattle.std.proofs.Common.{◌≡◌, ◌-◌, ⊎_elim, arith}
+use Rattle.sl_intervals.specs.declared.sure.Sure.TheVariants.{Never}
 use Rattle.sl_cells.specs.Windows.{HoldsItem}
 use Rattle.sl_cells.specs.Means.Comparisons.{Stands}
 use Rattle.sl_cells.proofs.Zips.{zip_length}
@@ -23,8 +22,12 @@ loop-i-preserved c =
           (λ new. near_always c.args.order c.args.x items c.loop-i.i _ _ _ c.compare.ensures near (c.both-sure.ensures.second yes) z ys x zip k d e new);
       never = λ no. ⊎_elim
           (λ (old : c.loop-i.sure ≡ Never). c.loop-i.invariant.never old)
-          (λ (new : c.compare.result ≡ Never). (c.loop-i.i - 1, omega arith, λ z ys d e x zip.
-          near_never c.args.order c.args.x items c.loop-i.i _ _ _ c.compare.ensures near new z ys d e x zip (c.loop-i.i - 1) (omega arith)))
+          (λ (new : c.compare.result ≡ Never). (
+            c.loop-i.i - 1,
+            omega arith,
+            λ z ys d e x zip.
+                near_never c.args.order c.args.x items c.loop-i.i _ _ _ c.compare.ensures near new z ys d e x zip (c.loop-i.i - 1) (omega arith),
+          ))
           (c.both-sure.ensures.never no);
       exact = λ z ys x zip. c.both-sure.ensures.exact
           (c.loop-i.invariant.exact z ys x zip)

@@ -1,4 +1,4 @@
-use Rattle.std.proofs.Common.{◌≡◌, ◌≢◌, ◌+◌, ◌<◌, ◌≤◌, ℕ, ℤ, suc, List, length, get_or}
+use Rattle.std.proofs.Common.{◌≡◌, ◌≢◌, ◌<◌, ℕ, ℤ, suc, List, length, get_or}
 use Rattle.std.specs.List.{AllZip}
 use Rattle.sl_intervals.specs.declared.sure.Sure.TheVariants.{Never, May, Always}
 use Rattle.sl_intervals.specs.Intervals.{Holds, IsSingle}

@@ -1,4 +1,4 @@
-use Rattle.std.proofs.Common.{◌≡◌, ap, ◌∙◌, sym, subst, length, arith}
+use Rattle.std.proofs.Common.{◌≡◌, sym, subst, length, arith}
 use Rattle.sl_cells.specs.declared.item.Item.{Item}
 use Rattle.sl_cells.specs.Ranges.{IsWidening}
 use Rattle.sl_cells.specs.Windows.{IsInt}
@@ -26,7 +26,7 @@ loop-i-preserved g c =
       same = c.loop-i.invariant.same;
       many = omega arith;
       keys = rw c.push.ensures.items (push_made (IsWidening c.args.constants.now) (λ (i : Item). i.key) c.args.firsts.now c.args.seconds.now c.loop-i.known.items
-      c.loop-i.i _ _ _ many c.item_at.ensures c.item_at-in-loop-i.ensures c.widen_items.ensures.key c.loop-i.invariant.keys);
+          c.loop-i.i _ _ _ many c.item_at.ensures c.item_at-in-loop-i.ensures c.widen_items.ensures.key c.loop-i.invariant.keys);
       values = rw c.push.ensures.items (push_made (IsWidening c.args.constants.now) (λ (i : Item). i.value) c.args.firsts.now c.args.seconds.now c.loop-i.known.items
-      c.loop-i.i _ _ _ many c.item_at.ensures c.item_at-in-loop-i.ensures c.widen_items.ensures.value c.loop-i.invariant.values);
+          c.loop-i.i _ _ _ many c.item_at.ensures c.item_at-in-loop-i.ensures c.widen_items.ensures.value c.loop-i.invariant.values);
     }
