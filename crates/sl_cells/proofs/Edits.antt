@@ -1,5 +1,6 @@
 -- Insertions, erasures and writes.
-use Rattle.std.proofs.Common.{◌≡◌, ℕ, suc, ◌<◌, ◌≤◌, ℤ, pos, ◌≤ℤ◌, true, false, List, [], ◌∷◌, length, take, drop, sym, ap, subst, ◌∙◌, arith, inl, inr, ⊎_elim}
+use Rattle.std.proofs.Common.{◌≡◌, ℕ, suc, ◌<◌, ◌≤◌, ◌++◌, ℤ, pos, ◌≤ℤ◌, true, false, List, [], ◌∷◌, length, take, drop, sym, ap, subst, ◌∙◌, arith, inl}
+use Rattle.std.proofs.Common.{inr, ⊎_elim}
 use Rattle.std.proofs.lemmas.Bool.{cases_Bool}
 use Rattle.std.proofs.lemmas.List.{set_split}
 use Rattle.std.specs.List.{AllByRecursion, AllZip, insert, remove_range}
@@ -40,7 +41,9 @@ union_int a b r u p q = from_ends r (u.least (lowest kind.Int) (low_end a p) (lo
 put_ints : (n : ℕ) (w : Window) (front back : ℕ) (item : Item) (r : Window) → IsPut n w front back item r → IsOfInts w → IsInt item → IsOfInts r
 put_ints n w front back item r put is h = record {
   known = ⊎_elim
-      (λ (e : r.all ≡ true). rw (put.window e) (each_append IsInt (take front w.known) (item ∷ drop back w.known) (each_take IsInt front w.known is.known) (h, each_drop IsInt back w.known is.known)))
+      (λ (e : r.all ≡ true). rw (put.window e)
+      (each_append IsInt (take front w.known) (item ∷ drop back w.known) (each_take IsInt front w.known is.known)
+      (h, each_drop IsInt back w.known is.known)))
       (λ (e : r.all ≡ false). rw (put.none e) tt)
       (cases_Bool r.all);
   keys = union_int w.keys item.key r.keys put.keys is.keys h.key;
@@ -48,7 +51,8 @@ put_ints n w front back item r put is h = record {
 }
 
 -- an element at a known place
-pub put_insertion : (n : ℕ) (w : Window) (at : Interval) (p : ℕ) (item : Item) (r : Window) → IsPut n w p p item r → w.all ≡ true → IsSingle at (pos p) → p ≤ length w.known → IsInsertion n w at item r
+pub put_insertion : (n : ℕ) (w : Window) (at : Interval) (p : ℕ) (item : Item) (r : Window) → IsPut n w p p item r → w.all ≡ true
+    → IsSingle at (pos p) → p ≤ length w.known → IsInsertion n w at item r
 put_insertion n w at p item r put all s l = record {
   describes = λ xs x k is h m i.
       let same : p ≡ k = same_place at p k s h in
@@ -57,48 +61,66 @@ put_insertion n w at p item r put all s l = record {
       let same : p ≡ k = one_place at p k s h in
       let len = zip_length IsOnly w.known xs is.known in
       subst (λ j. Knows r (insert xs j x)) same (put_knows n w p p item r put (omega arith) l (omega arith) xs x is i);
+  window = λ k a h m room.
+      let same : p ≡ k = one_place at p k s h in
+      let whole = put.room (omega arith) in
+      (whole, put.window whole ∙ ap (λ j. insert w.known j item) same);
   order = λ k a sorted h m b. let same : p ≡ k = one_place at p k s h in put.order sorted (subst (λ j. IsBetween w.known j j item.key) (sym same) b);
   keys = put.keys;
   values = put.values;
   ints = put_ints n w p p item r put;
 }
 
-pub put_write : (n : ℕ) (w : Window) (at : Interval) (p : ℕ) (item : Item) (r : Window) → IsPut n w p (suc p) item r → length w.known ≤ n → w.all ≡ true → IsSingle at (pos p) → p < length w.known → IsWrite w at item r
+pub put_write : (n : ℕ) (w : Window) (at : Interval) (p : ℕ) (item : Item) (r : Window) → IsPut n w p (suc p) item r → length w.known ≤ n
+    → w.all ≡ true → IsSingle at (pos p) → p < length w.known → IsWrite w at item r
 put_write n w at p item r put room all s l = record {
   describes = λ xs x k is h m i.
       let same : p ≡ k = same_place at p k s h in
-      subst (Describes r) (ap (λ j. between_list xs j (suc j) x) same ∙ sym (set_split xs k x m)) (put_describes n w p (suc p) item r put all (omega arith) (omega arith) xs x is i);
+      subst (Describes r) (ap (λ j. between_list xs j (suc j) x) same ∙ sym (set_split xs k x m))
+      (put_describes n w p (suc p) item r put all (omega arith) (omega arith) xs x is i);
   exact = λ xs x k is h m i.
       let same : p ≡ k = one_place at p k s h in
-      subst (Knows r) (ap (λ j. between_list xs j (suc j) x) same ∙ sym (set_split xs k x m)) (put_knows n w p (suc p) item r put (omega arith) (omega arith) (omega arith) xs x is i);
-  order = λ k a sorted h m b. let same : p ≡ k = one_place at p k s h in put.order sorted (subst (λ j. IsBetween w.known j (suc j) item.key) (sym same) b);
+      subst (Knows r) (ap (λ j. between_list xs j (suc j) x) same ∙ sym (set_split xs k x m))
+      (put_knows n w p (suc p) item r put (omega arith) (omega arith) (omega arith) xs x is i);
+  window = λ k a h m.
+      let same : p ≡ k = one_place at p k s h in
+      let whole = put.room (omega arith) in
+      (whole, put.window whole ∙ ap (λ j. take j w.known ++ item ∷ drop (suc j) w.known) same ∙ sym (set_split w.known k item m));
+  order = λ k a sorted h m b. let same : p ≡ k = one_place at p k s h in put.order sorted
+      (subst (λ j. IsBetween w.known j (suc j) item.key) (sym same) b);
   keys = put.keys;
   values = put.values;
   ints = put_ints n w p (suc p) item r put;
 }
 
 -- an element at an unknown place
-pub spread_ints : (w r : Window) (item : Item) → r.known ≡ [] → IsUnion w.keys item.key r.keys → IsUnion w.values item.value r.values → IsOfInts w → IsInt item → IsOfInts r
+pub spread_ints : (w r : Window) (item : Item) → r.known ≡ [] → IsUnion w.keys item.key r.keys → IsUnion w.values item.value r.values → IsOfInts w
+    → IsInt item → IsOfInts r
 spread_ints w r item none k v is h = record {
   known = rw none tt;
   keys = union_int w.keys item.key r.keys k is.keys h.key;
   values = union_int w.values item.value r.values v is.values h.value;
 }
 
-pub spread_insertion : (n : ℕ) (w : Window) (at : Interval) (item : Item) (r : Window) → IsSpread w item Unknown r → (w.all ≡ true → (p : ℕ) → p ≤ length w.known → IsSingle at (pos p) → ⊥) → IsInsertion n w at item r
+pub spread_insertion : (n : ℕ) (w : Window) (at : Interval) (item : Item) (r : Window) → IsSpread w item Unknown r
+    → (w.all ≡ true → (p : ℕ) → p ≤ length w.known → IsSingle at (pos p) → ⊥) → IsInsertion n w at item r
 spread_insertion n w at item r s open' = record {
   describes = λ xs x k is h m i. spread_describes w r item s.all s.order s.keys s.values xs x k k is i;
   exact = λ xs x k is h m room i. let n = zip_length IsOnly w.known xs is.known in absurd (open' is.all k (omega arith) h);
+  window = λ k a h m room. absurd (open' a k m h);
   order = λ k a sorted h m b. absurd (open' a k m h);
   keys = s.keys;
   values = s.values;
   ints = spread_ints w r item s.none s.keys s.values;
 }
 
-pub spread_write : (w : Window) (at : Interval) (item : Item) (r : Window) → IsSpread w item Unknown r → (w.all ≡ true → (p : ℕ) → p < length w.known → IsSingle at (pos p) → ⊥) → IsWrite w at item r
+pub spread_write : (w : Window) (at : Interval) (item : Item) (r : Window) → IsSpread w item Unknown r
+    → (w.all ≡ true → (p : ℕ) → p < length w.known → IsSingle at (pos p) → ⊥) → IsWrite w at item r
 spread_write w at item r s open' = record {
-  describes = λ xs x k is h m i. subst (Describes r) (sym (set_split xs k x m)) (spread_describes w r item s.all s.order s.keys s.values xs x k (suc k) is i);
+  describes = λ xs x k is h m i. subst (Describes r) (sym (set_split xs k x m))
+      (spread_describes w r item s.all s.order s.keys s.values xs x k (suc k) is i);
   exact = λ xs x k is h m i. let n = zip_length IsOnly w.known xs is.known in absurd (open' is.all k (omega arith) h);
+  window = λ k a h m. absurd (open' a k m h);
   order = λ k a sorted h m b. absurd (open' a k m h);
   keys = s.keys;
   values = s.values;
@@ -111,10 +133,13 @@ pub record IsOrderOf (w : Window) (sorted : Sorted) : Type 0 where
   pub kept : KnowsOrder w → sorted ≡ Yes
 
 -- without a stretch: between known places, and between unknown ones
-less_describes : (w r : Window) (xs : List (ℤ × ℤ)) (f t : ℕ) → r.keys ≡ w.keys → r.values ≡ w.values → (r.sorted ≡ Yes → (ys : List (ℤ × ℤ)) → Describes w ys → IsAscending ys) → f ≤ t → Describes w xs → (r.all ≡ true → AllZip HoldsItem r.known (remove_range xs f t)) → Describes r (remove_range xs f t)
+less_describes : (w r : Window) (xs : List (ℤ × ℤ)) (f t : ℕ) → r.keys ≡ w.keys → r.values ≡ w.values
+    → (r.sorted ≡ Yes → (ys : List (ℤ × ℤ)) → Describes w ys → IsAscending ys) → f ≤ t → Describes w xs
+    → (r.all ≡ true → AllZip HoldsItem r.known (remove_range xs f t)) → Describes r (remove_range xs f t)
 less_describes w r xs f t k v order l is zip = record {
   window = zip;
-  ranged = subst (λ (i : Item). AllByRecursion (HoldsItem i) (remove_range xs f t)) (sym (same_ranges w r k v)) (each_cut (HoldsItem (ranges w)) f t xs is.ranged);
+  ranged = subst (λ (i : Item). AllByRecursion (HoldsItem i) (remove_range xs f t)) (sym (same_ranges w r k v))
+      (each_cut (HoldsItem (ranges w)) f t xs is.ranged);
   order = λ e. ordered_cut (λ p q. p ≤ℤ q) f t xs l (order e xs is);
 }
   where
@@ -124,7 +149,9 @@ less_describes w r xs f t k v order l is zip = record {
 less_ints : (w r : Window) → r.keys ≡ w.keys → r.values ≡ w.values → (IsOfInts w → AllByRecursion IsInt r.known) → IsOfInts w → IsOfInts r
 less_ints w r k v known is = record { known = known is; keys = rw k is.keys; values = rw v is.values }
 
-pub known_erasure : (w : Window) (from to : Interval) (f t : ℕ) (sorted : Sorted) (r : Window) → IsRearranged w true (remove_range w.known f t) sorted r → IsOrderOf w sorted → w.all ≡ true → IsSingle from (pos f) → IsSingle to (pos t) → IsErasure w from to r
+pub known_erasure : (w : Window) (from to : Interval) (f t : ℕ) (sorted : Sorted) (r : Window)
+    → IsRearranged w true (remove_range w.known f t) sorted r → IsOrderOf w sorted → w.all ≡ true → IsSingle from (pos f) → IsSingle to (pos t)
+    → IsErasure w from to r
 known_erasure w from to f t sorted r s order all a b =
     let place = λ (g u : ℕ) (p : f ≡ g) (q : t ≡ u) (xs : List (ℤ × ℤ)). ap (λ j. remove_range xs j t) p ∙ ap (λ j. remove_range xs g j) q in
     record {
@@ -141,6 +168,10 @@ known_erasure w from to f t sorted r s order all a b =
             all = s.whole;
             known = rw s.items (zip_cut IsOnly f t w.known xs is.known);
           });
+      window = λ g u e h i l m.
+          let p : f ≡ g = one_place from f g a h in
+          let q : t ≡ u = one_place to t u b i in
+          (s.whole, s.items ∙ ap (λ j. remove_range w.known j t) p ∙ ap (λ j. remove_range w.known g j) q);
       order = λ o. s.order ∙ order.kept o;
       keys = s.keys;
       values = s.values;
@@ -151,11 +182,13 @@ known_erasure w from to f t sorted r s order all a b =
     cut xs l is = less_describes w r xs f t s.keys s.values (λ e. order.ascends (sym s.order ∙ e)) l is
         (λ e. rw s.items (zip_cut HoldsItem f t w.known xs (is.window all)))
 
-pub open_erasure : (w : Window) (from to : Interval) (sorted : Sorted) (r : Window) → IsRearranged w false [] sorted r → IsOrderOf w sorted → (w.all ≡ true → (f t : ℕ) → f ≤ t → t ≤ length w.known → IsSingle from (pos f) → IsSingle to (pos t) → ⊥) → IsErasure w from to r
+pub open_erasure : (w : Window) (from to : Interval) (sorted : Sorted) (r : Window) → IsRearranged w false [] sorted r → IsOrderOf w sorted
+    → (w.all ≡ true → (f t : ℕ) → f ≤ t → t ≤ length w.known → IsSingle from (pos f) → IsSingle to (pos t) → ⊥) → IsErasure w from to r
 open_erasure w from to sorted r s order open' = record {
   describes = λ xs f t is part. less_describes w r xs f t s.keys s.values (λ e. order.ascends (sym s.order ∙ e)) part.order is
       (λ e. let none = s.whole in absurd (cc));
   exact = λ xs f t is a b l m. let n = zip_length IsOnly w.known xs is.known in absurd (open' is.all f t l (omega arith) a b);
+  window = λ f t e a b l m. absurd (open' e f t l m a b);
   order = λ o. s.order ∙ order.kept o;
   keys = s.keys;
   values = s.values;

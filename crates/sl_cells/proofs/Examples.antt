@@ -55,7 +55,8 @@ sorted_two_one_two = record {
       (λ e. subst (λ y. with_key y one_two_two ≡ with_key y two_one_two) e refl)
       (λ m.
       (skips z (pos 1, pos 0) ((pos 2, pos 7) ∷ (pos 2, pos 5) ∷ []) n ∙ skips z (pos 2, pos 7) ((pos 2, pos 5) ∷ []) m ∙ skips z (pos 2, pos 5) [] m)
-      ∙ sym (skips z (pos 2, pos 7) ((pos 1, pos 0) ∷ (pos 2, pos 5) ∷ []) m ∙ skips z (pos 1, pos 0) ((pos 2, pos 5) ∷ []) n ∙ skips z (pos 2, pos 5) [] m)));
+      ∙ sym (skips z (pos 2, pos 7) ((pos 1, pos 0) ∷ (pos 2, pos 5) ∷ []) m ∙ skips z (pos 1, pos 0) ((pos 2, pos 5) ∷ []) n ∙ skips z
+      (pos 2, pos 5) [] m)));
 }
 
 -- the value of the first element
@@ -76,7 +77,10 @@ single = record { all = true; known = one_or_two ∷ []; keys = one_or_two.key; 
 single_describes_two : Describes single ((pos 2, pos 0) ∷ [])
 single_describes_two =
     let h : HoldsItem one_or_two (pos 2, pos 0) =
-    record { key = record { low = omega (arith, ints); high = omega (arith, ints) }; value = record { low = omega (arith, ints); high = omega (arith, ints) } } in
+    record {
+      key = record { low = omega (arith, ints); high = omega (arith, ints) };
+      value = record { low = omega (arith, ints); high = omega (arith, ints) };
+    } in
     record { window = λ e. (h, tt); ranged = (h, tt); order = λ e. absurd (cc) }
 
 single_describes_no_three : Describes single ((pos 3, pos 0) ∷ []) → ⊥
@@ -96,10 +100,22 @@ ordered_describes_one_two_two : Describes ordered one_two_two
 ordered_describes_one_two_two = record {
   window = λ e. absurd (cc);
   ranged = (
-    record { key = record { low = omega (arith, ints); high = omega (arith, ints) }; value = record { low = omega (arith, ints); high = omega (arith, ints) } },
+    record {
+      key = record { low = omega (arith, ints); high = omega (arith, ints) };
+      value = record { low = omega (arith, ints); high = omega (arith, ints) };
+    },
     (
-      record { key = record { low = omega (arith, ints); high = omega (arith, ints) }; value = record { low = omega (arith, ints); high = omega (arith, ints) } },
-      (record { key = record { low = omega (arith, ints); high = omega (arith, ints) }; value = record { low = omega (arith, ints); high = omega (arith, ints) } }, tt),
+      record {
+        key = record { low = omega (arith, ints); high = omega (arith, ints) };
+        value = record { low = omega (arith, ints); high = omega (arith, ints) };
+      },
+      (
+        record {
+          key = record { low = omega (arith, ints); high = omega (arith, ints) };
+          value = record { low = omega (arith, ints); high = omega (arith, ints) };
+        },
+        tt,
+      ),
     ),
   );
   order = λ e. one_two_two_ascend;

@@ -28,16 +28,21 @@ module _ (R : ℤ → ℤ → Type 0) where
   ordered_cut zero t xs l o = ordered_drop t xs o
   ordered_cut (suc f) zero xs l o = absurd (omega arith)
   ordered_cut (suc f) (suc t) [] l o = tt
-  ordered_cut (suc f) (suc t) (x ∷ xs) l o =
-      (each_append (λ (y : ℤ × ℤ). R x.0 y.0) (take f xs) (drop t xs) (each_take (λ (y : ℤ × ℤ). R x.0 y.0) f xs o.0) (each_drop (λ (y : ℤ × ℤ). R x.0 y.0) t xs o.0), ordered_cut f t xs (omega arith) o.1)
+  ordered_cut (suc f) (suc t) (x ∷ xs) l o = (
+    each_append (λ (y : ℤ × ℤ). R x.0 y.0) (take f xs) (drop t xs) (each_take (λ (y : ℤ × ℤ). R x.0 y.0) f xs o.0)
+        (each_drop (λ (y : ℤ × ℤ). R x.0 y.0) t xs o.0),
+    ordered_cut f t xs (omega arith) o.1,
+  )
 
   -- two lists in a row, of which each element of the first leads the second
-  pub ordered_append : (xs ys : List (ℤ × ℤ)) → IsOrdered R xs → IsOrdered R ys → AllByRecursion (λ (x : ℤ × ℤ). Leads x ys) xs → IsOrdered R (xs ++ ys)
+  pub ordered_append : (xs ys : List (ℤ × ℤ)) → IsOrdered R xs → IsOrdered R ys → AllByRecursion (λ (x : ℤ × ℤ). Leads x ys) xs
+      → IsOrdered R (xs ++ ys)
   ordered_append [] ys o p l = p
   ordered_append (x ∷ xs) ys o p l = (each_append (λ (y : ℤ × ℤ). R x.0 y.0) xs ys o.0 l.0, ordered_append xs ys o.1 p l.1)
 
   -- neighbours decide
-  pub from_neighbours : ((p q r : ℤ) → R p q → R q r → R p r) → (xs : List (ℤ × ℤ)) → ((k : ℕ) (d e : ℤ × ℤ) → suc k < length xs → R (get_or xs k d).0 (get_or xs (suc k) e).0) → IsOrdered R xs
+  pub from_neighbours : ((p q r : ℤ) → R p q → R q r → R p r) → (xs : List (ℤ × ℤ))
+      → ((k : ℕ) (d e : ℤ × ℤ) → suc k < length xs → R (get_or xs k d).0 (get_or xs (suc k) e).0) → IsOrdered R xs
   from_neighbours then [] near = tt
   from_neighbours then (x ∷ []) near = (tt, tt)
   from_neighbours then (x ∷ y ∷ ys) near =
@@ -53,7 +58,10 @@ module _ (R : ℤ → ℤ → Type 0) where
 
 pub ordered_weaker : (R S : ℤ → ℤ → Type 0) → ((p q : ℤ) → R p q → S p q) → (xs : List (ℤ × ℤ)) → IsOrdered R xs → IsOrdered S xs
 ordered_weaker R S w [] o = tt
-ordered_weaker R S w (x ∷ xs) o = (each_weaker (λ (y : ℤ × ℤ). R x.0 y.0) (λ (y : ℤ × ℤ). S x.0 y.0) (λ y h. w x.0 y.0 h) xs o.0, ordered_weaker R S w xs o.1)
+ordered_weaker R S w (x ∷ xs) o = (
+  each_weaker (λ (y : ℤ × ℤ). R x.0 y.0) (λ (y : ℤ × ℤ). S x.0 y.0) (λ y h. w x.0 y.0 h) xs o.0,
+  ordered_weaker R S w xs o.1,
+)
 
 -- each order is transitive
 pub stands_then : (order : Order) (z p q r : ℤ) → Stands order z p q → Stands order z q r → Stands order z p r

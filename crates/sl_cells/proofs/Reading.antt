@@ -1,6 +1,7 @@
 -- What is known of one element.
 use Rattle.std.proofs.Common.{◌≡◌, ℕ, zero, suc, ◌<◌, pos, true, List, [], ◌∷◌, length, get_or, Some, sym, ap, subst, ◌∙◌, arith}
 use Rattle.std.proofs.lemmas.Int.{ints}
+use Rattle.std.proofs.lemmas.List.{get_or_default}
 use Rattle.std.specs.List.{AllByRecursion, slice_get}
 use Rattle.sl_intervals.specs.declared.interval.Interval.{Interval}
 use Rattle.sl_intervals.specs.Intervals.{Holds, IsSingle}
@@ -33,7 +34,8 @@ pub one_place : (at : Interval) (p k : ℕ) → IsSingle at (pos p) → IsSingle
 one_place at p k s h = omega (arith, ints)
 
 -- the known element at the place
-pub read_known : (w : Window) (at : Interval) (p : ℕ) (d : Item) → w.all ≡ true → IsSingle at (pos p) → p < length w.known → IsRead w at (get_or w.known p d)
+pub read_known : (w : Window) (at : Interval) (p : ℕ) (d : Item) → w.all ≡ true → IsSingle at (pos p) → p < length w.known
+    → IsRead w at (get_or w.known p d)
 read_known w at p d all s l = record {
   holds = λ xs x k is h e.
       let same : k ≡ p = sym (same_place at p k s h) in
@@ -43,6 +45,9 @@ read_known w at p d all s l = record {
       let same : k ≡ p = sym (one_place at p k s h) in
       let r = zip_at IsOnly w.known xs p d x is.known l in
       subst (IsOnly (get_or w.known p d)) (ap (λ n. get_or xs n x) (sym same) ∙ get_same xs k x x e) r;
+  known = λ k e a h m.
+      let same : p ≡ k = one_place at p k s h in
+      ap (λ n. get_or w.known n d) same ∙ get_or_default w.known k d e m;
   ints = λ is. each_at IsInt w.known p d is.known l;
 }
 
@@ -54,5 +59,6 @@ read_ranges w at none = record {
       let l = get_inside xs k x e in
       let n = zip_length IsOnly w.known xs is.known in
       absurd (none is.all k (omega arith) h);
+  known = λ k d a h l. absurd (none a k l h);
   ints = λ is. record { key = is.keys; value = is.values };
 }

@@ -28,4 +28,5 @@ pub record IsWidening (constants : List ℤ) (a b r : Interval) : Type 0 where
 pub record IsItemwise (R : Interval → Interval → Interval → Type 0) (firsts seconds rs : List Item) : Type 0 where
   pub many : length rs ≡ length firsts
   pub keys : (k : ℕ) (d : Item) → k < length firsts → R (slice_index_or firsts k d).key (slice_index_or seconds k d).key (slice_index_or rs k d).key
-  pub values : (k : ℕ) (d : Item) → k < length firsts → R (slice_index_or firsts k d).value (slice_index_or seconds k d).value (slice_index_or rs k d).value
+  pub values : (k : ℕ) (d : Item) → k < length firsts
+      → R (slice_index_or firsts k d).value (slice_index_or seconds k d).value (slice_index_or rs k d).value

@@ -1,5 +1,6 @@
 //! Orders of elements, asked of known elements.
-ghost use Rattle.std.specs.Prelude.{◌≡◌, ◌≢◌, ◌⊎◌, ◌<◌, ◌≤◌, ◌≤ℤ◌, ◌<ℤ◌, ℕ, ℤ, suc, true, false, List, length, slice_index_or, slice_range};
+ghost use Rattle.std.specs.Prelude.{◌≡◌, ◌≢◌, ◌⊎◌, ◌<◌, ◌≤◌, ◌≤ℤ◌, ◌<ℤ◌, ℕ, ℤ, suc, true, false, List, length};
+ghost use Rattle.std.specs.Prelude.{slice_index_or, slice_range};
 ghost use Rattle.std.specs.List.{AllZip};
 ghost use Rattle.sl_intervals.specs.declared.sure.Sure.{Sure};
 ghost use Rattle.sl_cells.specs.declared.item.Item.{Item};

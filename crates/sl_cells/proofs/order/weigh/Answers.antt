@@ -19,7 +19,8 @@ loop-i-preserved c =
     record {
       always = λ yes z ys x zip k d e l. below_next k c.loop-i.i l
           (λ old. c.loop-i.invariant.always (c.both-sure.ensures.first yes) z ys x zip k d e old)
-          (λ new. near_always c.args.order c.args.x items c.loop-i.i _ _ _ c.compare.ensures near (c.both-sure.ensures.second yes) z ys x zip k d e new);
+          (λ new. near_always c.args.order c.args.x items c.loop-i.i _ _ _ c.compare.ensures near
+          (c.both-sure.ensures.second yes) z ys x zip k d e new);
       never = λ no. ⊎_elim
           (λ (old : c.loop-i.sure ≡ Never). c.loop-i.invariant.never old)
           (λ (new : c.compare.result ≡ Never). (
@@ -32,7 +33,8 @@ loop-i-preserved c =
       exact = λ z ys x zip. c.both-sure.ensures.exact
           (c.loop-i.invariant.exact z ys x zip)
           (near_exact c.args.order c.args.x items c.loop-i.i _ _ _ c.compare.ensures near z ys x zip);
-      shown = λ shows. c.both-sure.ensures.always (c.loop-i.invariant.shown shows) (near_shown c.args.order c.args.x items c.loop-i.i _ _ _ c.compare.ensures near shows);
+      shown = λ shows. c.both-sure.ensures.always (c.loop-i.invariant.shown shows)
+          (near_shown c.args.order c.args.x items c.loop-i.i _ _ _ c.compare.ensures near shows);
     }
 
 pub returns : goal.returns
