@@ -1,5 +1,5 @@
 -- What remainders of members lie between, and what they give in a type.
-use Rattle.std.proofs.Common.{◌≡◌, ◌≢◌, inl, inr, ⊎_elim, ℤ, pos, neg_ℤ, ◌-ℤ◌, ◌≤ℤ◌, ◌<ℤ◌, int_rem, subst, arith}
+use Rattle.std.proofs.Common.{◌≡◌, ◌≢◌, ◌⊎◌, inl, inr, ⊎_elim, ℤ, pos, neg_ℤ, ◌-ℤ◌, ◌≤ℤ◌, ◌<ℤ◌, int_rem, subst, arith}
 use Rattle.std.proofs.lemmas.Int.{ints, clamps, by_lt_z}
 use Rattle.std.specs.Int.{int_min, int_max}
 use Rattle.sl_base.specs.declared.scalar.Scalar.{Scalar}
@@ -15,6 +15,20 @@ use Rattle.sl_intervals.specs.Means.Dividing.{IsSingleDivision, IsDivisionVerdic
 use Rattle.sl_intervals.proofs.Divided.{has_zero}
 use Rattle.sl_intervals.proofs.Divisions.{are_of, good}
 use Rattle.sl_intervals.proofs.Truncation.{is_near}
+
+-- where there are no members
+pub empty_remainders : (a b r : Interval) → (IsEmpty a ⊎ IsEmpty b) → IsEmpty r → IsRemainders a b r
+empty_remainders a b r none e = record {
+  holds = λ x y p q some.
+      let pl = p.low in let ph = p.high in let ql = q.low in let qh = q.high in
+      absurd (⊎_elim (λ (h : IsEmpty a). omega (arith, ints)) (λ (h : IsEmpty b). omega (arith, ints)) none);
+  not_negative = λ h. inl e;
+  not_positive = λ h. inl e;
+  low = λ h. inl e;
+  high = λ h. inl e;
+  low_near = λ z h k. inl e;
+  high_near = λ z h k. inl e;
+}
 
 -- where 0 is the only divisor
 pub no_remainders : (a b r : Interval) → pos 0 ≤ℤ b.low → b.high ≤ℤ pos 0 → IsEmpty r → IsRemainders a b r

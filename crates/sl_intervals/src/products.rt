@@ -16,7 +16,7 @@ use crate::settling::clamped;
 use crate::sure::Sure;
 use sl_base::Scalar;
 
-/// The products of the first low end, from the least to the greatest.
+/// The products of the low end of the first, from the least to the greatest.
 fn products_of_low(a: Interval, b: Interval) -> Interval
     requires { HaveProducts a b }
     ensures low { result.low ≡ int_min (a.low *ℤ b.low) (a.low *ℤ b.high) }
@@ -28,7 +28,7 @@ fn products_of_low(a: Interval, b: Interval) -> Interval
     )
 }
 
-/// The products of the first high end, from the least to the greatest.
+/// The products of the high end of the first, from the least to the greatest.
 fn products_of_high(a: Interval, b: Interval) -> Interval
     requires { HaveProducts a b }
     ensures low { result.low ≡ int_min (a.high *ℤ b.low) (a.high *ℤ b.high) }
