@@ -1,6 +1,6 @@
 -- Each condition, effect and declaration that uses what is in scope keeps a state good, and it keeps the level, or a declaration
 -- adds what it declares.
-use Rattle.std.proofs.Common.{◌≡◌, ℕ, ◌+◌, ◌<◌, ◌≤◌, true, not, List, [], ◌∷◌, ◌++◌, Option, Some, None, length, map, length-append, refl, ap, sym}
+use Rattle.std.proofs.Common.{◌≡◌, ℕ, ◌+◌, ◌<◌, ◌≤◌, true, not, List, [], ◌∷◌, ◌++◌, Option, Some, None, length, length-append, refl, ap, sym}
 use Rattle.std.proofs.Common.{◌∙◌, subst, unwrap_or, arith}
 use Rattle.std.specs.Prelude.{ℤ, slice_get}
 use Rattle.std.specs.Fmt.{signed_decimal}
@@ -108,8 +108,11 @@ refer_used m j k r sound stands = by_place (slice_get m.conts j) refl
     at_none e = sym (unwrap_or-slice_get m.conts j (not_one m)) ∙ ap (λ o. unwrap_or o (not_one m)) e
 
     by_place : (o : Option Cont) → slice_get m.conts j ≡ o → r < m.fresh
-    by_place (Some c) e = sound.refers_apart.used j k r (refers c, get_map refers m.conts j c e,
-        subst (λ (x : Cont). slice_get (refers x) k ≡ Some r) (get_or_from_slice_get m.conts j c (not_one m) e) stands)
+    by_place (Some c) e = sound.refers_apart.used j k r (
+      refers c,
+      get_map refers m.conts j c e,
+      subst (λ (x : Cont). slice_get (refers x) k ≡ Some r) (get_or_from_slice_get m.conts j c (not_one m) e) stands,
+    )
     by_place None e = absurd (let q : None ≡ Some r = subst (λ (x : Cont). slice_get (refers x) k ≡ Some r) (at_none e) stands in cc)
 
 module _ (shape : Shape) (L : Level) (n : ℕ) (Q : State → Type 0) where

@@ -17,13 +17,13 @@ use Rattle.sl_model.specs.Containers.{Part, cont_at, refers}
 use Rattle.sl_model.specs.Ends.{End, OutOfSteps}
 use Rattle.sl_model.specs.State.{reference_to, State, scalar_of, cont_of, iter_of, set_scalar_at, set_iterator_at, new_scalar, new_pointer}
 use Rattle.sl_model.specs.State.{new_iterator, new_container, leave}
-use Rattle.sl_model.specs.Eval.{Out, World, use_library, read_at, write_at, name_place}
+use Rattle.sl_model.specs.Eval.{Out, World, use_library, write_at, name_place}
 use Rattle.sl_model.specs.Exec.{Flow, Next, Broke, Continued, Returned, Over, Meaning, tick, and_then, flow_of, on_number, on_stamp, either_way}
 use Rattle.sl_model.specs.Exec.{scoped, read_all, tested, wrote, printed, print_all, is_name, affect, bound_to, binds_to, declared, begun, ended}
 use Rattle.sl_model.specs.Exec.{after_body, counted, turns, loop, asks, hidden_at, takes_number, takes_element, over_range, range_start, exec}
 use Rattle.sl_model.specs.Exec.{exec_all}
 use Rattle.sl_model.proofs.Longer.{more, LaterOut, gives, stops, out, SameWorld, set_scalar_at-more, write_at-more, answered-later, read_at-later}
-use Rattle.sl_model.proofs.Longer.{use_library-later, then_eval-later, then_number-later, then_call-later, eval-later, reach-later, eval_all-later}
+use Rattle.sl_model.proofs.Longer.{use_library-later, then_number-later, then_call-later, eval-later, reach-later, eval_all-later}
 
 -- where a statement goes, and where it goes with k steps more: to the same, or the run is out of steps
 pub data LaterFlow (k : ℕ) : Flow → Flow → Type 0 where

@@ -29,7 +29,7 @@ use Rattle.sl_model.specs.Values.{Value, nothing, number, iterator, element_at}
 use Rattle.sl_model.specs.Ends.{End, OutOfSteps, NoMeaning}
 use Rattle.sl_model.specs.State.{reference_to, State, scalar_of, cont_of, iter_of, set_scalar_at, set_iterator_at, stamp_held, new_scalar}
 use Rattle.sl_model.specs.State.{new_pointer, new_iterator, new_container, leave}
-use Rattle.sl_model.specs.Eval.{Out, Gives, Stops, World, then_eval, then_number, then_call, eval, reach, eval_all, use_library, read_at, write_at}
+use Rattle.sl_model.specs.Eval.{Out, Gives, Stops, World, then_number, then_call, eval, reach, eval_all, use_library, read_at, write_at}
 use Rattle.sl_model.specs.Eval.{answered, name_place}
 
 -- where a statement goes
