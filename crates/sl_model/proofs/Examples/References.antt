@@ -11,7 +11,8 @@ use Rattle.sl_syntax.specs.declared.typed.element.ElementPart.TheVariants as par
 use Rattle.sl_syntax.specs.declared.typed.element.Taken.TheVariants as taken
 use Rattle.sl_syntax.specs.declared.typed.operator.Operator.TheVariants as operators
 use Rattle.sl_syntax.specs.declared.typed.step.Fix.TheVariants.{Prefix}
-use Rattle.sl_syntax.specs.Typed.{Left, literal, held, iterator, move, call, scalar, reference, element, none, with, text, number, prints, evaluates}
+use Rattle.sl_syntax.specs.declared.typed.step.Step.TheVariants.{Up}
+use Rattle.sl_syntax.specs.Typed.{Left, literal, held, iterator, increment, move, call, scalar, reference, element, none, with, text, number, prints, evaluates}
 use Rattle.sl_syntax.specs.Typed.{assigns, updates, set_iterator, binds_reference, makes, block, declares, range_for, does, Stmt, Typed}
 use Rattle.sl_specs.specs.declared.rows.sequences.TheConstants as sequences
 use Rattle.sl_specs.specs.declared.rows.associative.TheConstants as keyed
@@ -147,6 +148,30 @@ reserved_set = alone (Some 2) (
 reserved_set_traps : run reserved_set [] [] 100 ≡ finish (Trapped (trap (at 8 16) 1 (codes "*") 1 (Some 1) (Some 1))) (codes "1") 0
 unfolding digits table
 reserved_set_traps = refl
+
+-- int main() {
+--   std::map<int, int> m;
+--   m[1] = 10;
+--   int& r = m[1];
+--   m[0] = 4;
+--   ++r;
+--   std::cout << m[1];
+-- }
+abbrev pub under_key : Typed
+under_key = alone (Some 4) (
+    empty_one f.Map keyed.MAP_CONSTRUCTOR (at 2 3) ∷
+    does (assigns (under (at 3 4) 0 (pos 1)) (literal t.Int (pos 10))) ∷
+    declares (binds_reference (head (callees.Row keyed.MAP_SUBSCRIPT) (at 4 13) (Some 1) (Some 0) (Some 0 ∷ None ∷ []))
+    (with (literal t.Int (pos 1)) none)) ∷
+    does (assigns (under (at 5 4) 2 (pos 0)) (literal t.Int (pos 4))) ∷
+    does (evaluates (increment Up Prefix t.Int (at 6 3) (reference 0 (at 6 5) 1 part.Whole))) ∷
+    does (prints (number (held (under (at 7 17) 3 (pos 1))) ∷ [])) ∷
+    []) (at 8 1) (at 3 4 ∷ at 4 13 ∷ at 5 4 ∷ at 7 17 ∷ at 8 1 ∷ []) (codes "m" ∷ codes "r" ∷ [])
+
+-- the element is another one in order then, and its value goes up
+under_key_prints : run under_key [] [] 100 ≡ finish (Done (pos 0)) (codes "11") 0
+unfolding digits table
+under_key_prints = refl
 
 -- int main() {
 --   std::map<int, int> m;
