@@ -10,7 +10,7 @@ pub mod Reads
 pub mod Numbers
 pub mod Faults
 pub mod Discarded
-pub mod Unbuilt
+pub mod References
 pub mod Told
 pub mod Rows
 pub mod Cleared

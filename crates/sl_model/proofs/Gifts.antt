@@ -25,7 +25,7 @@ use Rattle.sl_model.specs.Shapes.{HasShape, IsGiven, HasParts, shape_of_second}
 use Rattle.sl_model.specs.Shapes.{shape_of_result, AllSuit, containers_in}
 use Rattle.sl_model.proofs.After.{Leaves}
 use Rattle.sl_model.proofs.Growing.{grown}
-use Rattle.sl_model.proofs.Levels.{Level, Now, apart_from_stacks, memory-now, set_iterator-now, Above, now_above, above_less}
+use Rattle.sl_model.proofs.Levels.{Level, Now, held_used, apart_from_stacks, memory-now, set_iterator-now, Above, now_above, above_less}
 
 -- the stamps of a value are below n
 abbrev pub IsUsed : ℕ → Value → Type 0
@@ -123,8 +123,7 @@ now_again L n s h = record { good = h.good; level = h.level; later = omega arith
 -- the stamp of an iterator that is in scope was used
 pub stamp_used : (L : Level) (n : ℕ) (s : State) (x : ℕ) → x < length L.frame.iters → Now L n s → stamp_of s x < s.memory.fresh
 stamp_used L n s x low h = subst (λ (l : Level). x < length l.frame.iters → stamp_of s x < s.memory.fresh) h.level
-    (λ low. h.good.held (iter_of s x) (stamp_of s x)
-    (slice_get-get_or s.iters (iter_of s x) 0 (h.good.iters x (iter_of s x) (slice_get-get_or s.frame.iters x 0 low)))) low
+    (λ low. held_used s (iter_of s x) h.good (h.good.iters x (iter_of s x) (slice_get-get_or s.frame.iters x 0 low))) low
 
 module _ (L : Level) where
   -- what follows a value

@@ -1,29 +1,36 @@
 -- Each condition, effect and declaration that uses what is in scope keeps a state good, and it keeps the level, or a declaration
 -- adds what it declares.
-use Rattle.std.proofs.Common.{◌≡◌, ℕ, ◌+◌, ◌<◌, ◌≤◌, true, not, List, [], ◌∷◌, ◌++◌, Option, Some, None, length, length-append, refl, ap, sym, ◌∙◌}
-use Rattle.std.proofs.Common.{subst, arith}
-use Rattle.std.specs.Prelude.{ℤ}
+use Rattle.std.proofs.Common.{◌≡◌, ℕ, ◌+◌, ◌<◌, ◌≤◌, true, not, List, [], ◌∷◌, ◌++◌, Option, Some, None, length, length-append, refl, ap, sym}
+use Rattle.std.proofs.Common.{◌∙◌, subst, unwrap_or, arith}
+use Rattle.std.specs.Prelude.{ℤ, slice_get}
 use Rattle.std.specs.Fmt.{signed_decimal}
+use Rattle.std.proofs.lemmas.Option.{get_or_from_slice_get, unwrap_or-slice_get}
 use Rattle.sl_base.specs.declared.place.Place.{Place}
 use Rattle.sl_base.specs.declared.scalar.Scalar.{Scalar}
+use Rattle.sl_base.specs.declared.form.Form.TheVariants as f
 use Rattle.sl_syntax.specs.declared.operator.Arithmetic.{Arithmetic}
 use Rattle.sl_model.specs.Numbers.{is_zero, converted, operated}
 use Rattle.sl_syntax.specs.declared.typed.head.Head.{Head}
 use Rattle.sl_syntax.specs.Typed.{Expr, Left, Cond, read, not_read, test, always, Printed, text, endline, number as printed_number, Effect, reads}
 use Rattle.sl_syntax.specs.Typed.{prints, evaluates, assigns, updates, moves_to, Declaration, unset_scalar, set_scalar, set_iterator, binds_reference}
-use Rattle.sl_syntax.specs.Typed.{makes, First, no_first, declares_first, does_first}
-use Rattle.sl_model.specs.Values.{Value, LibOut, trapped, thrown, faulted, gives, unbuilt}
-use Rattle.sl_model.specs.State.{State, iter_of, set_iterator_at, new_scalar, new_iterator, new_container}
+use Rattle.sl_syntax.specs.Typed.{makes, element, First, no_first, declares_first, does_first}
+use Rattle.sl_model.specs.Containers.{Cont, Memory, Part, cont_at, refers}
+use Rattle.sl_model.specs.Values.{Value, nothing, number, iterator, pair, two, scalar_at, container_at, element_at, LibOut, trapped, thrown}
+use Rattle.sl_model.specs.Values.{faulted, gives, unbuilt}
+use Rattle.sl_model.specs.State.{reference_to, State, iter_of, set_iterator_at, new_scalar, new_iterator, new_container}
 use Rattle.sl_model.specs.Eval.{Outs, AllGive, OneStops, World, eval, reach, eval_all, then_number, then_call, read_at, write_at, answered}
 use Rattle.sl_model.specs.Eval.{settle_call, site_of, use_library, name_place}
-use Rattle.sl_model.specs.Exec.{Next, Meaning, flow_of, on_number, on_stamp, tested, printed, print_all, wrote, is_scalar_name, affect, declared}
-use Rattle.sl_model.specs.Exec.{begun, ended}
-use Rattle.sl_model.specs.Shapes.{Shape, a_number, a_stamp, Gift, a_value, Signature, gift_of, gifts_of}
+use Rattle.sl_model.specs.Exec.{Next, Meaning, flow_of, on_number, on_stamp, tested, printed, print_all, wrote, is_name, affect, bound_to, binds_to}
+use Rattle.sl_model.specs.Exec.{declared, begun, ended}
+use Rattle.sl_model.specs.Good.{IsSound}
+use Rattle.sl_model.specs.Shapes.{Shape, a_number, a_stamp, an_element, Gift, a_value, Signature, gift_of, gifts_of}
 use Rattle.sl_model.specs.Scoped.{one_scalar, one_container, one_iterator, InExpr, InLeft, InCond, InPrinted, InPrint, InEffect, InDeclaration}
 use Rattle.sl_model.specs.Scoped.{with_declaration, InFirst, with_first, InLast}
+use Rattle.sl_model.proofs.Getting.{get_map}
 use Rattle.sl_model.proofs.Growing.{grown}
 use Rattle.sl_model.proofs.Levels.{Level, counts_of, Now, Above, apart_from_stacks, set_iterator-now, write-now, with_scalar, with_iterator}
-use Rattle.sl_model.proofs.Levels.{with_container, new_scalar-now, new_iterator-now, new_container-now, now_above}
+use Rattle.sl_model.proofs.Levels.{with_container, new_scalar-now, new_pointer-now, new_iterator-now, new_container-now, now_above, scalar_above}
+use Rattle.sl_model.proofs.Levels.{iterator_above}
 use Rattle.sl_model.proofs.Gifts.{KeepsGood, OwnKeepsGood, IsAnswer, Gave, OutAt, OutsAt, gift_of_left, at_then_number, at_answer, at_read}
 use Rattle.sl_model.proofs.Gifts.{gave_as}
 use Rattle.sl_model.proofs.GoodEval.{at_eval, at_reach, at_all}
@@ -71,34 +78,10 @@ counts_begun (does_first e) L = refl
 
 -- stacks that are as high as after a declaration are as high as before it
 pub declared_above : (d : Declaration) (L : Level) (n : ℕ) (s : State) → Above (level_declared d L) n s → Above L n s
-declared_above (unset_scalar ty) L n s h = record {
-  good = h.good;
-  scalars = let r : L.scalars + 1 ≤ length s.scalars = h.scalars in omega arith;
-  iters = h.iters;
-  conts = h.conts;
-  later = h.later;
-}
-declared_above (set_scalar ty a) L n s h = record {
-  good = h.good;
-  scalars = let r : L.scalars + 1 ≤ length s.scalars = h.scalars in omega arith;
-  iters = h.iters;
-  conts = h.conts;
-  later = h.later;
-}
-declared_above (set_iterator a) L n s h = record {
-  good = h.good;
-  scalars = h.scalars;
-  iters = let r : L.iters + 1 ≤ length s.iters = h.iters in omega arith;
-  conts = h.conts;
-  later = h.later;
-}
-declared_above (binds_reference hd ops) L n s h = record {
-  good = h.good;
-  scalars = h.scalars;
-  iters = let r : L.iters + 1 ≤ length s.iters = h.iters in omega arith;
-  conts = h.conts;
-  later = h.later;
-}
+declared_above (unset_scalar ty) L n s h = scalar_above L n s h
+declared_above (set_scalar ty a) L n s h = scalar_above L n s h
+declared_above (set_iterator a) L n s h = iterator_above L n s h
+declared_above (binds_reference hd ops) L n s h = iterator_above L n s h
 declared_above (makes form hd ops) L n s h = record {
   good = h.good;
   scalars = h.scalars;
@@ -112,6 +95,45 @@ pub begun_above : (f : First) (L : Level) (n : ℕ) (s : State) → Above (level
 begun_above no_first L n s h = h
 begun_above (declares_first d) L n s h = declared_above d L n s h
 begun_above (does_first e) L n s h = h
+
+-- the container that stands for one that isn't there
+abbrev not_one : Memory → Cont
+not_one m = record { form = f.Vector; cells = []; end = m.fresh; room = 0 }
+
+-- a refer that is found in a container was used
+refer_used : (m : Memory) (j k r : ℕ) → IsSound m → slice_get (refers (cont_at m j)) k ≡ Some r → r < m.fresh
+refer_used m j k r sound stands = by_place (slice_get m.conts j) refl
+  where
+    at_none : slice_get m.conts j ≡ None → cont_at m j ≡ not_one m
+    at_none e = sym (unwrap_or-slice_get m.conts j (not_one m)) ∙ ap (λ o. unwrap_or o (not_one m)) e
+
+    by_place : (o : Option Cont) → slice_get m.conts j ≡ o → r < m.fresh
+    by_place (Some c) e = sound.refers_apart.used j k r (
+      refers c,
+      get_map refers m.conts j c e,
+      subst (λ (x : Cont). slice_get (refers x) k ≡ Some r) (get_or_from_slice_get m.conts j c (not_one m) e) stands,
+    )
+    by_place None e = absurd (let q : None ≡ Some r = subst (λ (x : Cont). slice_get (refers x) k ≡ Some r) (at_none e) stands in cc)
+
+module _ (shape : Shape) (L : Level) (n : ℕ) (Q : State → Type 0) where
+  -- a reference comes into scope, where there is an element
+  at_bound_to : (at : Place) (part : Part) (refer : Option ℕ) (s : State) → ((r : ℕ) → refer ≡ Some r → r < s.memory.fresh) → Now L n s
+      → FlowIn shape L n (Now (with_iterator L) n) Q (bound_to at part refer s)
+  at_bound_to at part None s used h = now_above L n s h
+  at_bound_to at part (Some r) s used h = new_pointer-now L n (reference_to r part) s (used r refl) h
+
+  -- a reference to what a call gave comes into scope
+  pub at_binds : (at : Place) (v : Value) (s : State) → Gave L n (a_value an_element) v s
+      → FlowIn shape L n (Now (with_iterator L) n) Q (binds_to at v s)
+  at_binds at nothing s h = absurd h.given
+  at_binds at (number z) s h = absurd h.given
+  at_binds at (iterator x) s h = absurd h.given
+  at_binds at (pair x b) s h = absurd h.given
+  at_binds at (two x b) s h = absurd h.given
+  at_binds at (scalar_at l) s h = absurd h.given
+  at_binds at (container_at l) s h = absurd h.given
+  at_binds at (element_at j k part) s h = at_bound_to at part (slice_get (refers (cont_at s.memory j)) k) s
+      (λ r e. refer_used s.memory j k r h.now.good.sound e) h.now
 
 module _ (w : World) (g : Signature) (lib_keeps : KeepsGood g.shape g.makes w.lib) (own_keeps : OwnKeepsGood g w.own) (shape : Shape) (L : Level)
     (n : ℕ) where
@@ -191,7 +213,7 @@ module _ (w : World) (g : Signature) (lib_keeps : KeepsGood g.shape g.makes w.li
   pub at_affect : (e : Effect) (s : State) → InEffect g (counts_of L.frame) e → Now L n s → FlowIn shape L n (Now L n) (Now L n) (affect w e s)
   at_affect (reads xs) s i h = flow_reads shape L n (Now L n) (Now L n) xs (λ b. Next) (λ b s j. j) s h
   at_affect (prints ps) s i h = at_print ps s i h
-  at_affect (evaluates a) s i h = flow_either shape L n (Now L n) (Now L n) (is_scalar_name a) Next (λ s. flow_of (eval w a s) (λ v. Next))
+  at_affect (evaluates a) s i h = flow_either shape L n (Now L n) (Now L n) (is_name a) Next (λ s. flow_of (eval w a s) (λ v. Next))
       (λ s j. j) (λ s j. flow_of_value (Now L n) (Now L n) a (λ v. Next) s i (λ v s k. k.now) j) s h
   at_affect (assigns l a) s i h = flow_of_number (Now L n) (Now L n) a (λ z s. flow_of (reach w l s) (λ at_l s. Next (write_at at_l z s))) s i.0
       (λ z s j. flow_of_left l (λ at_l s. Next (write_at at_l z s)) s i.1 (λ v s k. write-now L n v z s k.now) j) h
@@ -226,7 +248,9 @@ module _ (w : World) (g : Signature) (lib_keeps : KeepsGood g.shape g.makes w.li
       (λ z s j. new_scalar-now L n ty (Some z) s j) h
   at_declared (set_iterator a) s i h = flow_of_stamp (Now (with_iterator L) n) (Now L n) a (λ stamp s. Next (new_iterator stamp s)) s i.0 i.1
       (λ x s low j. new_iterator-now L n x s low j) h
-  at_declared (binds_reference hd ops) s i h = absurd i
+  at_declared (binds_reference hd ops) s i h = flow_value shape L n (Now (with_iterator L) n) (Now L n) (a_value an_element)
+      (then_call (eval_all w ops s) (use_library w.lib hd)) (binds_to hd.place) (at_reach w g lib_keeps own_keeps L (element hd ops) n s i h)
+      (λ v s j. at_binds shape L n (Now L n) hd.place v s j)
   at_declared (makes form hd ops) s i h =
       subst (λ k. FlowIn shape L n (Now (with_container L) n) (Now L n)
       (flow_of (then_call (eval_all w ops s) (use_library w.lib hd)) (λ v t. Next (new_container k t)))) (ap (λ (l : Level). l.conts) (sym h.level))

@@ -6,21 +6,23 @@ use Rattle.sl_base.specs.declared.place.Place.{Place}
 use Rattle.sl_base.specs.declared.scalar.Scalar.{Scalar}
 use Rattle.sl_syntax.specs.declared.operator.Arithmetic.TheVariants as o
 use Rattle.sl_model.specs.Numbers.{is_zero, converted, operated, compared, truth}
+use Rattle.sl_syntax.specs.declared.typed.element.ElementPart.{ElementPart}
 use Rattle.sl_syntax.specs.declared.typed.head.Head.{Head}
 use Rattle.sl_syntax.specs.declared.typed.step.Fix.{Fix}
 use Rattle.sl_syntax.specs.declared.typed.step.Step.{Step}
 use Rattle.sl_syntax.specs.Typed.{Expr, literal, held, iterator as iterator_held, convert, negate, logical_not, logical_and, logical_or, arithmetic}
 use Rattle.sl_syntax.specs.Typed.{comparison, increment, move, call, own_call, first, second, container, handed_scalar, Left, scalar, reference}
 use Rattle.sl_syntax.specs.Typed.{element, Operands, none, with, Function}
+use Rattle.sl_model.specs.Containers.{Part, locate_refer}
 use Rattle.sl_model.specs.Values.{Value, number, iterator}
-use Rattle.sl_model.specs.State.{State, scalar_of, cont_of, iter_of, stamp_of}
+use Rattle.sl_model.specs.State.{Pointer, iterator_at, reference_to, State, scalar_of, cont_of, iter_of, pointer_at, stamp_of}
 use Rattle.sl_model.specs.Eval.{by_one, Out, Gives, World, then_eval, then_number, branch, answered, read_at, write_at, use_library, increased}
-use Rattle.sl_model.specs.Eval.{moved_to, chosen, eval, reach, eval_all, name_place}
+use Rattle.sl_model.specs.Eval.{moved_to, chosen, part_used, found_use, used, eval, reach, eval_all, name_place}
 use Rattle.sl_model.specs.Good.{AreApart}
 use Rattle.sl_model.specs.Shapes.{Shape, no_value, a_number, a_stamp, an_element, Gift, a_value, Signature, shape_of_result, gift_of, shape_of_second}
 use Rattle.sl_model.specs.Shapes.{gifts_of, AllSuit, containers_in}
 use Rattle.sl_model.specs.Scoped.{InExpr, InLeft, InOperands}
-use Rattle.sl_model.proofs.Levels.{Level, counts_of, Now, write-now}
+use Rattle.sl_model.proofs.Levels.{Level, counts_of, Now, now_above, write-now}
 use Rattle.sl_model.proofs.Gifts.{AllUsed, KeepsGood, OwnKeepsGood, OutAt, AllGave, OutsAt, gift_of_left, stamp_used, now_again, at_then}
 use Rattle.sl_model.proofs.Gifts.{at_then_number, at_call, at_rest, gave_number, at_answer, at_branch, at_read, gave_chosen, at_moved, at_first}
 use Rattle.sl_model.proofs.Gifts.{at_second, out_less, at_library}
@@ -74,6 +76,19 @@ module _ (w : World) (g : Signature) (lib_keeps : KeepsGood g.shape g.makes w.li
     where
       later : (t : State) → stamp_of s it < s.memory.fresh → s.memory.fresh ≤ t.memory.fresh → stamp_of s it < t.memory.fresh
       later t p q = omega arith
+
+  -- a use of a reference, where it stands or not
+  at_found : (at : Place) (name refer : ℕ) (part : Part) (place : Option (ℕ × ℕ)) (n : ℕ) (s : State) → Now L n s
+      → OutAt L n (a_value an_element) (found_use at name refer part place s)
+  at_found at name refer part (Some p) n s h = record { now = h; given = tt; used = tt }
+  at_found at name refer part None n s h = now_above L n s h
+
+  -- a use of what is held
+  at_used : (at : Place) (name : ℕ) (part : ElementPart) (p : Pointer) (n : ℕ) (s : State) → Now L n s
+      → OutAt L n (a_value an_element) (used at name part p s)
+  at_used at name part (reference_to refer bound) n s h =
+      at_found at name refer (part_used part bound) (locate_refer s.memory refer) n s h
+  at_used at name part (iterator_at stamp) n s h = now_above L n s h
 
   -- the second operand of a connective
   at_whether : (b : Expr) (n : ℕ) (s : State) → OutAt L n (gift_of g b) (eval w b s)
@@ -133,7 +148,7 @@ module _ (w : World) (g : Signature) (lib_keeps : KeepsGood g.shape g.makes w.li
     -- a left side
     pub at_reach : (l : Left) (n : ℕ) (s : State) → InLeft g (counts_of L.frame) l → Now L n s → OutAt L n (gift_of_left l) (reach w l s)
     at_reach (scalar x at) n s i h = record { now = h; given = scalar_there L n s x i h; used = tt }
-    at_reach (reference x at name part) n s i h = absurd i
+    at_reach (reference x at name part) n s i h = at_used at name part (pointer_at s (iter_of s x)) n s h
     at_reach (element hd ops) n s i h = at_call L n (gifts_of g ops) (a_value an_element) (eval_all w ops s) (use_library w.lib hd)
         (at_all ops n s i.1.1 h) (λ vs s j. as_shape an_element hd vs n s i.0 i.1.0.0 j.used j.now)
 

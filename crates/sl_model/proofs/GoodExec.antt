@@ -1,14 +1,15 @@
 -- Each statement that uses what is in scope keeps a state good, and it keeps the level, or a declaration adds what it declares.
 use Rattle.std.proofs.Common.{◌≡◌, ℕ, suc, ◌+◌, ◌<◌, Some, None, length, refl, ap, sym, subst, arith}
 use Rattle.std.specs.Prelude.{unwrap_or}
+use Rattle.sl_base.specs.declared.scalar.Scalar.TheVariants as t
 use Rattle.sl_syntax.specs.declared.typed.element.Taken.TheVariants as taken
 use Rattle.sl_syntax.specs.Typed.{Stmt, block, declares, choice, choice_else, while, for, range_for, break, continue, gives_back, does, Stmts}
 use Rattle.sl_syntax.specs.Typed.{no_more, followed}
 use Rattle.sl_model.specs.Values.{nothing}
-use Rattle.sl_model.specs.State.{State, cont_of}
+use Rattle.sl_model.specs.State.{State, cont_of, new_scalar}
 use Rattle.sl_model.specs.Eval.{World, eval}
 use Rattle.sl_model.specs.Exec.{Flow, Next, Broke, Continued, Returned, Meaning, and_then, flow_of, either_way, scoped, tested, affect, declared}
-use Rattle.sl_model.specs.Exec.{begun, ended, loop, over_range, range_start, exec, exec_all}
+use Rattle.sl_model.specs.Exec.{begun, ended, loop, takes_number, takes_element, over_range, range_start, exec, exec_all}
 use Rattle.sl_model.specs.Shapes.{Shape, a_value, Signature, HasShape, gift_of}
 use Rattle.sl_model.specs.Scoped.{Counts, InCond, InLast, IsPart, with_stmt, InStmt, InStmts}
 use Rattle.sl_model.proofs.Levels.{Level, counts_of, Now, Above, now_above}
@@ -17,7 +18,8 @@ use Rattle.sl_model.proofs.GoodEval.{at_eval}
 use Rattle.sl_model.proofs.GoodFlow.{FlowIn, widened, flow_then, flow_value, flow_either, flow_tick, flow_turns, flow_scope}
 use Rattle.sl_model.proofs.GoodEffects.{level_declared, level_begun, counts_declared, counts_begun, declared_above, begun_above, at_tested, at_affect}
 use Rattle.sl_model.proofs.GoodEffects.{at_declared, at_begun, at_ended}
-use Rattle.sl_model.proofs.GoodRange.{level_range, counts_range, range_above, range-now, at_range}
+use Rattle.sl_model.proofs.GoodRange.{level_hidden, level_range, counts_range, hidden_above, numbered_above, range-now, numbered-now}
+use Rattle.sl_model.proofs.GoodRange.{at_takes_number, at_takes_element, at_range}
 
 -- the level after a statement
 abbrev pub level_after : Stmt → Level → Level
@@ -87,11 +89,11 @@ module _ (w : World) (g : Signature) (lib_keeps : KeepsGood g.shape g.makes w.li
       (λ t l. above t (now_above M n t l)) above (k s j))
 
   -- the first hidden iterator of a range-for is in scope
-  first_hidden : (L : Level) (s : State) → Now L n s → length s.iters < (level_range L).iters
+  first_hidden : (L : Level) (s : State) → Now L n s → length s.iters < (level_hidden L).iters
   first_hidden L s h = let e : length s.iters ≡ L.iters = ap (λ (l : Level). l.iters) h.level in omega arith
 
   -- and so is the second one
-  second_hidden : (L : Level) (s : State) → Now L n s → length s.iters + 1 < (level_range L).iters
+  second_hidden : (L : Level) (s : State) → Now L n s → length s.iters + 1 < (level_hidden L).iters
   second_hidden L s h = let e : length s.iters ≡ L.iters = ap (λ (l : Level). l.iters) h.level in omega arith
 
   mutual
@@ -126,15 +128,28 @@ module _ (w : World) (g : Signature) (lib_keeps : KeepsGood g.shape g.makes w.li
         s l))) s h
     at_exec (range_for number taken.Value x at name a) L s i h =
         flow_tick shape L n (Now L n) (Now L n)
-        (λ s. scoped 0 s (over_range w at name (length s.iters) (length s.iters + 1) (length s.scalars) (exec w a) (range_start (cont_of s x) s)))
-        (λ s j. scope_from 0 s (over_range w at name (length s.iters) (length s.iters + 1) (length s.scalars) (exec w a)
-        (range_start (cont_of s x) s)) L (level_range L) (range_above L n) j
-        (at_range w g lib_keeps shape (level_range L) n at name (length s.iters) (length s.iters + 1) (length s.scalars) (exec w a)
+        (λ s. scoped 0 s (over_range w at name (length s.iters) (length s.iters + 1) (takes_number at (length s.scalars) (exec w a))
+        (new_scalar t.Int None (range_start (cont_of s x) s))))
+        (λ s j. scope_from 0 s (over_range w at name (length s.iters) (length s.iters + 1) (takes_number at (length s.scalars) (exec w a))
+        (new_scalar t.Int None (range_start (cont_of s x) s))) L (level_range taken.Value L) (numbered_above L n) j
+        (at_range w g lib_keeps shape (level_range taken.Value L) n at name (length s.iters) (length s.iters + 1) (takes_number at (length s.scalars) (exec w a))
         (first_hidden L s j) (second_hidden L s j) i.1.0
-        (λ s l. part_stays shape (level_range L) n a (exec w a s) i.1.1.0
-        (at_exec a (level_range L) s (subst (λ (c : Counts). InStmt g shape c a) (sym (counts_range L)) i.1.1.1) l))
+        (at_takes_number shape (level_range taken.Value L) n at (length s.scalars) (exec w a)
+        (λ s l. part_stays shape (level_range taken.Value L) n a (exec w a s) i.1.1.0
+        (at_exec a (level_range taken.Value L) s (subst (λ (c : Counts). InStmt g shape c a) (sym (counts_range taken.Value L)) i.1.1.1) l)))
+        (new_scalar t.Int None (range_start (cont_of s x) s)) (numbered-now L n x s i.0 j))) s h
+    at_exec (range_for number taken.Reference x at name a) L s i h =
+        flow_tick shape L n (Now L n) (Now L n)
+        (λ s. scoped 0 s (over_range w at name (length s.iters) (length s.iters + 1) (takes_element at (exec w a))
+        (range_start (cont_of s x) s)))
+        (λ s j. scope_from 0 s (over_range w at name (length s.iters) (length s.iters + 1) (takes_element at (exec w a))
+        (range_start (cont_of s x) s)) L (level_hidden L) (hidden_above L n) j
+        (at_range w g lib_keeps shape (level_hidden L) n at name (length s.iters) (length s.iters + 1) (takes_element at (exec w a))
+        (first_hidden L s j) (second_hidden L s j) i.1.0
+        (at_takes_element shape (level_hidden L) n at (exec w a)
+        (λ s l. part_stays shape (level_range taken.Reference L) n a (exec w a s) i.1.1.0
+        (at_exec a (level_range taken.Reference L) s (subst (λ (c : Counts). InStmt g shape c a) (sym (counts_range taken.Reference L)) i.1.1.1) l)))
         (range_start (cont_of s x) s) (range-now L n x s i.0 j))) s h
-    at_exec (range_for number taken.Reference x at name a) L s i h = absurd i
     at_exec break L s i h = flow_tick shape L n (Now L n) (Now L n) Broke (λ s j. j) s h
     at_exec continue L s i h = flow_tick shape L n (Now L n) (Now L n) Continued (λ s j. j) s h
     at_exec (gives_back None) L s i h =

@@ -6,7 +6,7 @@ use Rattle.sl_model.specs.Ends.{OutOfSteps}
 use Rattle.sl_model.specs.State.{State, scalar_of, set_scalar_at}
 use Rattle.sl_model.specs.Eval.{Out, Gives, Stops}
 use Rattle.sl_model.specs.Exec.{Flow, Next, Broke, Continued, Returned, Over, Meaning, tick, and_then, flow_of, on_number, on_stamp, either_way}
-use Rattle.sl_model.specs.Exec.{scoped, read_all, after_body, turns}
+use Rattle.sl_model.specs.Exec.{scoped, read_all, after_body, counted, turns}
 use Rattle.sl_model.specs.Shapes.{Shape, a_stamp, Gift, a_value, HasShape}
 use Rattle.sl_model.proofs.Levels.{Level, Now, Above, apart_from_stacks, set_scalar-now, leave-now, now_above}
 use Rattle.sl_model.proofs.Gifts.{IsUsed, Gave, OutAt}
@@ -114,18 +114,34 @@ module _ (shape : Shape) where
     abbrev pub Tests : (State → (Bool → Meaning) → Flow) → Type 0
     Tests check = (go : Bool → Meaning) → ((b : Bool) → Stays (go b)) → Stays (λ s. check s go)
 
+    -- a test is counted
+    counted-now : (s : State) → Now L n s → Now L n (counted s)
+    counted-now s h = record {
+      good = record {
+        sound = h.good.sound;
+        scalars = h.good.scalars;
+        iters = h.good.iters;
+        conts = h.good.conts;
+        apart = h.good.apart;
+        held = h.good.held;
+      };
+      level = h.level;
+      later = h.later;
+    }
+
     -- the turns of a loop, where its test, its body and its last part stay at the level
     pub flow_turns : (m : ℕ) (check : State → (Bool → Meaning) → Flow) (body last : Meaning) → Tests check → Stays body → Stays last
         → Stays (turns m check body last)
     flow_turns zero check body last p q r s h = now_above L n s h
     flow_turns (suc m) check body last p q r s h =
-        flow_tick (Now L n) (Now L n) (λ s. check s
+        flow_tick (Now L n) (Now L n) (λ s. check (counted s)
         (λ b. either_way b (λ s. after_body (body s) (λ s. and_then (last s) (turns m check body last))) Next))
-        (p (λ b. either_way b (λ s. after_body (body s) (λ s. and_then (last s) (turns m check body last))) Next)
+        (λ t j. p (λ b. either_way b (λ s. after_body (body s) (λ s. and_then (last s) (turns m check body last))) Next)
         (λ b. flow_either (Now L n) (Now L n) b (λ s. after_body (body s) (λ s. and_then (last s) (turns m check body last))) Next
         (λ s i. flow_body (Now L n) (body s) (λ s. and_then (last s) (turns m check body last)) (q s i)
         (λ s j. flow_then (Now L n) (Now L n) (Now L n) (last s) (turns m check body last) (r s j) (flow_turns m check body last p q r)))
-        (λ s i. i)))
+        (λ s i. i))
+        (counted t) (counted-now t j))
         s h
 
     -- a scope ends on each way out of it

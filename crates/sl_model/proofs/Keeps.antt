@@ -4,6 +4,7 @@ use Rattle.std.specs.Prelude.{ℤ, pos, slice_get, slice_set}
 use Rattle.sl_base.specs.declared.place.Place.{Place}
 use Rattle.sl_model.specs.Numbers.{Answer, value, fault, is_zero, converted, operated, compared, truth}
 use Rattle.sl_syntax.specs.declared.typed.callee.Callee.{Callee}
+use Rattle.sl_syntax.specs.declared.typed.element.ElementPart.{ElementPart}
 use Rattle.sl_syntax.specs.declared.typed.head.Head.{Head}
 use Rattle.sl_syntax.specs.declared.typed.step.Fix.{Fix}
 use Rattle.sl_syntax.specs.declared.typed.step.Step.{Step}
@@ -12,14 +13,14 @@ use Rattle.sl_syntax.specs.Typed.{comparison, increment, move, call, own_call, f
 use Rattle.sl_syntax.specs.Typed.{element, Operands, none, with}
 use Rattle.sl_base.specs.declared.scalar.Scalar.{Scalar}
 use Rattle.sl_syntax.specs.declared.operator.Arithmetic.TheVariants as o
-use Rattle.sl_model.specs.Containers.{Memory, Part, write_element}
+use Rattle.sl_model.specs.Containers.{Memory, Part, locate_refer, write_element}
 use Rattle.sl_model.specs.Values.{Value, nothing, number, iterator, pair, two, scalar_at, container_at, element_at, Args, LibOut, trapped}
 use Rattle.sl_model.specs.Values.{thrown, faulted}
 use Rattle.sl_model.specs.Values.{gives, unbuilt}
-use Rattle.sl_model.specs.State.{State, iter_of, stamp_of, set_scalar_at, scalar_value}
+use Rattle.sl_model.specs.State.{Pointer, iterator_at, reference_to, State, iter_of, pointer_at, stamp_of, set_scalar_at, scalar_value}
 use Rattle.sl_model.specs.Eval.{by_one, Out, Gives, Stops, Outs, AllGive, OneStops, World, then_eval, with_number, then_number, add_value, then_rest}
 use Rattle.sl_model.specs.Eval.{then_call, branch, answered, if_set, read_at, write_at, settle_call, use_library, increased, moved_to, chosen, eval}
-use Rattle.sl_model.specs.Eval.{reach, eval_all, name_place}
+use Rattle.sl_model.specs.Eval.{reach, eval_all, name_place, part_used, found_use, used}
 
 module _ (I : Memory → Type 0) where
   -- it holds of a library's answer
@@ -112,6 +113,17 @@ module _ (I : Memory → Type 0) where
   keeps_settle h vs (gives v m ps) s i j = j
   keeps_settle h vs unbuilt s i j = i
 
+  -- a use of a reference keeps it, where it stands or not
+  keeps_found : (at : Place) (name refer : ℕ) (part : Part) (place : Option (ℕ × ℕ)) (s : State) → I s.memory
+      → InOut (found_use at name refer part place s)
+  keeps_found at name refer part (Some p) s h = h
+  keeps_found at name refer part None s h = h
+
+  -- a use of what is held keeps it
+  keeps_used : (at : Place) (name : ℕ) (part : ElementPart) (p : Pointer) (s : State) → I s.memory → InOut (used at name part p s)
+  keeps_used at name part (reference_to refer bound) s h = keeps_found at name refer (part_used part bound) (locate_refer s.memory refer) s h
+  keeps_used at name part (iterator_at stamp) s h = h
+
   -- an iterator variable that takes a stamp keeps it
   keeps_moved : (x : Fix) (at old : ℕ) (v : Value) (s : State) → I s.memory → InOut (moved_to x at old v s)
   keeps_moved x at old nothing s h = h
@@ -203,7 +215,7 @@ module _ (I : Memory → Type 0) where
       -- the place that a left side stands for keeps it
       pub keeps_reach : (l : Left) (s : State) → I s.memory → InOut (reach w l s)
       keeps_reach (scalar x at) s h = h
-      keeps_reach (reference x at name part) s h = h
+      keeps_reach (reference x at name part) s h = keeps_used at name part (pointer_at s (iter_of s x)) s h
       keeps_reach (element hd ops) s h = keeps_call (eval_all w ops s) _ (keeps_all ops s h) (λ vs s i. keeps_library hd vs s i)
 
       -- operands keep it

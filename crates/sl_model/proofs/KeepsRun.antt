@@ -1,29 +1,30 @@
 -- What a library keeps of the memory, statements, calls and runs keep.
 use Rattle.std.proofs.Common.{ℕ, zero, suc, Bool, true, false, not, List, [], ◌∷◌, Option, Some, None}
-use Rattle.std.specs.Prelude.{ℤ, pos, length, unwrap_or, ◌+◌}
+use Rattle.std.specs.Prelude.{ℤ, pos, length, unwrap_or, ◌+◌, slice_get}
 use Rattle.std.specs.Fmt.{signed_decimal}
 use Rattle.sl_base.specs.declared.place.Place.{Place}
 use Rattle.sl_base.specs.declared.scalar.Scalar.{Scalar}
+use Rattle.sl_base.specs.declared.scalar.Scalar.TheVariants as t
 use Rattle.sl_syntax.specs.declared.operator.Arithmetic.{Arithmetic}
 use Rattle.sl_model.specs.Numbers.{is_zero, converted, operated}
 use Rattle.sl_syntax.specs.declared.typed.callee.Callee.{Callee}
 use Rattle.sl_syntax.specs.declared.typed.element.Taken.TheVariants as taken
 use Rattle.sl_syntax.specs.declared.typed.head.Head.{Head}
 use Rattle.sl_syntax.specs.declared.typed.operator.Operator.TheVariants as operators
-use Rattle.sl_syntax.specs.Typed.{Expr, Left, Cond, read, not_read, test, always, Printed, text, endline, number as printed_number, Effect, reads}
+use Rattle.sl_syntax.specs.Typed.{Expr, Left, Cond, read, not_read, test, always, Printed, text, endline, number as printed_number, Effect, reads, Operands}
 use Rattle.sl_syntax.specs.Typed.{prints, evaluates, assigns, updates, moves_to, Declaration, unset_scalar, set_scalar, set_iterator, binds_reference}
 use Rattle.sl_syntax.specs.Typed.{makes, First, no_first, declares_first, does_first, Stmt, block, declares, choice, choice_else, while, for}
 use Rattle.sl_syntax.specs.Typed.{range_for, break, continue, gives_back, does, Stmts, no_more, followed}
-use Rattle.sl_model.specs.Containers.{Memory, Part, write_element, end_from}
+use Rattle.sl_model.specs.Containers.{Memory, Part, cont_at, refers, write_element, end_from}
 use Rattle.sl_model.specs.Values.{Value, nothing, number, iterator, pair, two, scalar_at, container_at, element_at, Args}
 use Rattle.sl_model.specs.State.{State, scalar_of, iter_of, cont_of, set_scalar_at, set_iterator_at, new_scalar, new_iterator, new_container}
-use Rattle.sl_model.specs.Ends.{OutOfSteps, NoMeaning}
-use Rattle.sl_model.specs.Eval.{Out, Gives, Stops, World, eval, reach, eval_all, then_eval, then_number, then_call, read_at, write_at, use_library}
+use Rattle.sl_model.specs.Ends.{OutOfSteps}
+use Rattle.sl_model.specs.Eval.{Out, Gives, Stops, World, eval, reach, eval_all, then_number, then_call, read_at, write_at, use_library}
 use Rattle.sl_model.specs.Eval.{answered, name_place}
 use Rattle.sl_model.specs.Exec.{Flow, Next, Broke, Continued, Returned, Over, Meaning, tick, and_then, flow_of, on_number, on_stamp, either_way}
-use Rattle.sl_model.specs.Exec.{scoped, read_all, tested, printed, print_all, is_scalar_name, affect, declared, begun, ended, after_body, turns, loop}
-use Rattle.sl_model.specs.Exec.{wrote, asks, hidden_at, over_range, range_start, exec, exec_all}
-use Rattle.sl_model.proofs.Keeps.{InAnswer, InOut, keeps_eval, keeps_reach, keeps_all, keeps_call, keeps_then, keeps_then_number, keeps_answer}
+use Rattle.sl_model.specs.Exec.{scoped, read_all, tested, printed, print_all, is_name, affect, bound_to, binds_to, declared, begun, ended, after_body}
+use Rattle.sl_model.specs.Exec.{counted, turns, loop, wrote, asks, hidden_at, takes_number, takes_element, over_range, range_start, exec, exec_all}
+use Rattle.sl_model.proofs.Keeps.{InAnswer, InOut, keeps_eval, keeps_reach, keeps_all, keeps_call, keeps_then_number, keeps_answer}
 use Rattle.sl_model.proofs.Keeps.{keeps_read, keeps_library, keeps_write, keeps_set}
 use Rattle.sl_syntax.specs.declared.operator.Comparison.TheVariants as c
 
@@ -115,12 +116,13 @@ module _ (I : Memory → Type 0) where
       → Keeps (turns n check body last)
   in_turns zero check body last p q r s h = h
   in_turns (suc n) check body last p q r s h =
-      in_tick (λ s. check s (λ b. either_way b (λ s. after_body (body s) (λ s. and_then (last s) (turns n check body last))) Next))
-      (p (λ b. either_way b (λ s. after_body (body s) (λ s. and_then (last s) (turns n check body last))) Next)
+      in_tick (λ s. check (counted s) (λ b. either_way b (λ s. after_body (body s) (λ s. and_then (last s) (turns n check body last))) Next))
+      (λ t j. p (λ b. either_way b (λ s. after_body (body s) (λ s. and_then (last s) (turns n check body last))) Next)
       (λ b. in_either b (λ s. after_body (body s) (λ s. and_then (last s) (turns n check body last))) Next
       (λ s i. in_body (body s) (λ s. and_then (last s) (turns n check body last)) (q s i)
       (λ s j. in_then (last s) (turns n check body last) (r s j) (in_turns n check body last p q r)))
-      (λ s i. i)))
+      (λ s i. i))
+      (counted t) j)
       s h
 
   module _ (w : World)
@@ -178,7 +180,7 @@ module _ (I : Memory → Type 0) where
     in_affect : (e : Effect) → Keeps (affect w e)
     in_affect (reads xs) s h = in_reads xs (λ b. Next) (λ b s i. i) s h
     in_affect (prints ps) s h = in_print ps s h
-    in_affect (evaluates a) s h = in_either (is_scalar_name a) Next (λ s. flow_of (eval w a s) (λ v. Next))
+    in_affect (evaluates a) s h = in_either (is_name a) Next (λ s. flow_of (eval w a s) (λ v. Next))
         (λ s i. i) (λ s i. in_value a (λ v. Next) (λ v s i. i) s i) s h
     in_affect (assigns l a) s h = in_value a (on_number (λ z s. flow_of (reach w l s) (λ at_l s. Next (write_at at_l z s))))
         (in_number (λ z s. flow_of (reach w l s) (λ at_l s. Next (write_at at_l z s))) (in_assign l)) s h
@@ -193,6 +195,27 @@ module _ (I : Memory → Type 0) where
     in_affect (moves_to it a) s h = in_value a (on_stamp (λ stamp s. Next (set_iterator_at (iter_of s it) stamp s)))
         (in_stamp (λ stamp s. Next (set_iterator_at (iter_of s it) stamp s)) (λ x s i. i)) s h
 
+    -- a reference that comes into scope keeps it
+    in_bound_to : (at : Place) (part : Part) (refer : Option ℕ) → Keeps (bound_to at part refer)
+    in_bound_to at part None s h = h
+    in_bound_to at part (Some refer) s h = h
+
+    -- a reference to what a call gave keeps it
+    in_binds : (at : Place) (v : Value) → Keeps (binds_to at v)
+    in_binds at nothing s h = h
+    in_binds at (number z) s h = h
+    in_binds at (iterator x) s h = h
+    in_binds at (pair x b) s h = h
+    in_binds at (two x b) s h = h
+    in_binds at (scalar_at l) s h = h
+    in_binds at (container_at l) s h = h
+    in_binds at (element_at j k part) s h = in_bound_to at part (slice_get (refers (cont_at s.memory j)) k) s h
+
+    -- a call of the library with these operands keeps it
+    in_called : (hd : Head) (ops : Operands) (s : State) → I s.memory → InOut I (then_call (eval_all w ops s) (use_library w.lib hd))
+    in_called hd ops s h = keeps_call I (eval_all w ops s) (use_library w.lib hd) (keeps_all I w lib_keeps own_keeps write_keeps ops s h)
+        (keeps_library I w lib_keeps own_keeps write_keeps hd)
+
     -- each declaration keeps it
     in_declared : (d : Declaration) → Keeps (declared w d)
     in_declared (unset_scalar ty) s h = h
@@ -200,11 +223,11 @@ module _ (I : Memory → Type 0) where
         in_value a (on_number (λ z s. Next (new_scalar ty (Some z) s))) (in_number (λ z s. Next (new_scalar ty (Some z) s)) (λ z s i. i)) s h
     in_declared (set_iterator a) s h =
         in_value a (on_stamp (λ stamp s. Next (new_iterator stamp s))) (in_stamp (λ stamp s. Next (new_iterator stamp s)) (λ x s i. i)) s h
-    in_declared (binds_reference hd ops) s h = h
+    in_declared (binds_reference hd ops) s h =
+        in_flow_of (then_call (eval_all w ops s) (use_library w.lib hd)) (binds_to hd.place) (in_called hd ops s h) (in_binds hd.place)
     in_declared (makes form hd ops) s h =
         in_flow_of (then_call (eval_all w ops s) (use_library w.lib hd)) (λ v t. Next (new_container (length s.memory.conts) t))
-        (keeps_call I (eval_all w ops s) (use_library w.lib hd) (keeps_all I w lib_keeps own_keeps write_keeps ops s h)
-        (keeps_library I w lib_keeps own_keeps write_keeps hd)) (λ v s i. i)
+        (in_called hd ops s h) (λ v s i. i)
 
     -- the first part of a `for` keeps it
     in_begun : (f : First) → Keeps (begun w f)
@@ -229,23 +252,29 @@ module _ (I : Memory → Type 0) where
     asked : (hd : Head) (vs : List Value) (s : State) → I s.memory → InOut I (use_library w.lib hd vs s)
     asked = keeps_library I w lib_keeps own_keeps write_keeps
 
+    -- a range-for's variable takes a number, which keeps it
+    in_takes_number : (at : Place) (x : ℕ) (body : Meaning) → Keeps body → (v : Value) → Keeps (takes_number at x body v)
+    in_takes_number at x body k v s h = in_flow_of (read_at at v s) (on_number (λ z s. body (set_scalar_at x z s))) (keeps_read I at v s h)
+        (in_number (λ z s. body (set_scalar_at x z s)) (λ z s j. k (set_scalar_at x z s) (keeps_set I x z s j)))
+
+    -- and so does its reference, which is bound to an element
+    in_takes_element : (at : Place) (body : Meaning) → Keeps body → (v : Value) → Keeps (takes_element at body v)
+    in_takes_element at body k v s h =
+        in_scope 0 s (and_then (binds_to at v s) body) (in_then (binds_to at v s) body (in_binds at v s h) k)
+
     -- a range-for keeps it
-    in_range : (at : Place) (name b e x : ℕ) (body : Meaning) → Keeps body → Keeps (over_range w at name b e x body)
-    in_range at name b e x body k s h = in_turns (suc s.steps)
+    in_range : (at : Place) (name b e : ℕ) (takes : Value → Meaning) → ((v : Value) → Keeps (takes v)) → Keeps (over_range w at name b e takes)
+    in_range at name b e takes k s h = in_turns (suc s.steps)
         (λ s go. flow_of (use_library w.lib (asks (operators.Compare c.NotEqual) at name) (hidden_at s b ∷ hidden_at s e ∷ []) s)
         (on_number (λ z. go (not (is_zero z)))))
-        (λ s. flow_of (then_eval (use_library w.lib (asks operators.Dereference at name) (hidden_at s b ∷ []) s) (read_at at))
-        (on_number (λ z s. body (set_scalar_at x z s))))
+        (λ s. flow_of (use_library w.lib (asks operators.Dereference at name) (hidden_at s b ∷ []) s) takes)
         (λ s. flow_of (use_library w.lib (asks operators.Increment at name) (hidden_at s b ∷ []) s)
         (on_stamp (λ stamp s. Next (set_iterator_at b stamp s))))
         (λ go p s i. in_flow_of (use_library w.lib (asks (operators.Compare c.NotEqual) at name) (hidden_at s b ∷ hidden_at s e ∷ []) s)
         (on_number (λ z. go (not (is_zero z)))) (asked (asks (operators.Compare c.NotEqual) at name) (hidden_at s b ∷ hidden_at s e ∷ []) s i)
         (in_number (λ z. go (not (is_zero z))) (λ z. p (not (is_zero z)))))
-        (λ s i. in_flow_of (then_eval (use_library w.lib (asks operators.Dereference at name) (hidden_at s b ∷ []) s) (read_at at))
-        (on_number (λ z s. body (set_scalar_at x z s)))
-        (keeps_then I (use_library w.lib (asks operators.Dereference at name) (hidden_at s b ∷ []) s) (read_at at)
-        (asked (asks operators.Dereference at name) (hidden_at s b ∷ []) s i) (keeps_read I at))
-        (in_number (λ z s. body (set_scalar_at x z s)) (λ z s j. k (set_scalar_at x z s) (keeps_set I x z s j))))
+        (λ s i. in_flow_of (use_library w.lib (asks operators.Dereference at name) (hidden_at s b ∷ []) s) takes
+        (asked (asks operators.Dereference at name) (hidden_at s b ∷ []) s i) k)
         (λ s i. in_flow_of (use_library w.lib (asks operators.Increment at name) (hidden_at s b ∷ []) s)
         (on_stamp (λ stamp s. Next (set_iterator_at b stamp s)))
         (asked (asks operators.Increment at name) (hidden_at s b ∷ []) s i) (in_stamp (λ stamp s. Next (set_iterator_at b stamp s)) (λ x s j. j)))
@@ -268,12 +297,18 @@ module _ (I : Memory → Type 0) where
           (in_then (begun w head s) (loop (tested w c) (exec w a) (ended w last)) (in_begun head s i)
           (λ s j. in_turns (suc s.steps) (tested w c) (exec w a) (ended w last) (in_tested c) (in_exec a) (in_ended last) s j))) s h
       in_exec (range_for l taken.Value x at name a) s h =
-          in_tick (λ s. scoped 0 s (over_range w at name (length s.iters) (length s.iters + 1) (length s.scalars) (exec w a)
+          in_tick (λ s. scoped 0 s (over_range w at name (length s.iters) (length s.iters + 1) (takes_number at (length s.scalars) (exec w a))
+          (new_scalar t.Int None (range_start (cont_of s x) s))))
+          (λ s i. in_scope 0 s (over_range w at name (length s.iters) (length s.iters + 1) (takes_number at (length s.scalars) (exec w a))
+          (new_scalar t.Int None (range_start (cont_of s x) s)))
+          (in_range at name (length s.iters) (length s.iters + 1) (takes_number at (length s.scalars) (exec w a))
+          (in_takes_number at (length s.scalars) (exec w a) (in_exec a)) (new_scalar t.Int None (range_start (cont_of s x) s)) i)) s h
+      in_exec (range_for l taken.Reference x at name a) s h =
+          in_tick (λ s. scoped 0 s (over_range w at name (length s.iters) (length s.iters + 1) (takes_element at (exec w a))
           (range_start (cont_of s x) s)))
-          (λ s i. in_scope 0 s (over_range w at name (length s.iters) (length s.iters + 1) (length s.scalars) (exec w a)
-          (range_start (cont_of s x) s))
-          (in_range at name (length s.iters) (length s.iters + 1) (length s.scalars) (exec w a) (in_exec a) (range_start (cont_of s x) s) i)) s h
-      in_exec (range_for l taken.Reference x at name a) s h = in_tick (Over (NoMeaning at)) (λ s i. i) s h
+          (λ s i. in_scope 0 s (over_range w at name (length s.iters) (length s.iters + 1) (takes_element at (exec w a)) (range_start (cont_of s x) s))
+          (in_range at name (length s.iters) (length s.iters + 1) (takes_element at (exec w a)) (in_takes_element at (exec w a) (in_exec a))
+          (range_start (cont_of s x) s) i)) s h
       in_exec break s h = in_tick Broke (λ s i. i) s h
       in_exec continue s h = in_tick Continued (λ s i. i) s h
       in_exec (gives_back None) s h = in_tick (Returned nothing) (λ s i. i) s h

@@ -1,16 +1,20 @@
 -- Each change of a state keeps what holds of all states of a run, and it keeps how high the stacks are, or says how they grow.
-use Rattle.std.proofs.Common.{◌≡◌, ℕ, ◌+◌, ◌<◌, ◌≤◌, List, [], ◌∷◌, ◌++◌, Option, Some, None, length, length-append, take, refl, ◌∙◌, subst, arith}
+use Rattle.std.proofs.Common.{◌≡◌, ℕ, ◌+◌, ◌<◌, ◌≤◌, List, [], ◌∷◌, ◌++◌, Option, Some, None, map, length, length-append, take, refl, ◌∙◌, sym}
+use Rattle.std.proofs.Common.{subst, arith}
 use Rattle.std.specs.Prelude.{ℤ}
 use Rattle.std.specs.List.{slice_get, slice_set}
 use Rattle.std.proofs.Math.ListN.{length-set}
-use Rattle.std.proofs.lemmas.List.{length-take-le}
+use Rattle.std.proofs.lemmas.List.{length-take-le, map-append, take-map}
+use Rattle.std.proofs.lemmas.Option.{slice_get-get_or}
 use Rattle.sl_base.specs.declared.scalar.Scalar.{Scalar}
 use Rattle.sl_model.specs.Containers.{Memory, Part, cont_with, write_element}
 use Rattle.sl_model.specs.Values.{Value, nothing, number, iterator, pair, two, scalar_at, container_at, element_at}
-use Rattle.sl_model.specs.State.{Slot, Frame, State, set_scalar_at, set_iterator_at, new_scalar, new_iterator, new_container, leave}
+use Rattle.sl_model.specs.State.{Pointer, iterator_at, Slot, Frame, State, set_scalar_at, set_iterator_at, mark_in, pointer_at, stamp_held}
+use Rattle.sl_model.specs.State.{new_scalar, new_pointer, new_iterator, new_container, leave}
 use Rattle.sl_model.specs.Eval.{write_at}
-use Rattle.sl_model.specs.Good.{IsSound, IsGood}
+use Rattle.sl_model.specs.Good.{AreBelow, IsSound, IsGood}
 use Rattle.sl_model.specs.Scoped.{Counts}
+use Rattle.sl_model.proofs.Getting.{get_map, map_set}
 use Rattle.sl_model.proofs.Ending.{end_from-sound}
 use Rattle.sl_model.proofs.Writing.{write-sound}
 use Rattle.sl_model.proofs.Locations.{below_more, below_one_more, below_set, below_take, apart_one_more, not_there}
@@ -47,6 +51,25 @@ pub record Above (L : Level) (n : ℕ) (s : State) : Type 0 where
   pub iters : L.iters ≤ length s.iters
   pub conts : L.conts ≤ length s.memory.conts
   pub later : n ≤ s.memory.fresh
+
+-- what is held is below a number, with one more
+held_one_more : (ps : List Pointer) (p : Pointer) (n : ℕ) → AreBelow (map mark_in ps) n → mark_in p < n → AreBelow (map mark_in (ps ++ p ∷ [])) n
+held_one_more ps p n h low =
+    subst (λ (l : List ℕ). AreBelow l n) (sym (map-append mark_in ps (p ∷ []))) (below_one_more (map mark_in ps) (mark_in p) n h low)
+
+-- with one written
+held_set : (ps : List Pointer) (at : ℕ) (p : Pointer) (n : ℕ) → AreBelow (map mark_in ps) n → mark_in p < n
+    → AreBelow (map mark_in (slice_set ps at p)) n
+held_set ps at p n h low = subst (λ (l : List ℕ). AreBelow l n) (sym (map_set mark_in ps at p)) (below_set (map mark_in ps) at (mark_in p) n h low)
+
+-- with less
+held_take : (k : ℕ) (ps : List Pointer) (n : ℕ) → AreBelow (map mark_in ps) n → AreBelow (map mark_in (take k ps)) n
+held_take k ps n h = subst (λ (l : List ℕ). AreBelow l n) (take-map mark_in k ps) (below_take k (map mark_in ps) n h)
+
+-- what is held at a location that is there was used
+pub held_used : (s : State) (at : ℕ) → IsGood s → at < length s.iters → stamp_held s at < s.memory.fresh
+held_used s at good low =
+    good.held at (stamp_held s at) (get_map mark_in s.iters at (pointer_at s at) (slice_get-get_or s.iters at (iterator_at 0) low))
 
 -- two levels are one
 levels : (f : Frame) (a b c x y z : ℕ) → a ≡ x → b ≡ y → c ≡ z → level_with f a b c ≡ level_with f x y z
@@ -115,14 +138,14 @@ set_iterator-now L n l stamp s low h = record {
   good = record {
     sound = h.good.sound;
     scalars = h.good.scalars;
-    iters = below_more s.frame.iters (length s.iters) (length (slice_set s.iters l stamp)) (let e = length-set s.iters l stamp in
-        omega arith) h.good.iters;
+    iters = below_more s.frame.iters (length s.iters) (length (slice_set s.iters l (iterator_at stamp)))
+        (let e = length-set s.iters l (iterator_at stamp) in omega arith) h.good.iters;
     conts = h.good.conts;
     apart = h.good.apart;
-    held = below_set s.iters l stamp s.memory.fresh h.good.held low;
+    held = held_set s.iters l (iterator_at stamp) s.memory.fresh h.good.held low;
   };
-  level = levels s.frame (length s.scalars) (length (slice_set s.iters l stamp)) (length s.memory.conts) (length s.scalars) (length s.iters)
-      (length s.memory.conts) refl (length-set s.iters l stamp) refl ∙ h.level;
+  level = levels s.frame (length s.scalars) (length (slice_set s.iters l (iterator_at stamp))) (length s.memory.conts) (length s.scalars)
+      (length s.iters) (length s.memory.conts) refl (length-set s.iters l (iterator_at stamp)) refl ∙ h.level;
   later = h.later;
 }
 
@@ -136,7 +159,7 @@ memory-now L n m s sound many more h = record {
     iters = h.good.iters;
     conts = below_more s.frame.conts (length s.memory.conts) (length m.conts) (omega arith) h.good.conts;
     apart = h.good.apart;
-    held = below_more s.iters s.memory.fresh m.fresh more h.good.held;
+    held = below_more (map mark_in s.iters) s.memory.fresh m.fresh more h.good.held;
   };
   level = levels s.frame (length s.scalars) (length s.iters) (length m.conts) (length s.scalars) (length s.iters)
       (length s.memory.conts) refl refl many ∙ h.level;
@@ -176,7 +199,7 @@ write-now L n (element_at j k part) z s h = let r = written_as_many s.memory j k
 abbrev pub with_scalar : Level → Level
 with_scalar L = record L { frame = record L.frame { scalars = L.frame.scalars ++ L.scalars ∷ [] }; scalars = L.scalars + 1 }
 
--- the level with one iterator more
+-- the level with one iterator or reference more
 abbrev pub with_iterator : Level → Level
 with_iterator L = record L { frame = record L.frame { iters = L.frame.iters ++ L.iters ∷ [] }; iters = L.iters + 1 }
 
@@ -205,26 +228,50 @@ new_scalar-now L n ty z s h = subst (λ (l : Level). Now (with_scalar l) n (new_
     more : length (s.scalars ++ record { ty = ty; value = z } ∷ []) ≡ length s.scalars + 1
     more = length-append s.scalars (record { ty = ty; value = z } ∷ [])
 
--- a new iterator with a stamp that was used comes into scope
-pub new_iterator-now : (L : Level) (n stamp : ℕ) (s : State) → stamp < s.memory.fresh → Now L n s → Now (with_iterator L) n (new_iterator stamp s)
-new_iterator-now L n stamp s low h = subst (λ (l : Level). Now (with_iterator l) n (new_iterator stamp s)) h.level (record {
+-- a new iterator or reference that holds a number that was used comes into scope
+pub new_pointer-now : (L : Level) (n : ℕ) (p : Pointer) (s : State) → mark_in p < s.memory.fresh → Now L n s → Now (with_iterator L) n (new_pointer p s)
+new_pointer-now L n p s low h = subst (λ (l : Level). Now (with_iterator l) n (new_pointer p s)) h.level (record {
   good = record {
     sound = h.good.sound;
     scalars = h.good.scalars;
-    iters = below_one_more s.frame.iters (length s.iters) (length (s.iters ++ stamp ∷ []))
-        (below_more s.frame.iters (length s.iters) (length (s.iters ++ stamp ∷ [])) (let e = more in omega arith) h.good.iters)
+    iters = below_one_more s.frame.iters (length s.iters) (length (s.iters ++ p ∷ []))
+        (below_more s.frame.iters (length s.iters) (length (s.iters ++ p ∷ [])) (let e = more in omega arith) h.good.iters)
         (let e = more in omega arith);
     conts = h.good.conts;
     apart = h.good.apart;
-    held = below_one_more s.iters stamp s.memory.fresh h.good.held low;
+    held = held_one_more s.iters p s.memory.fresh h.good.held low;
   };
-  level = levels (new_iterator stamp s).frame (length s.scalars) (length (s.iters ++ stamp ∷ [])) (length s.memory.conts) (length s.scalars)
+  level = levels (new_pointer p s).frame (length s.scalars) (length (s.iters ++ p ∷ [])) (length s.memory.conts) (length s.scalars)
       (length s.iters + 1) (length s.memory.conts) refl more refl;
   later = h.later;
 })
   where
-    more : length (s.iters ++ stamp ∷ []) ≡ length s.iters + 1
-    more = length-append s.iters (stamp ∷ [])
+    more : length (s.iters ++ p ∷ []) ≡ length s.iters + 1
+    more = length-append s.iters (p ∷ [])
+
+-- a new iterator with a stamp that was used comes into scope
+pub new_iterator-now : (L : Level) (n stamp : ℕ) (s : State) → stamp < s.memory.fresh → Now L n s → Now (with_iterator L) n (new_iterator stamp s)
+new_iterator-now L n stamp s low h = new_pointer-now L n (iterator_at stamp) s low h
+
+-- stacks that are as high as with one scalar more are as high as before
+pub scalar_above : (L : Level) (n : ℕ) (s : State) → Above (with_scalar L) n s → Above L n s
+scalar_above L n s h = record {
+  good = h.good;
+  scalars = let r : L.scalars + 1 ≤ length s.scalars = h.scalars in omega arith;
+  iters = h.iters;
+  conts = h.conts;
+  later = h.later;
+}
+
+-- and so are those with one iterator or reference more
+pub iterator_above : (L : Level) (n : ℕ) (s : State) → Above (with_iterator L) n s → Above L n s
+iterator_above L n s h = record {
+  good = h.good;
+  scalars = h.scalars;
+  iters = let r : L.iters + 1 ≤ length s.iters = h.iters in omega arith;
+  conts = h.conts;
+  later = h.later;
+}
 
 -- the container that a call made comes into scope
 pub new_container-now : (L : Level) (n : ℕ) (m : Memory) (picks : List ℕ) (s : State) → IsSound m → length m.conts ≡ length s.memory.conts + 1
@@ -238,7 +285,7 @@ new_container-now L n m picks s sound many more h =
         conts = below_one_more s.frame.conts (length s.memory.conts) (length m.conts)
             (below_more s.frame.conts (length s.memory.conts) (length m.conts) (omega arith) h.good.conts) (omega arith);
         apart = apart_one_more s.frame.conts (length s.memory.conts) h.good.apart (not_there s.frame.conts (length s.memory.conts) h.good.conts);
-        held = below_more s.iters s.memory.fresh m.fresh more h.good.held;
+        held = below_more (map mark_in s.iters) s.memory.fresh m.fresh more h.good.held;
       };
       level = levels (new_container (length s.memory.conts) s).frame (length s.scalars) (length s.iters) (length m.conts) (length s.scalars)
           (length s.iters) (length s.memory.conts + 1) refl refl many;
@@ -257,7 +304,7 @@ leave-here n site start s good h = record {
     conts = below_more start.frame.conts (length start.memory.conts) (length (take (length start.memory.conts) s.memory.conts))
         (let e = conts in omega arith) good.conts;
     apart = good.apart;
-    held = below_take (length start.iters) s.iters s.memory.fresh h.good.held;
+    held = held_take (length start.iters) s.iters s.memory.fresh h.good.held;
   };
   level = levels start.frame (length (take (length start.scalars) s.scalars)) (length (take (length start.iters) s.iters))
       (length (take (length start.memory.conts) s.memory.conts)) (length start.scalars) (length start.iters)

@@ -2,6 +2,7 @@
 use Rattle.std.proofs.Common.{◌≡◌, ◌+◌, refl, sym, subst, ℕ, List, [], ◌∷◌, Bool, true, false, not, ℤ, pos, Option, Some, None, slice_get, slice_set}
 use Rattle.sl_base.specs.declared.place.Place.{Place}
 use Rattle.sl_base.specs.declared.scalar.Scalar.{Scalar}
+use Rattle.sl_syntax.specs.declared.typed.element.ElementPart.{ElementPart}
 use Rattle.sl_syntax.specs.declared.typed.head.Head.{Head}
 use Rattle.sl_syntax.specs.declared.typed.step.Fix.{Fix}
 use Rattle.sl_syntax.specs.declared.typed.step.Step.{Step}
@@ -10,14 +11,15 @@ use Rattle.sl_syntax.specs.Typed.{comparison, increment, move, call, own_call, f
 use Rattle.sl_syntax.specs.Typed.{element, Operands, none, with}
 use Rattle.sl_syntax.specs.declared.operator.Arithmetic.TheVariants as o
 use Rattle.sl_model.specs.Numbers.{Answer, value, fault, is_zero, truth, converted, operated, compared}
+use Rattle.sl_model.specs.Containers.{Part}
 use Rattle.sl_model.specs.Values.{Value, nothing, number, iterator, pair, two, scalar_at, container_at, element_at, Lib, LibOut, trapped, thrown}
 use Rattle.sl_model.specs.Values.{faulted}
 use Rattle.sl_model.specs.Values.{gives as lib_gives, unbuilt}
 use Rattle.sl_model.specs.Ends.{End, OutOfSteps}
-use Rattle.sl_model.specs.State.{State, Slot, set_scalar_at, set_iterator_at}
+use Rattle.sl_model.specs.State.{Pointer, iterator_at, reference_to, State, Slot, iter_of, pointer_at, set_scalar_at, set_iterator_at}
 use Rattle.sl_model.specs.Eval.{Out, Gives, Stops, Outs, AllGive, OneStops, World, then_eval, with_number, then_number, add_value, then_rest}
 use Rattle.sl_model.specs.Eval.{then_call, branch, answered, if_set, read_at, write_at, settle_call, use_library, increased, moved_to, chosen}
-use Rattle.sl_model.specs.Eval.{name_place, eval, reach, eval_all}
+use Rattle.sl_model.specs.Eval.{name_place, found_use, used, eval, reach, eval_all}
 
 -- a state with k steps more
 abbrev pub more : ℕ → State → State
@@ -148,6 +150,16 @@ moved_to-later x at old (scalar_at l) s = gives _ s
 moved_to-later x at old (container_at l) s = gives _ s
 moved_to-later x at old (element_at i j p) s = gives _ s
 
+-- a use of a reference, where it stands or not
+found_use-later : {k : ℕ} (at : Place) (name refer : ℕ) (part : Part) (place : Option (ℕ × ℕ)) → Same k (found_use at name refer part place)
+found_use-later at name refer part (Some p) s = gives _ s
+found_use-later at name refer part None s = stops _ s
+
+-- a use of what is held
+used-later : {k : ℕ} (at : Place) (name : ℕ) (part : ElementPart) (p : Pointer) → Same k (used at name part p)
+used-later at name part (reference_to refer bound) s = found_use-later at name refer _ _ s
+used-later at name part (iterator_at stamp) s = stops _ s
+
 -- the text's own functions do the same with k steps more
 abbrev pub SameWorld : ℕ → World → Type 0
 SameWorld k w = (f : ℕ) (at : Place) (vs : List Value) → Same k (w.own f at vs)
@@ -181,7 +193,7 @@ mutual
 
   pub reach-later : {k : ℕ} (w : World) → SameWorld k w → (l : Left) → Same k (reach w l)
   reach-later w own (scalar x at) s = gives _ s
-  reach-later w own (reference x at name part) s = stops _ s
+  reach-later w own (reference x at name part) s = used-later at name part (pointer_at s (iter_of s x)) s
   reach-later w own (element h ops) s = then_call-later _ (eval_all-later w own ops s) (use_library-later w.lib h)
 
   pub eval_all-later : {k : ℕ} (w : World) → SameWorld k w → (ops : Operands) (s : State)

@@ -1,8 +1,9 @@
 -- A run that has more steps left does the same, but where it is out of steps. Here: statements.
 use Rattle.std.proofs.Common.{◌≡◌, ◌+◌, sym, subst, ℕ, zero, suc, List, [], ◌∷◌, length, Bool, true, false, not, ℤ, pos, Option, Some, None}
-use Rattle.std.proofs.Common.{unwrap_or, suc-add, arith, ◌≤◌}
+use Rattle.std.proofs.Common.{unwrap_or, suc-add, arith, ◌≤◌, slice_get}
 use Rattle.std.specs.Fmt.{signed_decimal}
 use Rattle.sl_base.specs.declared.place.Place.{Place}
+use Rattle.sl_base.specs.declared.scalar.Scalar.TheVariants as t
 use Rattle.sl_syntax.specs.declared.operator.Comparison.TheVariants as c
 use Rattle.sl_syntax.specs.declared.typed.element.Taken.TheVariants as taken
 use Rattle.sl_syntax.specs.declared.typed.operator.Operator.TheVariants as operators
@@ -12,14 +13,17 @@ use Rattle.sl_syntax.specs.Typed.{First, no_first, declares_first, does_first, S
 use Rattle.sl_syntax.specs.Typed.{break, continue, gives_back, does, Stmts, no_more, followed}
 use Rattle.sl_model.specs.Numbers.{is_zero, converted, operated}
 use Rattle.sl_model.specs.Values.{Value, nothing, number, iterator, pair, two, scalar_at, container_at, element_at}
-use Rattle.sl_model.specs.Ends.{End, OutOfSteps, NoMeaning}
-use Rattle.sl_model.specs.State.{State, scalar_of, cont_of, iter_of, set_scalar_at, set_iterator_at, new_scalar, new_iterator, new_container, leave}
+use Rattle.sl_model.specs.Containers.{Part, cont_at, refers}
+use Rattle.sl_model.specs.Ends.{End, OutOfSteps}
+use Rattle.sl_model.specs.State.{reference_to, State, scalar_of, cont_of, iter_of, set_scalar_at, set_iterator_at, new_scalar, new_pointer}
+use Rattle.sl_model.specs.State.{new_iterator, new_container, leave}
 use Rattle.sl_model.specs.Eval.{Out, World, use_library, write_at, name_place}
 use Rattle.sl_model.specs.Exec.{Flow, Next, Broke, Continued, Returned, Over, Meaning, tick, and_then, flow_of, on_number, on_stamp, either_way}
-use Rattle.sl_model.specs.Exec.{scoped, read_all, tested, wrote, printed, print_all, is_scalar_name, affect, declared, begun, ended, after_body}
-use Rattle.sl_model.specs.Exec.{turns, loop, asks, hidden_at, over_range, range_start, exec, exec_all}
+use Rattle.sl_model.specs.Exec.{scoped, read_all, tested, wrote, printed, print_all, is_name, affect, bound_to, binds_to, declared, begun, ended}
+use Rattle.sl_model.specs.Exec.{after_body, counted, turns, loop, asks, hidden_at, takes_number, takes_element, over_range, range_start, exec}
+use Rattle.sl_model.specs.Exec.{exec_all}
 use Rattle.sl_model.proofs.Longer.{more, LaterOut, gives, stops, out, SameWorld, set_scalar_at-more, write_at-more, answered-later, read_at-later}
-use Rattle.sl_model.proofs.Longer.{use_library-later, then_eval-later, then_number-later, then_call-later, eval-later, reach-later, eval_all-later}
+use Rattle.sl_model.proofs.Longer.{use_library-later, then_number-later, then_call-later, eval-later, reach-later, eval_all-later}
 
 -- where a statement goes, and where it goes with k steps more: to the same, or the run is out of steps
 pub data LaterFlow (k : ℕ) : Flow → Flow → Type 0 where
@@ -184,7 +188,7 @@ written-later {k} v z s = next_to (write_at v z s) (write_at v z (more k s)) (wr
 affect-later : {k : ℕ} (w : World) → SameWorld k w → (e : Effect) → SameFlow k (affect w e)
 affect-later w own (reads xs) s = read_all-later xs (λ b. Next) (λ b. Next) (λ b s. next s) s
 affect-later w own (prints ps) s = print_all-later w own ps s
-affect-later w own (evaluates a) s = either_way-same (is_scalar_name a) Next _ (λ s. next s)
+affect-later w own (evaluates a) s = either_way-same (is_name a) Next _ (λ s. next s)
     (λ s. flow_of-later (λ v. Next) (λ v. Next) (eval-later w own a s) (λ v s. next s)) s
 affect-later w own (assigns l a) s =
     number-same _ (eval-later w own a s) (λ z s. flow_of-same _ (reach-later w own l s) (λ at_l. written-later at_l z))
@@ -193,11 +197,28 @@ affect-later w own (updates op ty left_ty at l a) s = number-same _ (eval-later 
     (λ z. written-later at_l (converted left_ty z))))
 affect-later w own (moves_to it a) s = stamp-later _ (eval-later w own a s) (λ stamp s. next (set_iterator_at (iter_of s it) stamp s))
 
+-- a reference comes into scope
+bound_to-later : {k : ℕ} (at : Place) (part : Part) (refer : Option ℕ) → SameFlow k (bound_to at part refer)
+bound_to-later at part None s = over _ s
+bound_to-later at part (Some refer) s = next (new_pointer (reference_to refer part) s)
+
+-- a reference to what a call gave comes into scope
+binds_to-later : {k : ℕ} (at : Place) (v : Value) → SameFlow k (binds_to at v)
+binds_to-later at nothing s = over _ s
+binds_to-later at (number z) s = over _ s
+binds_to-later at (iterator x) s = over _ s
+binds_to-later at (pair x b) s = over _ s
+binds_to-later at (two x b) s = over _ s
+binds_to-later at (scalar_at l) s = over _ s
+binds_to-later at (container_at l) s = over _ s
+binds_to-later at (element_at j i part) s = bound_to-later at part (slice_get (refers (cont_at s.memory j)) i) s
+
 declared-later : {k : ℕ} (w : World) → SameWorld k w → (d : Declaration) → SameFlow k (declared w d)
 declared-later w own (unset_scalar ty) s = next (new_scalar ty None s)
 declared-later w own (set_scalar ty a) s = number-same _ (eval-later w own a s) (λ z s. next (new_scalar ty (Some z) s))
 declared-later w own (set_iterator a) s = stamp-later _ (eval-later w own a s) (λ stamp s. next (new_iterator stamp s))
-declared-later w own (binds_reference h ops) s = over _ s
+declared-later w own (binds_reference h ops) s =
+    flow_of-same _ (then_call-later _ (eval_all-later w own ops s) (use_library-later w.lib h)) (binds_to-later h.place)
 declared-later w own (makes form h ops) s = flow_of-same _ (then_call-later _ (eval_all-later w own ops s) (use_library-later w.lib h))
     (λ v t. next (new_container (length s.memory.conts) t))
 
@@ -226,24 +247,31 @@ turns-later {k} check body last c b l (suc n) (suc m) h s =
     λ v. either_way-later v _ Next _ Next
     (λ s. after_body-later (λ s. and_then (last s) (turns n check body last)) (λ s. and_then (last s) (turns m check body last)) (b s) again)
     (λ s. next s) in
-    tick-later (λ s. check s (turn check body last n)) (λ s. check s (turn check body last m))
-    (c (turn check body last n) (turn check body last m) step) s
+    tick-later (λ s. check (counted s) (turn check body last n)) (λ s. check (counted s) (turn check body last m))
+    (λ s. c (turn check body last n) (turn check body last m) step (counted s)) s
 
 loop-later : {k : ℕ} (check : State → (Bool → Meaning) → Flow) (body last : Meaning) → SameCheck k check → SameFlow k body → SameFlow k last →
     SameFlow k (loop check body last)
 loop-later {k} check body last c b l s = turns-later check body last c b l (suc s.steps) (suc (s.steps + k)) (omega arith) s
 
-over_range-later : {k : ℕ} (w : World) → SameWorld k w → (at : Place) (name b e x : ℕ) (body : Meaning) → SameFlow k body →
-    SameFlow k (over_range w at name b e x body)
-over_range-later {k} w own at name b e x body same = loop-later
+-- a range-for's variable takes a number
+takes_number-later : {k : ℕ} (at : Place) (x : ℕ) (body : Meaning) → SameFlow k body → (v : Value) → SameFlow k (takes_number at x body v)
+takes_number-later {k} at x body same v s = number-same (λ z s. body (set_scalar_at x z s)) (read_at-later at v s)
+    (λ z s. subst (λ t. LaterFlow k (body (set_scalar_at x z s)) (body t)) (sym (set_scalar_at-more k x z s)) (same (set_scalar_at x z s)))
+
+-- or its reference is bound to the element
+takes_element-later : {k : ℕ} (at : Place) (body : Meaning) → SameFlow k body → (v : Value) → SameFlow k (takes_element at body v)
+takes_element-later at body same v s = scoped-later 0 s (and_then-same body (binds_to-later at v s) same)
+
+over_range-later : {k : ℕ} (w : World) → SameWorld k w → (at : Place) (name b e : ℕ) (takes : Value → Meaning)
+    → ((v : Value) → SameFlow k (takes v)) → SameFlow k (over_range w at name b e takes)
+over_range-later {k} w own at name b e takes same = loop-later
     (λ s go. flow_of (use_library w.lib (asks (operators.Compare c.NotEqual) at name) (hidden_at s b ∷ hidden_at s e ∷ []) s)
     (on_number (λ z. go (not (is_zero z)))))
     _ _
     (λ go other also s. number-later (λ z. go (not (is_zero z))) (λ z. other (not (is_zero z)))
     (use_library-later w.lib (asks (operators.Compare c.NotEqual) at name) (hidden_at s b ∷ hidden_at s e ∷ []) s) (λ z. also (not (is_zero z))))
-    (λ s. number-same (λ z s. body (set_scalar_at x z s))
-    (then_eval-later _ (use_library-later w.lib (asks operators.Dereference at name) (hidden_at s b ∷ []) s) (read_at-later at))
-    (λ z s. subst (λ t. LaterFlow k (body (set_scalar_at x z s)) (body t)) (sym (set_scalar_at-more k x z s)) (same (set_scalar_at x z s))))
+    (λ s. flow_of-same takes (use_library-later w.lib (asks operators.Dereference at name) (hidden_at s b ∷ []) s) same)
     (λ s. stamp-later _ (use_library-later w.lib (asks operators.Increment at name) (hidden_at s b ∷ []) s)
     (λ stamp s. next (set_iterator_at b stamp s)))
 
@@ -258,9 +286,11 @@ mutual
   exec-later w own (for l head c last body) s = tick-same _ (λ s. scoped-later 0 s (and_then-same _ (begun-later w own head s)
       (loop-later _ _ _ (tested-later w own c) (exec-later w own body) (ended-later w own last)))) s
   exec-later w own (range_for l taken.Value x at name body) s = tick-same _ (λ s. scoped-later 0 s
-      (over_range-later w own at name (length s.iters) (length s.iters + 1) (length s.scalars) (exec w body) (exec-later w own body) (range_start
-      (cont_of s x) s))) s
-  exec-later w own (range_for l taken.Reference x at name body) s = tick-same _ (λ s. over (NoMeaning at) s) s
+      (over_range-later w own at name (length s.iters) (length s.iters + 1) (takes_number at (length s.scalars) (exec w body))
+      (takes_number-later at (length s.scalars) (exec w body) (exec-later w own body)) (new_scalar t.Int None (range_start (cont_of s x) s)))) s
+  exec-later w own (range_for l taken.Reference x at name body) s = tick-same _ (λ s. scoped-later 0 s
+      (over_range-later w own at name (length s.iters) (length s.iters + 1) (takes_element at (exec w body))
+      (takes_element-later at (exec w body) (exec-later w own body)) (range_start (cont_of s x) s))) s
   exec-later w own break s = tick-same _ (λ s. broke s) s
   exec-later w own continue s = tick-same _ (λ s. continued s) s
   exec-later w own (gives_back None) s = tick-same _ (λ s. returned nothing s) s

@@ -3,14 +3,17 @@
 -- Restates ISO/IEC 14882:2017, [expr.post.incr], [expr.pre.incr], [expr.unary.op], [expr.mul], [expr.add], [expr.rel], [expr.eq],
 -- [expr.log.and], [expr.log.or], [expr.call], [conv.lval], [conv.integral] and [conv.bool]. A number of a variable that isn't
 -- set is a fault ([dcl.init]).
--- Chosen here: operands are evaluated from left to right where the standard leaves the order open ([intro.execution]). A use of a
--- reference to an element has no meaning yet: the run ends with NoMeaning.
+-- [dcl.ref] (a reference stands for what it is bound to).
+-- Chosen here: operands are evaluated from left to right where the standard leaves the order open ([intro.execution]). Each use of a
+-- reference to an element, read or written, needs it valid; a use of one that is invalid ends the run.
 use Rattle.std.specs.Prelude.{ℕ, Bool, true, false, not, List, [], ◌∷◌, ℤ, pos, negsuc, Option, Some, None, unwrap_or}
 use Rattle.std.specs.Option.{option_map}
 use Rattle.sl_base.specs.declared.scalar.Scalar.{Scalar}
 use Rattle.sl_syntax.specs.declared.operator.Arithmetic.TheVariants as o
 use Rattle.sl_base.specs.declared.place.Place.{Place}
 use Rattle.sl_model.specs.Numbers.{is_zero, truth, converted, Answer, value, fault, operated, compared}
+use Rattle.sl_syntax.specs.declared.typed.element.ElementPart.{ElementPart}
+use Rattle.sl_syntax.specs.declared.typed.element.ElementPart.TheVariants as parts
 use Rattle.sl_syntax.specs.declared.typed.head.Head.{Head}
 use Rattle.sl_syntax.specs.declared.typed.step.Fix.{Fix}
 use Rattle.sl_syntax.specs.declared.typed.step.Fix.TheVariants.{Prefix, Postfix}
@@ -19,11 +22,12 @@ use Rattle.sl_syntax.specs.declared.typed.step.Step.TheVariants.{Up, Down}
 use Rattle.sl_syntax.specs.Typed.{Expr, literal, held, iterator as iterator_held, convert, negate, logical_not, logical_and, logical_or, arithmetic}
 use Rattle.sl_syntax.specs.Typed.{comparison, increment, move, call, own_call, first, second, container, handed_scalar, Left, scalar, reference}
 use Rattle.sl_syntax.specs.Typed.{element, Operands, none, with}
-use Rattle.sl_model.specs.Containers.{element as element_of, write_element}
+use Rattle.sl_model.specs.Containers.{Part, key_part, value_part, element as element_of, write_element, locate_refer, refer_killer}
 use Rattle.sl_model.specs.Values.{Value, number, iterator, pair, two, scalar_at, container_at, element_at, LibOut, Lib, trapped, thrown, faulted, gives}
 use Rattle.sl_model.specs.Values.{unbuilt}
-use Rattle.sl_model.specs.Ends.{End, Trapped, Language, Thrown, NoMeaning, trap_of}
-use Rattle.sl_model.specs.State.{State, scalar_of, cont_of, iter_of, scalar_value, set_scalar_at, set_iterator_at, stamp_of}
+use Rattle.sl_model.specs.Ends.{End, Trapped, Language, Thrown, NoMeaning, trap_of, use_trap}
+use Rattle.sl_model.specs.State.{Pointer, iterator_at, reference_to, State, scalar_of, cont_of, iter_of, scalar_value, set_scalar_at}
+use Rattle.sl_model.specs.State.{set_iterator_at, pointer_at, stamp_of}
 
 -- what an expression gives: a value, or the end of the run
 pub data Out : Type 0 where
@@ -155,6 +159,22 @@ name_place (scalar x at) = at
 name_place (reference x at name part) = at
 name_place (element h ops) = h.place
 
+-- which number of an element a use means: that to which the reference is bound, the key or the value
+abbrev pub part_used : ElementPart → Part → Part
+part_used parts.Whole bound = bound
+part_used parts.First bound = key_part
+part_used parts.Second bound = value_part
+
+-- a use of a reference, where it stands
+abbrev pub found_use : Place → ℕ → ℕ → Part → Option (ℕ × ℕ) → State → Out
+found_use at name refer part (Some p) s = Gives (element_at p.0 p.1 part) s
+found_use at name refer part None s = Stops (Trapped (use_trap at name (refer_killer s.memory refer))) s
+
+-- a use of what is held, at its name
+abbrev pub used : Place → ℕ → ElementPart → Pointer → State → Out
+used at name part (reference_to refer bound) s = found_use at name refer (part_used part bound) (locate_refer s.memory refer) s
+used at name part (iterator_at stamp) s = Stops (NoMeaning at) s
+
 abbrev mutual
   -- the value of an expression
   pub eval : World → Expr → State → Out
@@ -183,7 +203,7 @@ abbrev mutual
   -- the place that a left side stands for
   pub reach : World → Left → State → Out
   reach w (scalar x at) s = Gives (scalar_at (scalar_of s x)) s
-  reach w (reference x at name part) s = Stops (NoMeaning at) s
+  reach w (reference x at name part) s = used at name part (pointer_at s (iter_of s x)) s
   reach w (element h ops) s = then_call (eval_all w ops s) (use_library w.lib h)
 
   -- operands from left to right

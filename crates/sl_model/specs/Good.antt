@@ -5,7 +5,7 @@
 use Rattle.std.specs.Prelude.{◌≡◌, ◌⊎◌, ℕ, ◌<◌, ◌≤◌, List, map, length, Some, slice_get}
 use Rattle.sl_base.specs.declared.limits.TheConstants.{ELEMENTS}
 use Rattle.sl_model.specs.Containers.{Cont, Grave, Memory, size, stamps, refers, IsGrave}
-use Rattle.sl_model.specs.State.{State}
+use Rattle.sl_model.specs.State.{State, mark_in}
 
 -- a number stands at index k of the list j of these
 abbrev pub Stands : List (List ℕ) → ℕ → ℕ → ℕ → Type 0
@@ -55,11 +55,11 @@ abbrev pub AreApart : List ℕ → Type 0
 AreApart locations = (x y at : ℕ) → slice_get locations x ≡ Some at → slice_get locations y ≡ Some at → x ≡ y
 
 -- the memory is sound, each variable in scope is where it is said to be, no two containers in scope are one, and each iterator
--- variable holds a stamp that was used
+-- variable and each reference holds a number that was used
 pub record IsGood (s : State) : Type 0 where
   pub sound : IsSound s.memory
   pub scalars : AreBelow s.frame.scalars (length s.scalars)
   pub iters : AreBelow s.frame.iters (length s.iters)
   pub conts : AreBelow s.frame.conts (length s.memory.conts)
   pub apart : AreApart s.frame.conts
-  pub held : AreBelow s.iters s.memory.fresh
+  pub held : AreBelow (map mark_in s.iters) s.memory.fresh

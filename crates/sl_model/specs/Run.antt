@@ -23,6 +23,7 @@ empty_state input picks steps = record {
   input = input;
   picks = picks;
   steps = steps;
+  tests = 0;
   written = [];
 }
 

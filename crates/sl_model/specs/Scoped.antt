@@ -6,12 +6,12 @@
 -- [stmt.iter] (what a part declares isn't in scope behind it), [expr.call] (as many operands as parameters), [stmt.return] (a
 -- function gives what it says) and [basic.start.main].
 -- Chosen here: a part of a statement that declares something is a block, a container is made by a declaration alone, and no
--- container is handed to two parameters of one call. Left out is what has no meaning in a run yet: a text that declares or uses a
--- reference to an element, or has a range-for by reference, isn't scoped.
+-- container is handed to two parameters of one call. References to elements count among the iterators.
 use Rattle.std.specs.Prelude.{◌≡◌, ℕ, ◌+◌, ◌<◌, Bool, true, false, List, [], ◌∷◌, Option, Some, None, slice_get}
 use Rattle.sl_syntax.specs.declared.operator.Comparison.TheVariants as comparisons
 use Rattle.sl_syntax.specs.declared.typed.callee.Callee.{Callee}
 use Rattle.sl_syntax.specs.declared.typed.callee.Callee.TheVariants as callees
+use Rattle.sl_syntax.specs.declared.typed.element.Taken.{Taken}
 use Rattle.sl_syntax.specs.declared.typed.element.Taken.TheVariants as taken
 use Rattle.sl_syntax.specs.declared.typed.head.Head.{Head}
 use Rattle.sl_syntax.specs.declared.typed.operator.Operator.TheVariants as operators
@@ -87,7 +87,7 @@ abbrev mutual
   -- a left side uses what is in scope
   pub InLeft : Signature → Counts → Left → Type 0
   InLeft g c (scalar x at) = x < c.scalars
-  InLeft g c (reference x at name part) = ⊥
+  InLeft g c (reference x at name part) = x < c.iters
   InLeft g c (element h ops) = (g.shape h.callee ≡ an_element) × (IsCall g c false h × InOperands g c ops)
 
   -- operands use what is in scope
@@ -127,7 +127,7 @@ abbrev pub InDeclaration : Signature → Counts → Declaration → Type 0
 InDeclaration g c (unset_scalar ty) = Unit {0}
 InDeclaration g c (set_scalar ty a) = InExpr g c a
 InDeclaration g c (set_iterator a) = (gift_of g a ≡ a_value a_stamp) × InExpr g c a
-InDeclaration g c (binds_reference h ops) = ⊥
+InDeclaration g c (binds_reference h ops) = (g.shape h.callee ≡ an_element) × (IsCall g c false h × InOperands g c ops)
 InDeclaration g c (makes form h ops) = IsCall g c true h × InOperands g c ops
 
 -- what is in scope after a declaration
@@ -155,9 +155,10 @@ abbrev pub InLast : Signature → Counts → Option Effect → Type 0
 InLast g c None = Unit {0}
 InLast g c (Some e) = InEffect g c e
 
--- what is in scope in the body of a range-for: its two hidden iterators come first, then the element
-abbrev pub with_range : Counts → Counts
-with_range c = one_scalar (one_iterator (one_iterator c))
+-- what is in scope in the body of a range-for: its two hidden iterators come first, then the element, a number or a reference
+abbrev pub with_range : Taken → Counts → Counts
+with_range taken.Value c = one_scalar (one_iterator (one_iterator c))
+with_range taken.Reference c = one_iterator (one_iterator (one_iterator c))
 
 -- what a range-for asks by itself makes no container; it gets an element, and its step gives an iterator
 pub record AsksWell (g : Signature) : Type 0 where
@@ -192,8 +193,7 @@ abbrev mutual
   InStmt g shape c (while l k a) = InCond g c k × (IsPart a × InStmt g shape c a)
   InStmt g shape c (for l head k last a) = InFirst g c head × (InCond g (with_first head c) k
       × (InLast g (with_first head c) last × (IsPart a × InStmt g shape (with_first head c) a)))
-  InStmt g shape c (range_for l taken.Value x at name a) = (x < c.conts) × (AsksWell g × (IsPart a × InStmt g shape (with_range c) a))
-  InStmt g shape c (range_for l taken.Reference x at name a) = ⊥
+  InStmt g shape c (range_for l by x at name a) = (x < c.conts) × (AsksWell g × (IsPart a × InStmt g shape (with_range by c) a))
   InStmt g shape c break = Unit {0}
   InStmt g shape c continue = Unit {0}
   InStmt g shape c (gives_back a) = GivesBack g c shape a

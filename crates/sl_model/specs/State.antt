@@ -4,31 +4,38 @@
 -- (its storage lasts as long), [dcl.init] (a scalar without an initialiser has no value), [dcl.ref] and [stmt.dcl].
 -- Chosen here: variables of all calls in progress lie on stacks, a variable is known by its location there, and the end of
 -- a scope invalidates the iterators of its containers at the site of its closing brace.
-use Rattle.std.specs.Prelude.{ℕ, List, [], ◌∷◌, ◌++◌, length, take, ℤ, Option, Some, None, slice_get, slice_set, slice_index}
+use Rattle.std.specs.Prelude.{ℕ, List, [], ◌∷◌, ◌++◌, length, take, ℤ, Option, Some, None, slice_get, slice_set, slice_index, slice_index_or}
 use Rattle.sl_base.specs.declared.scalar.Scalar.{Scalar}
-use Rattle.sl_model.specs.Containers.{Memory, end_from}
+use Rattle.sl_model.specs.Containers.{Memory, Part, end_from}
+
+-- what an iterator variable or a reference holds: a stamp, or the refer of an element and which number of it is referred to
+pub data Pointer : Type 0 where
+  iterator_at : ℕ → Pointer
+  reference_to : ℕ → Part → Pointer
 
 -- a scalar: its type, and its number where it is set
 pub record Slot : Type 0 where
   pub ty : Scalar
   pub value : Option ℤ
 
--- where the variables of the function in progress are: for each number of a variable its location.
+-- where the variables of the function in progress are: for each number of a variable its location, references among the iterators.
 -- Two numbers of functions in progress may have one location: that is a reference.
 pub record Frame : Type 0 where
   pub scalars : List ℕ
   pub conts : List ℕ
   pub iters : List ℕ
 
--- the scalars, containers and iterators of all calls in progress, by location; an iterator is a stamp
+-- the scalars, iterators and references, and containers of all calls in progress, by location; the input, picks and steps that are
+-- left; how many tests of loops there were; and the bytes written
 pub record State : Type 0 where
   pub frame : Frame
   pub scalars : List Slot
-  pub iters : List ℕ
+  pub iters : List Pointer
   pub memory : Memory
   pub input : List ℤ
   pub picks : List ℕ
   pub steps : ℕ
+  pub tests : ℕ
   pub written : List ℕ
 
 -- where a variable is
@@ -56,11 +63,24 @@ set_scalar_at at z s = elim (slice_get s.scalars at) [
 
 -- an iterator takes a stamp
 abbrev pub set_iterator_at : ℕ → ℕ → State → State
-set_iterator_at at stamp s = record s { iters = slice_set s.iters at stamp }
+set_iterator_at at stamp s = record s { iters = slice_set s.iters at (iterator_at stamp) }
+
+-- the number in a pointer
+abbrev pub mark_in : Pointer → ℕ
+mark_in (iterator_at stamp) = stamp
+mark_in (reference_to refer part) = refer
+
+-- what is held at a location
+abbrev pub pointer_at : State → ℕ → Pointer
+pointer_at s at = slice_index_or s.iters at (iterator_at 0)
+
+-- the stamp at a location
+abbrev pub stamp_held : State → ℕ → ℕ
+stamp_held s at = mark_in (pointer_at s at)
 
 -- the stamp of an iterator variable
 abbrev pub stamp_of : State → ℕ → ℕ
-stamp_of s x = slice_index s.iters (iter_of s x)
+stamp_of s x = stamp_held s (iter_of s x)
 
 -- a new scalar comes into scope
 abbrev pub new_scalar : Scalar → Option ℤ → State → State
@@ -69,12 +89,16 @@ new_scalar ty z s = record s {
   scalars = s.scalars ++ record { ty = ty; value = z } ∷ [];
 }
 
+-- a new iterator or reference comes into scope
+abbrev pub new_pointer : Pointer → State → State
+new_pointer p s = record s {
+  frame = record s.frame { iters = s.frame.iters ++ length s.iters ∷ [] };
+  iters = s.iters ++ p ∷ [];
+}
+
 -- a new iterator comes into scope
 abbrev pub new_iterator : ℕ → State → State
-new_iterator stamp s = record s {
-  frame = record s.frame { iters = s.frame.iters ++ length s.iters ∷ [] };
-  iters = s.iters ++ stamp ∷ [];
-}
+new_iterator stamp s = new_pointer (iterator_at stamp) s
 
 -- the container at a location comes into scope
 abbrev pub new_container : ℕ → State → State

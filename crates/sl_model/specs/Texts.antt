@@ -1,20 +1,22 @@
 -- The text of a refusal, and that of a report, in bytes: a line for each warning and a last line with their count, or the one
 -- line of a text that passed.
 -- No standard says any of it; all of it is chosen here. A warning's line is `NAME:L:C: KIND in CALL: WHO`, and behind it for an
--- invalid iterator the places at which it may have been invalidated, in the order of their sites.
-use Rattle.std.specs.Prelude.{ℕ, ◌==◌, nat_eq, Bool, List, [], ◌∷◌, ◌++◌, length, Option, Some, None, slice_get, slice_index_or, codes, decimal}
+-- invalid iterator or reference the places at which it may have been invalidated, in the order of their sites.
+use Rattle.std.specs.Prelude.{ℕ, ◌==◌, ◌||◌, nat_eq, Bool, List, [], ◌∷◌, ◌++◌, length, Option, Some, None, slice_get, slice_index_or, codes, decimal}
 use Rattle.std.specs.Prelude.{if◌then◌else◌}
 use Rattle.std.specs.Cmp.Lexicographic.{pointwise}
 use Rattle.std.specs.List.{flat_map}
 use Rattle.sl_base.specs.declared.failures.TheConstants.{INVALID_ITERATOR}
 use Rattle.sl_base.specs.declared.place.Place.{Place}
 use Rattle.sl_model.specs.Covers.{Warning}
+use Rattle.sl_model.specs.Ends.{invalid_reference}
 
 -- the words for the kinds of failures, by their numbers from 1 on
 abbrev pub kinds : List (List ℕ)
 kinds =
     [] ∷ codes "invalid iterator" ∷ codes "wrong container" ∷ codes "bad range" ∷ codes "end iterator" ∷ codes "out of range" ∷
-    codes "empty container" ∷ codes "own elements" ∷ codes "no room" ∷ codes "overlap" ∷ codes "not partitioned" ∷ codes "not sorted" ∷ []
+    codes "empty container" ∷ codes "own elements" ∷ codes "no room" ∷ codes "overlap" ∷ codes "not partitioned" ∷ codes "not sorted" ∷
+    codes "invalid reference" ∷ []
 
 -- the words for a kind
 abbrev pub kind_text : ℕ → List ℕ
@@ -51,14 +53,14 @@ abbrev pub further_sites : List Place → List ℕ → List ℕ
 further_sites sites [] = []
 further_sites sites (site ∷ more) = codes ", " ++ (site_text sites site ++ further_sites sites more)
 
--- the sites at which an iterator may have been invalidated
+-- the sites at which an iterator or a reference may have been invalidated
 abbrev pub sites_text : List Place → List ℕ → List ℕ
 sites_text sites [] = []
 sites_text sites (site ∷ more) = codes ", invalidated at " ++ (site_text sites site ++ further_sites sites more)
 
--- these sites where the kind is that of an invalid iterator
+-- these sites where the kind is that of an invalid iterator or of an invalid reference
 abbrev pub killers_text : List Place → ℕ → List ℕ → List ℕ
-killers_text sites kind killers = if kind == INVALID_ITERATOR then sites_text sites killers else []
+killers_text sites kind killers = if kind == INVALID_ITERATOR || kind == invalid_reference then sites_text sites killers else []
 
 -- the line of a warning in a file with this name
 abbrev pub warning_line : List ℕ → List Place → Warning → List ℕ

@@ -1,16 +1,17 @@
-//! The text of the places at which an iterator may have been invalidated.
+//! The text of the places at which an iterator or a reference may have been invalidated.
 ghost use Rattle.std.specs.Prelude.{◌≡◌, [], ◌∷◌, ◌++◌, if◌then◌else◌, IfOk, OnOk};
 ghost use Rattle.sl_kind.specs.Kills.{has};
 ghost use Rattle.sl_model.specs.Texts.{place_text, site_text, further_sites, sites_text, killers_text};
 ghost use Rattle.sl_warnings.specs.Views.{sites_in};
 
+use crate::warning::INVALID_REFERENCE;
 use sl_base::failures::INVALID_ITERATOR;
 use sl_base::limits::SITES;
 use sl_base::{Items, Place, Site};
 use sl_kind::Kills;
 use std::alloc::{AllocError, Global};
 
-// The places of these killers, where the kind is that of an invalid iterator.
+// The places of these killers, where the kind is that of an invalid iterator or of an invalid reference.
 pub fn push_killers(
     alloc: Global,
     out: &mut Items<u8>,
@@ -20,7 +21,7 @@ pub fn push_killers(
 ) -> Result<(), AllocError>
     ensures { OnOk result (out.new ≡ out.old ++ killers_text sites.now kind (sites_in killers.now)) }
 {
-    if kind != INVALID_ITERATOR {
+    if kind != INVALID_ITERATOR && kind != INVALID_REFERENCE {
         return Ok(());
     }
     let numbers = sites_of(alloc, killers)?;

@@ -20,6 +20,7 @@ use Rattle.sl_model.specs.Shapes.{Signature, lib_shape, lib_makes, signature_of}
 use Rattle.sl_model.specs.Scoped.{Counts, InExpr, AsksWell, IsScopedFunction, IsScoped}
 use Rattle.sl_model.proofs.Examples.Short.{at, head}
 use Rattle.sl_model.proofs.Examples.Runs.{growth}
+use Rattle.sl_model.proofs.Examples.References.{named_behind_clear, keys_added}
 
 -- a text of one function
 one_function : (p : Typed) (h : Function) → p.functions ≡ h ∷ [] → IsScopedFunction (signature_of lib_shape lib_makes p) h → (i : ℕ) (k : Function)
@@ -42,6 +43,59 @@ growth_is_scoped = record {
         (
           ((refl, (omega arith)), (tt, tt)),
           ((refl, ((refl, tt), ((omega arith), tt))), tt),
+        ),
+      ),
+    ),
+  );
+  main = _;
+  main_there = refl;
+  main_parameters = refl;
+  main_result = refl;
+}
+
+-- a reference is in scope from its declaration on
+reference_is_scoped : IsScoped lib_shape lib_makes named_behind_clear
+unfolding table
+reference_is_scoped = record {
+  bodies = one_function named_behind_clear _ refl (
+    ((refl, tt), tt),
+    (
+      ((refl, (omega arith)), (tt, tt)),
+      (
+        (refl, ((refl, (omega arith)), tt)),
+        (
+          ((refl, (omega arith)), tt),
+          ((omega arith), tt),
+        ),
+      ),
+    ),
+  );
+  main = _;
+  main_there = refl;
+  main_parameters = refl;
+  main_result = refl;
+}
+
+-- the library has what a range-for asks of it in that text
+map_asks_well : AsksWell (signature_of lib_shape lib_makes keys_added)
+map_asks_well = record { tests = refl; reads_one = refl; steps = refl; element_read = refl; stamp_stepped = refl }
+
+-- the reference of a range-for is in scope in its body, behind the two hidden iterators
+range_is_scoped : IsScoped lib_shape lib_makes keys_added
+unfolding table
+range_is_scoped = record {
+  bodies = one_function keys_added _ refl (
+    ((refl, tt), tt),
+    (
+      (tt, (refl, ((refl, (omega arith)), (tt, tt)))),
+      (
+        (tt, (refl, ((refl, (omega arith)), (tt, tt)))),
+        (
+          ((omega arith), (map_asks_well, (tt, ((omega arith), (omega arith))))),
+          (
+            ((refl, ((refl, (omega arith)), (tt, tt))), (tt, ((refl, ((refl, (omega arith)), (tt, tt))), tt))),
+            tt,
+          ),
         ),
       ),
     ),

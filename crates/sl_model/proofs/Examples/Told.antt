@@ -8,6 +8,7 @@ use Rattle.sl_model.specs.Covers.{Warning, CanTrap, Covers}
 use Rattle.sl_model.specs.Texts.{report_text}
 use Rattle.sl_model.proofs.Examples.Short.{at, trap}
 use Rattle.sl_model.proofs.Examples.Runs.{growth}
+use Rattle.sl_model.proofs.Examples.References.{read_behind_clear}
 
 abbrev growth_trap : Trap
 growth_trap = trap (at 6 11) 1 (codes "*") 1 (Some 1) (Some 1)
@@ -41,6 +42,37 @@ growth_text = refl
 
 passed_text : report_text (codes "a.cpp") growth.sites [] ≡ codes "a.cpp: passed\n"
 passed_text = refl
+
+-- a use of a reference behind `clear`
+abbrev use_behind_clear : Trap
+use_behind_clear = trap (at 6 16) 12 (codes "use") 1 (Some 1) (Some 1)
+
+read_can_trap : CanTrap read_behind_clear use_behind_clear
+unfolding table
+read_can_trap = record {
+  input = [];
+  picks = [];
+  steps = 100;
+  is_input = λ k d h. absurd (omega (arith, h));
+  is_schedule = λ k d h. absurd (omega (arith, h));
+  traps = refl;
+}
+
+abbrev use_warning : Warning
+use_warning = record { place = at 6 16; kind = 12; call = codes "use"; argument = 1; name = Some (codes "r"); killers = 1 ∷ [] }
+
+use_is_told : Covers read_behind_clear.names (use_warning ∷ []) use_behind_clear
+use_is_told = record {
+  index = 0;
+  warning = use_warning;
+  there = refl;
+  tells = record { place = refl; kind = refl; call = refl; argument = refl; name = refl; killer = λ site e. (0, omega arith, cc) };
+}
+
+use_text : report_text (codes "a.cpp") read_behind_clear.sites (use_warning ∷ [])
+    ≡ codes "a.cpp:6:16: invalid reference in use: r, invalidated at 5:5\na.cpp: warnings: 1\n"
+unfolding digits
+use_text = refl
 
 -- the end of a container in a range-for, dropped at one of two sites, and an operand without a name
 abbrev two_warnings : List Warning
