@@ -7,8 +7,6 @@ use Rattle.sl_syntax.specs.declared.subset.Stmt.TheVariants.{Vector, PushBack, B
 use Rattle.sl_syntax.specs.declared.subset.Text.{Text}
 use Rattle.sl_syntax.specs.Typed.{Function}
 use Rattle.sl_syntax.specs.SubsetView.{stmt_of, stmts_of, typed_of, main_of, brace_site}
-use Rattle.sl_model.specs.Containers.{empty_memory}
-use Rattle.sl_model.specs.Good.{IsAt}
 use Rattle.sl_model.specs.Ends.{Trap}
 use Rattle.sl_model.specs.State.{State}
 use Rattle.sl_model.specs.Eval.{Oracle}
