@@ -19,7 +19,7 @@ use Rattle.sl_model.specs.Numbers.{converted}
 use Rattle.sl_model.specs.Schedule.{pick}
 use Rattle.sl_model.specs.Values.{Value, number, iterator, nothing, LibOut, thrown, trapped, gives}
 use Rattle.sl_model.specs.Ends.{Trapped, OutOfSteps, End}
-use Rattle.sl_model.specs.State.{State, cont_of, iter_of, stamp_of, new_iterator}
+use Rattle.sl_model.specs.State.{mark_in, iterator_at, Pointer, State, cont_of, iter_of, stamp_of, new_iterator}
 use Rattle.sl_model.specs.Eval.{Oracle, settle_call}
 use Rattle.sl_model.specs.Exec.{Flow, Next, Over, Meaning, tick, exec, flow_of, on_stamp, declared, affect}
 use Rattle.sl_model.specs.Effects.{picks_with}
@@ -155,25 +155,25 @@ star_gone names place name stamp site x xs killers s some e h = record {
 }
 
 -- `*` of an iterator that stands at the begin of its vector, which has elements or hasn't
-star_here : (names : List (List ℕ)) (k : Known) (place : Place) (name it stamp n : ℕ) (standing : Standing) (s : State) (filled : Bool)
-    → IsPlain k n s → slice_get s.iters it ≡ Some stamp
-    → Stays s.memory stamp (is_filled k standing.vector) (killers_of k standing) standing → standing.at_element ≡ filled
+star_here : (names : List (List ℕ)) (k : Known) (place : Place) (name it n : ℕ) (held_there : Pointer) (standing : Standing) (s : State) (filled : Bool)
+    → IsPlain k n s → slice_get s.iters it ≡ Some held_there
+    → Stays s.memory (mark_in held_there) (is_filled k standing.vector) (killers_of k standing) standing → standing.at_element ≡ filled
     → GoesOrTraps names (found_valid k it standing) n filled (told_at place name (fault_in [] filled))
-    (star_flow place name stamp s (at_element standing.vector 0 (size (cont_at s.memory standing.vector)) s.memory s.picks))
-star_here names k place name it stamp n standing s filled p at stays e =
+    (star_flow place name (mark_in held_there) s (at_element standing.vector 0 (size (cont_at s.memory standing.vector)) s.memory s.picks))
+star_here names k place name it n held_there standing s filled p at stays e =
     let c : Cont = stays.here.cont in
     subst (λ (d : Cont). GoesOrTraps names (found_valid k it standing) n filled (told_at place name (fault_in [] filled))
-    (star_flow place name stamp s (at_element standing.vector 0 (size d) s.memory s.picks)))
+    (star_flow place name (mark_in held_there) s (at_element standing.vector 0 (size d) s.memory s.picks)))
     (sym (cont_at-there s.memory standing.vector c stays.here.there))
     (by_filled filled (sym e ∙ sym stays.same ∙ p.described.filled standing.vector c stays.here.there))
   where
     by_filled : (b : Bool) → b ≡ nat_lt 0 (size stays.here.cont)
         → GoesOrTraps names (found_valid k it standing) n b (told_at place name (fault_in [] b))
-        (star_flow place name stamp s (at_element standing.vector 0 (size stays.here.cont) s.memory s.picks))
+        (star_flow place name (mark_in held_there) s (at_element standing.vector 0 (size stays.here.cont) s.memory s.picks))
     by_filled true q = rw (ne_eqb 0 (size stays.here.cont) (λ none. let some = ltb-true 0 (size stays.here.cont) (sym q) in omega arith)) (
       refl,
       record {
-        described = kept-valid k s.memory s.frame s.iters (s.frame.scalars ++ length s.scalars ∷ []) it stamp standing p.described at stays;
+        described = kept-valid k s.memory s.frame s.iters (s.frame.scalars ++ length s.scalars ∷ []) it held_there standing p.described at stays;
         full = full-valid k s.memory s.iters it standing p.full;
         picks = p.picks;
         steps = p.steps;
@@ -187,24 +187,24 @@ abbrev star_out : ℕ → State → LibOut
 star_out stamp s = lib (callees.Operator operators.Dereference) (starring stamp) s.memory s.picks
 
 -- `*` of an iterator, by the calls that are behind its standing
-star_plain : (names : List (List ℕ)) (k : Known) (place : Place) (name it stamp n : ℕ) (standing : Standing) (s : State) (killers : List ℕ)
-    → IsPlain k n s → slice_get s.iters it ≡ Some stamp → slice_get k.iterators it ≡ Some standing → killers_of k standing ≡ killers
+star_plain : (names : List (List ℕ)) (k : Known) (place : Place) (name it n : ℕ) (held_there : Pointer) (standing : Standing) (s : State) (killers : List ℕ)
+    → IsPlain k n s → slice_get s.iters it ≡ Some held_there → slice_get k.iterators it ≡ Some standing → killers_of k standing ≡ killers
     → GoesOrTraps names (found_valid k it standing) n standing.at_element (told_at place name (fault_in killers standing.at_element))
-    (star_flow place name stamp s (star_out stamp s))
-star_plain names k place name it stamp n standing s [] p at known no_killers =
-    let stays : Stays s.memory stamp (is_filled k standing.vector) (killers_of k standing) standing = stands_still k s.memory s.frame s.iters it stamp
+    (star_flow place name (mark_in held_there) s (star_out (mark_in held_there) s))
+star_plain names k place name it n held_there standing s [] p at known no_killers =
+    let stays : Stays s.memory (mark_in held_there) (is_filled k standing.vector) (killers_of k standing) standing = stands_still k s.memory s.frame s.iters it held_there
     standing p.described at known no_killers in
     subst (λ (out : LibOut). GoesOrTraps names (found_valid k it standing) n standing.at_element
-    (told_at place name (fault_in [] standing.at_element)) (star_flow place name stamp s out))
-    (sym (lib-star_valid s.memory stamp standing.vector 0 s.picks (locate-at s.memory standing.vector 0 stamp p.described.sound stays.here)))
-    (star_here names k place name it stamp n standing s standing.at_element p at stays refl)
-star_plain names k place name it stamp n standing s (x ∷ xs) p at known some =
-    let gone : IsGone s.memory stamp k standing = p.full.gone it stamp standing at known x xs some in
+    (told_at place name (fault_in [] standing.at_element)) (star_flow place name (mark_in held_there) s out))
+    (sym (lib-star_valid s.memory (mark_in held_there) standing.vector 0 s.picks (locate-at s.memory standing.vector 0 (mark_in held_there) p.described.sound stays.here)))
+    (star_here names k place name it n held_there standing s standing.at_element p at stays refl)
+star_plain names k place name it n held_there standing s (x ∷ xs) p at known some =
+    let gone : IsGone s.memory (mark_in held_there) k standing = p.full.gone it held_there standing at known x xs some in
     subst (λ (out : LibOut). EndsTrapped names (record { place = place; name = name; fault = InvalidIterator (x ∷ xs) })
-    (star_flow place name stamp s out))
-    (sym (lib-star_invalid s.memory stamp s.picks
-    (locate-dropped s.memory stamp gone.0 p.described.sound (dropped-killer s.memory stamp gone.0 gone.1))))
-    (star_gone names place name stamp gone.0 x xs (killers_of k standing) s some gone.1 gone.2)
+    (star_flow place name (mark_in held_there) s out))
+    (sym (lib-star_invalid s.memory (mark_in held_there) s.picks
+    (locate-dropped s.memory (mark_in held_there) gone.0 p.described.sound (dropped-killer s.memory (mark_in held_there) gone.0 gone.1))))
+    (star_gone names place name (mark_in held_there) gone.0 x xs (killers_of k standing) s some gone.1 gone.2)
 
 pub plain-star : (names : List (List ℕ)) (k : Known) (own : Oracle) (place named : Place) (it name n : ℕ) (s : State) → IsPlain k (n + 1) s
     → it < length k.iterators
@@ -214,9 +214,10 @@ plain-star names k own place named it name n s p lt =
     let d : Describes k s.memory s.frame s.iters = p.described in
     let standing : Standing = standing_at k it in
     let known = there k.iterators it lt in
-    let stamp = there s.iters it (let e = d.iterators in omega arith) in
+    let pointer = there s.iters it (let e = d.iterators in omega arith) in
     let at : iter_of s it ≡ it = located s.frame.iters (length k.iterators) it d.iters_frame lt in
-    let same : stamp_of s it ≡ stamp.0 = ap (λ l. get_or s.iters l 0) at ∙ get_or-there s.iters it stamp.0 0 stamp.1 in
+    let same : stamp_of s it ≡ mark_in pointer.0 = ap (λ l. mark_in (get_or s.iters l (iterator_at 0))) at
+    ∙ ap mark_in (get_or-there s.iters it pointer.0 (iterator_at 0) pointer.1) in
     let is : standing ≡ known.0 = get_or-there k.iterators it known.0 (record { vector = 0; at_element = true; since = 0 }) known.1 in
     steps-on (GoesOrTraps names (found_valid k it standing) n standing.at_element (dereferenced k place name standing))
     (declared (world_of own)
@@ -227,5 +228,5 @@ plain-star names k own place named it name n s p lt =
     subst (λ (x : ℕ). GoesOrTraps names (found_valid k it standing) n standing.at_element (dereferenced k place name standing)
     (star_flow place name x now (star_out x now)))
     (sym same)
-    (star_plain names k place name it stamp.0 n standing now (killers_of k standing)
-    (record { described = d; full = p.full; picks = p.picks; steps = left }) stamp.1 (rw is known.1) refl))
+    (star_plain names k place name it n pointer.0 standing now (killers_of k standing)
+    (record { described = d; full = p.full; picks = p.picks; steps = left }) pointer.1 (rw is known.1) refl))

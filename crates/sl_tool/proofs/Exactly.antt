@@ -13,7 +13,7 @@ use Rattle.sl_model.specs.Edits.{change_of, changed}
 use Rattle.sl_model.specs.Effects.{room_with}
 use Rattle.sl_model.specs.Schedule.{pick}
 use Rattle.sl_model.specs.Good.{IsAt, IsSound}
-use Rattle.sl_model.specs.State.{State, Frame}
+use Rattle.sl_model.specs.State.{Pointer, iterator_at, mark_in, State, Frame}
 use Rattle.sl_tool.specs.declared.analysis.Standing.{Standing}
 use Rattle.sl_tool.specs.Means.Analysis.{Known, is_filled, killers_of, with_vector, with_push, with_iterator, found_valid}
 use Rattle.sl_tool.proofs.Describes.{Describes, Stays}
@@ -28,11 +28,11 @@ abbrev pub IsGone : Memory → ℕ → Known → Standing → Type 0
 IsGone m stamp k standing = (site : ℕ) × (killer m stamp ≡ Some site) × Contains (killers_of k standing) site
 
 -- each vector is full and has no more elements than there were calls, and an iterator behind whose standing a call is was dropped
-pub record IsFull (k : Known) (m : Memory) (iters : List ℕ) : Type 0 where
+pub record IsFull (k : Known) (m : Memory) (iters : List Pointer) : Type 0 where
   pub full : (j : ℕ) (c : Cont) → slice_get m.conts j ≡ Some c → c.room ≡ size c
   pub few : (j : ℕ) (c : Cont) → slice_get m.conts j ≡ Some c → size c ≤ length k.pushes
-  pub gone : (i stamp : ℕ) (standing : Standing) → slice_get iters i ≡ Some stamp → slice_get k.iterators i ≡ Some standing → (x : ℕ) (xs : List ℕ)
-      → killers_of k standing ≡ x ∷ xs → IsGone m stamp k standing
+  pub gone : (i : ℕ) (held : Pointer) (standing : Standing) → slice_get iters i ≡ Some held → slice_get k.iterators i ≡ Some standing
+      → (x : ℕ) (xs : List ℕ) → killers_of k standing ≡ x ∷ xs → IsGone m (mark_in held) k standing
 
 -- a state of the plainest run: what is known describes it, no pick is left, and n steps at least
 pub record IsPlain (k : Known) (n : ℕ) (s : State) : Type 0 where
@@ -42,16 +42,16 @@ pub record IsPlain (k : Known) (n : ℕ) (s : State) : Type 0 where
   pub steps : n ≤ s.steps
 
 -- an iterator behind whose standing no call is stands at the begin of its vector
-pub stands_still : (k : Known) (m : Memory) (frame : Frame) (iters : List ℕ) (i stamp : ℕ) (standing : Standing) → Describes k m frame iters
-    → slice_get iters i ≡ Some stamp → slice_get k.iterators i ≡ Some standing → killers_of k standing ≡ []
-    → Stays m stamp (is_filled k standing.vector) (killers_of k standing) standing
-stands_still k m frame iters i stamp standing d at known none = elim (d.stands i stamp standing at known) [
+pub stands_still : (k : Known) (m : Memory) (frame : Frame) (iters : List Pointer) (i : ℕ) (held : Pointer) (standing : Standing)
+    → Describes k m frame iters → slice_get iters i ≡ Some held → slice_get k.iterators i ≡ Some standing → killers_of k standing ≡ []
+    → Stays m (mark_in held) (is_filled k standing.vector) (killers_of k standing) standing
+stands_still k m frame iters i held standing d at known none = elim (d.stands i held standing at known) [
   | inl stays ↦ stays
   | inr dead ↦ absurd (none_among (killers_of k standing) dead.0 none dead.2)
 ]
 
 -- A new vector.
-pub full-vector : (k : Known) (m : Memory) (iters : List ℕ) (room : ℕ) → room ≡ 0 → IsFull k m iters
+pub full-vector : (k : Known) (m : Memory) (iters : List Pointer) (room : ℕ) → room ≡ 0 → IsFull k m iters
     → IsFull (with_vector k) (made f.Vector room [] m) iters
 full-vector k m iters room none d =
     let new : Cont = record { form = f.Vector; cells = []; end = m.fresh; room = room } in
@@ -62,15 +62,15 @@ full-vector k m iters room none d =
     }
 
 -- A new iterator.
-pub full-begin : (k : Known) (m : Memory) (iters : List ℕ) (v stamp : ℕ) → length iters ≡ length k.iterators → IsFull k m iters
-    → IsFull (with_iterator k v) m (iters ++ stamp ∷ [])
+pub full-begin : (k : Known) (m : Memory) (iters : List Pointer) (v stamp : ℕ) → length iters ≡ length k.iterators → IsFull k m iters
+    → IsFull (with_iterator k v) m (iters ++ iterator_at stamp ∷ [])
 full-begin k m iters v stamp same d =
     let new : Standing = record { vector = v; at_element = is_filled k v; since = length k.pushes } in
     record {
       full = d.full;
       few = d.few;
       gone = λ i old standing at known x xs some. elim (pushed k.iterators new standing i known) [
-        | inl before ↦ elim (pushed iters stamp old i at) [
+        | inl before ↦ elim (pushed iters (iterator_at stamp) old i at) [
           | inl there ↦ d.gone i old standing there before x xs some
           | inr last ↦ absurd (let lt = slice_get_within k.iterators i standing before in let q = last.0 in omega arith)
         ]
@@ -79,7 +79,7 @@ full-begin k m iters v stamp same d =
     }
 
 -- An iterator that was found valid.
-pub full-valid : (k : Known) (m : Memory) (iters : List ℕ) (it : ℕ) (standing : Standing) → IsFull k m iters
+pub full-valid : (k : Known) (m : Memory) (iters : List Pointer) (it : ℕ) (standing : Standing) → IsFull k m iters
     → IsFull (found_valid k it standing) m iters
 full-valid k m iters it standing d =
     let new : Standing = valid k standing in
@@ -127,7 +127,7 @@ gone-still k m v c z picks site stamp standing sound there since dead = (
 )
 
 -- A `push_back`.
-pub full-push : (k : Known) (m : Memory) (frame : Frame) (iters : List ℕ) (v : ℕ) (c : Cont) (z : ℤ) (picks : List ℕ) (site : ℕ)
+pub full-push : (k : Known) (m : Memory) (frame : Frame) (iters : List Pointer) (v : ℕ) (c : Cont) (z : ℤ) (picks : List ℕ) (site : ℕ)
     → Describes k m frame iters → slice_get m.conts v ≡ Some c → picks ≡ [] → IsFull k m iters
     → IsFull (with_push k v site) (after_push m v c z picks site) iters
 full-push k m frame iters v c z picks site d there none h =
@@ -145,13 +145,13 @@ full-push k m frame iters v c z picks site d there none h =
         | inl same ↦ rw same.1 (let old = h.few v c there in omega arith)
         | inr old ↦ let before = h.few j x old.1 in omega arith
       ];
-      gone = λ i stamp standing at known x xs some. elim (d.stands i stamp standing at known) [
-        | inl stays ↦ ⊎_elim (λ (same : v ≡ standing.vector). gone-own k m v c z picks site stamp standing d.sound there (h.full v c there) same
+      gone = λ i held standing at known x xs some. elim (d.stands i held standing at known) [
+        | inl stays ↦ ⊎_elim (λ (same : v ≡ standing.vector). gone-own k m v c z picks site (mark_in held) standing d.sound there (h.full v c there) same
             (d.since i standing known) stays.here)
             (λ (other : v ≡ standing.vector → ⊥).
-            gone-still k m v c z picks site stamp standing d.sound there (d.since i standing known)
-            (h.gone i stamp standing at known x xs (sym (killers_of-other k standing v site other (d.since i standing known)) ∙ some)))
+            gone-still k m v c z picks site (mark_in held) standing d.sound there (d.since i standing known)
+            (h.gone i held standing at known x xs (sym (killers_of-other k standing v site other (d.since i standing known)) ∙ some)))
             (cases_eq v standing.vector)
-        | inr dead ↦ gone-still k m v c z picks site stamp standing d.sound there (d.since i standing known) dead
+        | inr dead ↦ gone-still k m v c z picks site (mark_in held) standing d.sound there (d.since i standing known) dead
       ];
     }

@@ -16,7 +16,7 @@ use Rattle.sl_specs.specs.declared.class.Class.TheVariants.{VectorInsert}
 use Rattle.sl_model.specs.Classes.{Edit, kills, vector_insert_kills}
 use Rattle.sl_model.specs.Edits.{numbers, change_of, after, changed, shifted}
 use Rattle.sl_model.specs.Good.{IsAt, IsSound}
-use Rattle.sl_model.specs.State.{Frame}
+use Rattle.sl_model.specs.State.{Pointer, iterator_at, mark_in, Frame}
 use Rattle.sl_model.specs.Effects.{insertion}
 use Rattle.sl_tool.specs.declared.analysis.Standing.{Standing}
 use Rattle.sl_tool.specs.Means.Analysis.{Known, is_filled, killers_of, with_vector, with_push, with_iterator, found_valid}
@@ -37,7 +37,7 @@ frame-more : {A : Type 0} (xs : List A) (x : A) (at : List ℕ) (n : ℕ) → at
 frame-more xs x at n e q = rw (e, q, length-more xs x) (numbers-more (length xs))
 
 -- A new vector.
-pub kept-vector : (k : Known) (m : Memory) (frame : Frame) (iters : List ℕ) (room : ℕ) → Describes k m frame iters
+pub kept-vector : (k : Known) (m : Memory) (frame : Frame) (iters : List Pointer) (room : ℕ) → Describes k m frame iters
     → Describes (with_vector k) (made f.Vector room [] m) (record frame { conts = frame.conts ++ length m.conts ∷ [] }) iters
 kept-vector k m frame iters room d =
     let new : Cont = record { form = f.Vector; cells = []; end = m.fresh; room = room } in
@@ -53,9 +53,9 @@ kept-vector k m frame iters room d =
             ∙ d.filled j c old
         | inr last ↦ rw (last.0 ∙ d.vectors, last.1) (get_or-append_seam k.filled false [] false)
       ];
-      stands = λ i stamp standing at known. elim (d.stands i stamp standing at known) [
+      stands = λ i held standing at known. elim (d.stands i held standing at known) [
         | inl stays ↦ inl (record {
-          here = made-at f.Vector room [] m standing.vector 0 stamp stays.here;
+          here = made-at f.Vector room [] m standing.vector 0 (mark_in held) stays.here;
           same = get_or_append_left k.filled (false ∷ []) false standing.vector
               (let lt = slice_get_within m.conts standing.vector stays.here.cont stays.here.there in let e = d.vectors in omega arith) ∙ stays.same;
           still = stays.still;
@@ -79,23 +79,23 @@ begin_at m j c h = record {
     first (x ∷ xs) = refl
 
 -- A new iterator.
-pub kept-begin : (k : Known) (m : Memory) (frame : Frame) (iters : List ℕ) (v : ℕ) (c : Cont) → Describes k m frame iters
+pub kept-begin : (k : Known) (m : Memory) (frame : Frame) (iters : List Pointer) (v : ℕ) (c : Cont) → Describes k m frame iters
     → slice_get m.conts v ≡ Some c
-    → Describes (with_iterator k v) m (record frame { iters = frame.iters ++ length iters ∷ [] }) (iters ++ begin_of m v ∷ [])
+    → Describes (with_iterator k v) m (record frame { iters = frame.iters ++ length iters ∷ [] }) (iters ++ iterator_at (begin_of m v) ∷ [])
 kept-begin k m frame iters v c d there =
     let new : Standing = record { vector = v; at_element = is_filled k v; since = length k.pushes } in
     record {
       sound = d.sound;
       vectors = d.vectors;
-      iterators = length-more iters (begin_of m v) ∙ ap (λ n. n + 1) d.iterators ∙ sym (length-more k.iterators new);
+      iterators = length-more iters (iterator_at (begin_of m v)) ∙ ap (λ n. n + 1) d.iterators ∙ sym (length-more k.iterators new);
       conts_frame = d.conts_frame;
       iters_frame = frame-more k.iterators new frame.iters (length iters) d.iters_frame d.iterators;
       forms = d.forms;
       filled = d.filled;
-      stands = λ i stamp standing at known. elim (pushed iters (begin_of m v) stamp i at) [
+      stands = λ i held standing at known. elim (pushed iters (iterator_at (begin_of m v)) held i at) [
         | inl old ↦ elim (pushed k.iterators new standing i known) [
-          | inl before ↦ d.stands i stamp standing old before
-          | inr last ↦ absurd (let lt = slice_get_within iters i stamp old in let e = d.iterators in let q = last.0 in omega arith)
+          | inl before ↦ d.stands i held standing old before
+          | inr last ↦ absurd (let lt = slice_get_within iters i held old in let e = d.iterators in let q = last.0 in omega arith)
         ]
         | inr end ↦ elim (pushed k.iterators new standing i known) [
           | inl before ↦ absurd (let lt = slice_get_within k.iterators i standing before in let e = d.iterators in let q = end.0 in omega arith)
@@ -111,20 +111,20 @@ abbrev pub valid : Known → Standing → Standing
 valid k standing = record { vector = standing.vector; at_element = standing.at_element; since = length k.pushes }
 
 -- it stays where it was
-stays_valid : (k : Known) (m : Memory) (standing other : Standing) (iters : List ℕ) (it stamp also : ℕ) → slice_get iters it ≡ Some stamp
-    → slice_get iters it ≡ Some also → other ≡ valid k standing
-    → Stays m stamp (is_filled k standing.vector) (killers_of k standing) standing → Stays m also (is_filled k other.vector)
-    (killers_of k other) other
-stays_valid k m standing other iters it stamp also p q e stays =
-    let same : also ≡ stamp = cc in
+stays_valid : (k : Known) (m : Memory) (standing other : Standing) (iters : List Pointer) (it : ℕ) (held also : Pointer)
+    → slice_get iters it ≡ Some held → slice_get iters it ≡ Some also → other ≡ valid k standing
+    → Stays m (mark_in held) (is_filled k standing.vector) (killers_of k standing) standing
+    → Stays m (mark_in also) (is_filled k other.vector) (killers_of k other) other
+stays_valid k m standing other iters it held also p q e stays =
+    let same : also ≡ held = cc in
     rw (e, same) (record { here = stays.here; same = stays.same; still = λ none. killers_of-new k standing.vector standing.at_element })
 
 -- An iterator that was found valid.
-pub kept-valid : (k : Known) (m : Memory) (frame : Frame) (iters scalars : List ℕ) (it stamp : ℕ) (standing : Standing) → Describes k m frame iters
-    → slice_get iters it ≡ Some stamp
-    → Stays m stamp (is_filled k standing.vector) (killers_of k standing) standing → Describes (found_valid k it standing) m
-    (record frame { scalars = scalars }) iters
-kept-valid k m frame iters scalars it stamp standing d at stays =
+pub kept-valid : (k : Known) (m : Memory) (frame : Frame) (iters : List Pointer) (scalars : List ℕ) (it : ℕ) (held : Pointer) (standing : Standing)
+    → Describes k m frame iters → slice_get iters it ≡ Some held
+    → Stays m (mark_in held) (is_filled k standing.vector) (killers_of k standing) standing
+    → Describes (found_valid k it standing) m (record frame { scalars = scalars }) iters
+kept-valid k m frame iters scalars it held standing d at stays =
     let new : Standing = valid k standing in
     record {
       sound = d.sound;
@@ -135,7 +135,7 @@ kept-valid k m frame iters scalars it stamp standing d at stays =
       forms = d.forms;
       filled = d.filled;
       stands = λ i other known_at at_i known. elim (written k.iterators it new known_at i known) [
-        | inl same ↦ inl (stays_valid k m standing known_at iters it stamp other at (rw same.0 at at_i) same.1 stays)
+        | inl same ↦ inl (stays_valid k m standing known_at iters it held other at (rw same.0 at at_i) same.1 stays)
         | inr old ↦ d.stands i other known_at at_i old.1
       ];
       since = λ i known_at known. elim (written k.iterators it new known_at i known)
@@ -198,7 +198,7 @@ here-other k m v c z picks site stamp standing other since stays = inl (record {
 })
 
 -- A `push_back`.
-pub kept-push : (k : Known) (m : Memory) (frame : Frame) (iters : List ℕ) (v : ℕ) (c : Cont) (z : ℤ) (picks : List ℕ) (site : ℕ)
+pub kept-push : (k : Known) (m : Memory) (frame : Frame) (iters : List Pointer) (v : ℕ) (c : Cont) (z : ℤ) (picks : List ℕ) (site : ℕ)
     → Describes k m frame iters → slice_get m.conts v ≡ Some c → size c + 1 ≤ ELEMENTS
     → Describes (with_push k v site) (after_push m v c z picks site) frame iters
 kept-push k m frame iters v c z picks site d there few =
@@ -218,17 +218,17 @@ kept-push k m frame iters v c z picks site d there few =
             ∙ sym (lt-ltb 0 (size new) (let e = size-after VectorInsert m c (push_edit c z picks) (omega arith) in omega arith)))
         | inr old ↦ get_or-set_other k.filled v j true false (λ e. old.0 (sym e)) ∙ d.filled j x old.1
       ];
-      stands = λ i stamp standing at known. elim (d.stands i stamp standing at known) [
+      stands = λ i held standing at known. elim (d.stands i held standing at known) [
         | inl stays ↦ ⊎_elim
             (λ (same : v ≡ standing.vector).
-            here-own k m v c z picks site stamp standing d.sound there
+            here-own k m v c z picks site (mark_in held) standing d.sound there
             (let lt = slice_get_within m.conts v c there in let e = d.vectors in omega arith) (d.filled v c there) same
             (d.since i standing known) stays)
-            (λ (other : v ≡ standing.vector → ⊥). here-other k m v c z picks site stamp standing other (d.since i standing known) stays)
+            (λ (other : v ≡ standing.vector → ⊥). here-other k m v c z picks site (mark_in held) standing other (d.since i standing known) stays)
             (cases_eq v standing.vector)
         | inr dead ↦ inr (
           dead.0,
-          after-dead VectorInsert m v stamp dead.0 c (push_edit c z picks) site d.sound there dead.1,
+          after-dead VectorInsert m v (mark_in held) dead.0 c (push_edit c z picks) site d.sound there dead.1,
           killers_of-more k standing v site dead.0 (d.since i standing known) dead.2,
         )
       ];

@@ -20,7 +20,7 @@ use Rattle.sl_model.specs.Edits.{numbers}
 use Rattle.sl_model.specs.Values.{Value, number, iterator, nothing, element_at, LibOut, thrown, trapped, gives}
 use Rattle.sl_model.specs.Good.{IsAt}
 use Rattle.sl_model.specs.Ends.{Trap}
-use Rattle.sl_model.specs.State.{State, Frame, cont_of, iter_of, stamp_of, new_scalar, new_iterator, new_container}
+use Rattle.sl_model.specs.State.{Pointer, iterator_at, mark_in, State, Frame, cont_of, iter_of, stamp_of, new_scalar, new_iterator, new_container}
 use Rattle.sl_model.specs.Eval.{Oracle, World, then_eval, settle_call, read_at}
 use Rattle.sl_model.specs.Exec.{Flow, Next, exec, flow_of, on_number, on_stamp, declared, affect}
 use Rattle.sl_model.specs.Effects.{picks_with}
@@ -56,7 +56,7 @@ goes-vector names k own place named s d = ticked names (with_vector k) true []
     (sym (lib-vector s.memory s.picks)) (refl, kept-vector k s.memory s.frame s.iters (pick s.picks) d))
 
 -- a vector that is in scope is there, at the location of its number
-pub vector_in : (k : Known) (m : Memory) (frame : Frame) (iters : List ℕ) (v : ℕ) → Describes k m frame iters → v < length k.filled → (c : Cont)
+pub vector_in : (k : Known) (m : Memory) (frame : Frame) (iters : List Pointer) (v : ℕ) → Describes k m frame iters → v < length k.filled → (c : Cont)
     × (slice_get m.conts v ≡ Some c)
 vector_in k m frame iters v d h = there m.conts v (let e = d.vectors in omega arith)
 
@@ -147,14 +147,14 @@ told_end names place name killers had empty e = rw (empty, e) (record {
 })
 
 -- `*` of an iterator that stands at the begin of its vector
-star_valid : (names : List (List ℕ)) (k : Known) (place : Place) (name it stamp : ℕ) (standing : Standing) (s : State)
-    → Describes k s.memory s.frame s.iters → slice_get s.iters it ≡ Some stamp
-    → Stays s.memory stamp (is_filled k standing.vector) (killers_of k standing) standing
+star_valid : (names : List (List ℕ)) (k : Known) (place : Place) (name it : ℕ) (held_there : Pointer) (standing : Standing) (s : State)
+    → Describes k s.memory s.frame s.iters → slice_get s.iters it ≡ Some held_there
+    → Stays s.memory (mark_in held_there) (is_filled k standing.vector) (killers_of k standing) standing
     → Goes names (found_valid k it standing) standing.at_element (dereferenced k place name standing)
-    (star_flow place name stamp s (at_element standing.vector 0 (size (cont_at s.memory standing.vector)) s.memory s.picks))
-star_valid names k place name it stamp standing s d at stays = by_size (0 == size (cont_at s.memory standing.vector)) refl
+    (star_flow place name (mark_in held_there) s (at_element standing.vector 0 (size (cont_at s.memory standing.vector)) s.memory s.picks))
+star_valid names k place name it held_there standing s d at stays = by_size (0 == size (cont_at s.memory standing.vector)) refl
   where
-    here : IsAt s.memory standing.vector 0 stamp
+    here : IsAt s.memory standing.vector 0 (mark_in held_there)
     here = stays.here
 
     element : standing.at_element ≡ nat_lt 0 (size (cont_at s.memory standing.vector))
@@ -169,11 +169,11 @@ star_valid names k place name it stamp standing s d at stays = by_size (0 == siz
 
     by_size : (b : Bool) → (0 == size (cont_at s.memory standing.vector)) ≡ b
         → Goes names (found_valid k it standing) standing.at_element (dereferenced k place name standing)
-        (star_flow place name stamp s (if b then trapped 4 1 else gives (element_at standing.vector 0 key_part) s.memory s.picks))
+        (star_flow place name (mark_in held_there) s (if b then trapped 4 1 else gives (element_at standing.vector 0 key_part) s.memory s.picks))
     by_size true e = told_end names place name (killers_of k standing) standing.at_element (stays.still (element ∙ empty e)) (element ∙ empty e)
     by_size false e = (
       element ∙ some e,
-      kept-valid k s.memory s.frame s.iters (s.frame.scalars ++ length s.scalars ∷ []) it stamp
+      kept-valid k s.memory s.frame s.iters (s.frame.scalars ++ length s.scalars ∷ []) it held_there
           standing d at stays,
     )
 
@@ -190,9 +190,11 @@ pub goes-star : (names : List (List ℕ)) (k : Known) (own : Oracle) (place name
 goes-star names k own place named it name s d lt =
     let standing : Standing = standing_at k it in
     let known = there k.iterators it lt in
-    let stamp = there s.iters it (let e = d.iterators in omega arith) in
+    let pointer = there s.iters it (let e = d.iterators in omega arith) in
+    let stamp : ℕ = mark_in pointer.0 in
     let at : iter_of s it ≡ it = located s.frame.iters (length k.iterators) it d.iters_frame lt in
-    let same : stamp_of s it ≡ stamp.0 = ap (λ l. get_or s.iters l 0) at ∙ get_or-there s.iters it stamp.0 0 stamp.1 in
+    let same : stamp_of s it ≡ stamp = ap (λ l. mark_in (get_or s.iters l (iterator_at 0))) at
+    ∙ ap mark_in (get_or-there s.iters it pointer.0 (iterator_at 0) pointer.1) in
     let is : standing ≡ known.0 = get_or-there k.iterators it known.0 (record { vector = 0; at_element = true; since = 0 }) known.1 in
     ticked names (found_valid k it standing) standing.at_element (dereferenced k place name standing)
     (declared (world_of own)
@@ -204,14 +206,14 @@ goes-star names k own place named it name s d lt =
     (lib (callees.Operator operators.Dereference) (starring x) s.memory s.picks)))
     (sym same)
     (⊎_elim
-    (λ (stays : Stays s.memory stamp.0 (is_filled k standing.vector) (killers_of k standing) standing).
+    (λ (stays : Stays s.memory stamp (is_filled k standing.vector) (killers_of k standing) standing).
     subst (λ (out : LibOut). Goes names (found_valid k it standing) standing.at_element (dereferenced k place name standing)
-    (star_flow place name stamp.0 now out))
-    (sym (lib-star_valid s.memory stamp.0 standing.vector 0 s.picks (locate-at s.memory standing.vector 0 stamp.0 d.sound stays.here)))
-    (star_valid names k place name it stamp.0 standing now d stamp.1 stays))
-    (λ (dead : (site : ℕ) × (killer s.memory stamp.0 ≡ Some site) × Contains (killers_of k standing) site).
+    (star_flow place name stamp now out))
+    (sym (lib-star_valid s.memory stamp standing.vector 0 s.picks (locate-at s.memory standing.vector 0 stamp d.sound stays.here)))
+    (star_valid names k place name it pointer.0 standing now d pointer.1 stays))
+    (λ (dead : (site : ℕ) × (killer s.memory stamp ≡ Some site) × Contains (killers_of k standing) site).
     subst (λ (out : LibOut). Goes names (found_valid k it standing) standing.at_element (dereferenced k place name standing)
-    (star_flow place name stamp.0 now out))
-    (sym (lib-star_invalid s.memory stamp.0 s.picks (locate-dropped s.memory stamp.0 dead.0 d.sound (dropped-killer s.memory stamp.0 dead.0 dead.1))))
-    (star_invalid names k place name it stamp.0 dead.0 standing now dead.1 dead.2))
-    (rw is (d.stands it stamp.0 known.0 stamp.1 known.1))))
+    (star_flow place name stamp now out))
+    (sym (lib-star_invalid s.memory stamp s.picks (locate-dropped s.memory stamp dead.0 d.sound (dropped-killer s.memory stamp dead.0 dead.1))))
+    (star_invalid names k place name it stamp dead.0 standing now dead.1 dead.2))
+    (rw is (d.stands it stamp known.0 stamp.1 known.1))))
