@@ -18,3 +18,11 @@ pub mod Covers
 pub mod Texts
 pub mod Shapes
 pub mod Scoped
+pub mod WellTypedTypes
+pub mod WellTypedCalls
+pub mod WellTypedExpressions
+pub mod WellTypedNodes
+pub mod WellTypedStatements
+pub mod WellTypedOrder
+pub mod WellTypedNumbers
+pub mod WellTyped
