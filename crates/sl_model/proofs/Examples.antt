@@ -15,3 +15,9 @@ pub mod Told
 pub mod Rows
 pub mod Cleared
 pub mod Scoped
+pub mod Trees
+pub mod WellTyped
+pub mod WrongTypes
+pub mod WrongAccess
+pub mod WrongStatements
+pub mod WrongNumbers

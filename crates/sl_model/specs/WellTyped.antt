@@ -8,7 +8,7 @@ use Rattle.std.specs.Prelude.{◌≡◌, nat_le, Bool, true, ◌&&◌, length, f
 use Rattle.std.specs.List.{list_all}
 use Rattle.sl_base.specs.declared.limits.TheConstants.{FUNCTIONS, SITES}
 use Rattle.sl_specs.specs.Table.{table}
-use Rattle.sl_syntax.specs.Typed.{Function, Typed}
+use Rattle.sl_syntax.specs.Typed.{Typed}
 use Rattle.sl_model.specs.WellTypedExpressions.{type_of, type_of_left, types_of}
 use Rattle.sl_model.specs.WellTypedNodes.{nodes_in, nodes_in_left, nodes_in_operands, nodes_in_stmt, nodes_in_stmts, nodes_of}
 use Rattle.sl_model.specs.WellTypedStatements.{is_typed_stmt, are_typed_stmts, is_typed_function, is_main}

@@ -5,15 +5,11 @@
 -- called).
 -- Chosen here: numbers are compared and calculated with in a type that isn't bool, `->` stands on an iterator variable, and `.first` and `.second` on a
 -- call that gives a pair. A parameter for elements alone is handed on to such a parameter alone.
-use Rattle.std.specs.Prelude.{ℕ, ◌==◌, nat_le, Bool, true, false, not, ◌&&◌, ◌||◌, List, [], ◌∷◌, ℤ, pos, int_le, Option, Some, None, slice_get}
-use Rattle.std.specs.Prelude.{if◌then◌else◌}
-use Rattle.std.specs.List.{list_all}
-use Rattle.sl_base.specs.declared.form.Form.{Form}
+use Rattle.std.specs.Prelude.{ℕ, ◌==◌, Bool, true, false, not, ◌&&◌, ◌||◌, List, [], ◌∷◌, ℤ, pos, int_le, Option, Some, None, slice_get}
 use Rattle.sl_base.specs.declared.limits.TheConstants.{LARGEST_NUMBER}
 use Rattle.sl_base.specs.declared.scalar.Scalar.{Scalar}
 use Rattle.sl_base.specs.declared.scalar.Scalar.TheVariants as t
 use Rattle.sl_specs.specs.Forms.{same_form}
-use Rattle.sl_syntax.specs.declared.operator.Access.{Access}
 use Rattle.sl_syntax.specs.declared.operator.Access.TheVariants as a
 use Rattle.sl_syntax.specs.declared.typed.callee.Callee.{Callee}
 use Rattle.sl_syntax.specs.declared.typed.callee.Callee.TheVariants as callees
@@ -24,7 +20,7 @@ use Rattle.sl_syntax.specs.declared.typed.parameter.ParameterKind.{ParameterKind
 use Rattle.sl_syntax.specs.declared.typed.parameter.ParameterKind.TheVariants as parameters
 use Rattle.sl_syntax.specs.Typed.{Expr, literal, held, iterator, convert, negate, logical_not, logical_and, logical_or, arithmetic, comparison}
 use Rattle.sl_syntax.specs.Typed.{increment, move, call, own_call, first, second, container, handed_scalar, Left, scalar, reference, element}
-use Rattle.sl_syntax.specs.Typed.{Operands, none, with, Function}
+use Rattle.sl_syntax.specs.Typed.{Operands, none, with}
 use Rattle.sl_model.specs.WellTypedTypes.{ExprType, no_type, empty_type, scalar_type, element_type, iterator_type, iterator_and_bool, two_iterators}
 use Rattle.sl_model.specs.WellTypedTypes.{container_type, handed_type, int_reference, entry_reference, Scope, variable_type, only, same_scalar}
 use Rattle.sl_model.specs.WellTypedTypes.{is_scalar, is_number, is_written, is_arithmetic, are_comparable, is_iterator, goes_into, is_container_of}

@@ -12,7 +12,7 @@ use Rattle.sl_syntax.specs.declared.typed.variable.VariableKind.{VariableKind}
 use Rattle.sl_syntax.specs.declared.typed.variable.VariableKind.TheVariants as variables
 use Rattle.sl_syntax.specs.Typed.{Expr, literal, held, iterator, convert, negate, logical_not, logical_and, logical_or, arithmetic, comparison}
 use Rattle.sl_syntax.specs.Typed.{increment, move, call, own_call, first, second, container, handed_scalar, Left, scalar, reference, element}
-use Rattle.sl_syntax.specs.Typed.{Operands, none, with, Cond, read, not_read, test, always, Printed, text, endline, number, Effect, reads, prints}
+use Rattle.sl_syntax.specs.Typed.{Operands, none, with, Cond, test, Printed, number, Effect, reads, prints}
 use Rattle.sl_syntax.specs.Typed.{evaluates, assigns, updates, moves_to, Declaration, unset_scalar, set_scalar, set_iterator, binds_reference, makes}
 use Rattle.sl_syntax.specs.Typed.{First, no_first, declares_first, does_first, Stmt, block, declares, choice, choice_else, while, for, range_for}
 use Rattle.sl_syntax.specs.Typed.{break, continue, gives_back, does, Stmts, no_more, followed, Function, Typed}

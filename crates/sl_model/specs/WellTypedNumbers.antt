@@ -4,18 +4,14 @@
 -- loops; two functions may share theirs, where both were made of one. A call is a site where it can invalidate an iterator by its form, and where it
 -- appends. The constants are 0, 1, and each literal with its two neighbours, and there may be more. Two nodes that have needs and stand at one place
 -- are calls of one name, with the same names of arguments.
-use Rattle.std.specs.Prelude.{ℕ, ◌+◌, ◌==◌, nat_lt, Bool, true, false, not, ◌&&◌, ◌||◌, List, [], ◌∷◌, ◌++◌, length, map, flat_map, filter_map}
+use Rattle.std.specs.Prelude.{ℕ, ◌+◌, ◌==◌, nat_lt, Bool, true, false, not, ◌&&◌, ◌||◌, List, [], ◌∷◌, ◌++◌, length, map, filter_map}
 use Rattle.std.specs.Prelude.{ℤ, pos, ◌+ℤ◌, ◌-ℤ◌, int_lt, int_le, Option, Some, None, is_some, codes}
 use Rattle.std.specs.List.{list_all, list_any}
 use Rattle.std.specs.Str.{bytes_eq}
 use denote.Enum.Bare.{sameb}
-use Rattle.sl_base.specs.declared.limits.TheConstants.{FUNCTIONS, SITES}
 use Rattle.sl_base.specs.declared.place.Place.{Place}
-use Rattle.sl_specs.specs.declared.class.Class.{Class}
 use Rattle.sl_specs.specs.declared.class.Class.TheVariants as k
-use Rattle.sl_specs.specs.declared.need.Need.{Need}
 use Rattle.sl_specs.specs.Rows.{Row}
-use Rattle.sl_specs.specs.Table.{table}
 use Rattle.sl_specs.specs.Texts.{call_text}
 use Rattle.sl_syntax.specs.contracts.typed.variable.VariableKind.{the_type}
 use Rattle.sl_syntax.specs.declared.operator.Comparison.{Comparison}
@@ -30,7 +26,7 @@ use Rattle.sl_syntax.specs.declared.typed.parameter.ParameterKind.TheVariants as
 use Rattle.sl_syntax.specs.declared.typed.variable.Variable.{Variable}
 use Rattle.sl_syntax.specs.declared.typed.variable.VariableKind.{VariableKind}
 use Rattle.sl_syntax.specs.declared.typed.variable.VariableKind.TheVariants as variables
-use Rattle.sl_syntax.specs.Typed.{Stmt, block, declares, makes, Stmts, no_more, followed, Function, Typed}
+use Rattle.sl_syntax.specs.Typed.{Function, Typed}
 use Rattle.sl_model.specs.WellTypedCalls.{row_at}
 use Rattle.sl_model.specs.WellTypedTypes.{same_answer}
 use Rattle.sl_model.specs.WellTypedNodes.{Node, a_literal, a_call, a_use, a_loop, a_range, a_variable, a_brace, nodes_in_stmt}

@@ -8,13 +8,13 @@
 -- The object of a call is no argument, and an argument for a parameter for elements alone isn't looked at. No two references of a call are one
 -- variable.
 use Rattle.std.specs.Prelude.{ℕ, ◌==◌, Bool, true, false, not, ◌&&◌, ◌||◌, List, [], ◌∷◌, ◌++◌, flat_map, Option, Some, None, slice_get}
-use Rattle.std.specs.Prelude.{is_some, if◌then◌else◌}
+use Rattle.std.specs.Prelude.{if◌then◌else◌}
 use Rattle.std.specs.List.{list_all, list_any}
 use Rattle.sl_specs.specs.declared.call.Call.TheVariants as c
 use Rattle.sl_specs.specs.declared.letter.Letter.{Letter}
 use Rattle.sl_specs.specs.declared.letter.Letter.TheVariants as l
 use Rattle.sl_specs.specs.Rows.{Row}
-use Rattle.sl_specs.specs.Table.{table, same_call}
+use Rattle.sl_specs.specs.Table.{same_call}
 use Rattle.sl_syntax.specs.declared.operator.Access.TheVariants as a
 use Rattle.sl_syntax.specs.declared.typed.callee.Callee.{Callee}
 use Rattle.sl_syntax.specs.declared.typed.callee.Callee.TheVariants as callees
@@ -24,7 +24,7 @@ use Rattle.sl_syntax.specs.declared.typed.operator.Operator.TheVariants as opera
 use Rattle.sl_syntax.specs.declared.typed.parameter.ParameterKind.{ParameterKind}
 use Rattle.sl_syntax.specs.declared.typed.parameter.ParameterKind.TheVariants as parameters
 use Rattle.sl_syntax.specs.Typed.{Expr, literal, held, iterator, convert, negate, logical_not, logical_and, logical_or, arithmetic, comparison}
-use Rattle.sl_syntax.specs.Typed.{increment, move, call, own_call, first, second, container, handed_scalar, Left, scalar, reference, element}
+use Rattle.sl_syntax.specs.Typed.{increment, call, container, handed_scalar, Left, scalar, reference, element}
 use Rattle.sl_syntax.specs.Typed.{Operands, none, with, Function}
 use Rattle.sl_model.specs.WellTypedCalls.{row_at, is_algorithm, is_moving}
 use Rattle.sl_model.specs.WellTypedNodes.{Node, a_call, an_own_call, an_operator, a_step, nodes_in}

@@ -6,14 +6,14 @@
 -- Chosen here: which statements there are. A head declares a number with its value, or an iterator. A read takes ints. What a part of a statement
 -- declares stands in a block. A container for elements alone is no statement and isn't gone over. What may be an element of the container that is
 -- assigned to is told by its look, and each reference may be one.
-use Rattle.std.specs.Prelude.{ℕ, ◌==◌, Bool, true, false, not, ◌&&◌, List, [], ◌∷◌, Option, Some, None, slice_get, if◌then◌else◌}
+use Rattle.std.specs.Prelude.{ℕ, ◌==◌, Bool, true, false, not, ◌&&◌, List, [], ◌∷◌, Option, Some, None, if◌then◌else◌}
 use Rattle.std.specs.List.{list_all}
 use Rattle.sl_base.specs.declared.form.Form.{Form}
 use Rattle.sl_base.specs.declared.scalar.Scalar.{Scalar}
 use Rattle.sl_base.specs.declared.scalar.Scalar.TheVariants as t
 use Rattle.sl_specs.specs.declared.call.Call.TheVariants as c
 use Rattle.sl_specs.specs.Rows.{Row}
-use Rattle.sl_specs.specs.Table.{table, same_call}
+use Rattle.sl_specs.specs.Table.{same_call}
 use Rattle.sl_syntax.specs.declared.operator.Access.TheVariants as a
 use Rattle.sl_syntax.specs.declared.typed.callee.Callee.{Callee}
 use Rattle.sl_syntax.specs.declared.typed.callee.Callee.TheVariants as callees
@@ -31,7 +31,7 @@ use Rattle.sl_syntax.specs.Typed.{block, declares, choice, choice_else, while, f
 use Rattle.sl_syntax.specs.Typed.{followed, Function, Typed}
 use Rattle.sl_model.specs.WellTypedTypes.{ExprType, no_type, scalar_type, element_type, iterator_type, two_iterators, container_type, handed_type}
 use Rattle.sl_model.specs.WellTypedTypes.{int_reference, entry_reference, Scope, is_within, variable_type, with_scalar, with_container, with_iterator}
-use Rattle.sl_model.specs.WellTypedTypes.{is_sequence, has_values, is_const, has_type, is_scalar, is_number, is_written, is_arithmetic, works_in}
+use Rattle.sl_model.specs.WellTypedTypes.{is_sequence, has_values, is_const, has_type, is_scalar, is_number, is_written, works_in}
 use Rattle.sl_model.specs.WellTypedTypes.{is_iterator, is_iterator_of, same_iterators}
 use Rattle.sl_model.specs.WellTypedCalls.{row_at, constructs}
 use Rattle.sl_model.specs.WellTypedExpressions.{goes_to, type_given, type_of, type_of_left, types_of}
