@@ -42,3 +42,6 @@ pub mod LongerExec
 pub mod LongerCalls
 -- ## Worked examples
 pub mod Examples
+-- ## Well typed texts
+pub mod TypedLists
+pub mod TypedNumbers

@@ -1,0 +1,86 @@
+-- What a well typed text numbers is there, and within the limits.
+use Rattle.std.proofs.Common.{◌≡◌, ℕ, zero, suc, ◌<◌, ◌≤◌, Bool, true, false, ◌&&◌, List, [], ◌∷◌, length, Option, Some, sym, subst, arith}
+use Rattle.std.specs.Prelude.{nat_le, nat_lt, slice_get, filter_map}
+use Rattle.std.specs.List.{list_all}
+use Rattle.std.proofs.lemmas.Bool.{leb-true, ltb-true}
+use Rattle.sl_base.specs.declared.limits.TheConstants.{CONTAINERS, FUNCTIONS, ITERATORS, SCALARS, SITES}
+use Rattle.sl_syntax.specs.Typed.{Function, Typed}
+use Rattle.sl_model.specs.WellTypedTypes.{ExprType, no_type, Scope, has_type, is_within, variable_type}
+use Rattle.sl_model.specs.WellTypedNodes.{Node, nodes_in_stmt}
+use Rattle.sl_model.specs.WellTypedNumbers.{site_in, loop_in, go_up, are_numbers_of, is_numbered}
+use Rattle.sl_model.specs.WellTyped.{has_few, has_numbers, WellTyped}
+use Rattle.sl_model.proofs.TypedLists.{first_of_both, second_of_both, list_all-passes, filter_map-passes}
+
+-- the sites and the loops of a function of a well typed text are numbered
+numbered : (p : Typed) → WellTyped p → (n : ℕ) (h : Function) → slice_get p.functions n ≡ Some h → is_numbered p h ≡ true
+unfolding has_numbers
+numbered p w n h e = list_all-passes (is_numbered p) p.functions n h w.numbers e
+
+-- a number that a node gives is below the count of what is numbered
+below_count : (gives : Node → Option ℕ) (count : ℕ) (nodes : List Node) (i : ℕ) (node : Node) (s : ℕ)
+    → are_numbers_of count (filter_map gives nodes) ≡ true → slice_get nodes i ≡ Some node → gives node ≡ Some s → s < count
+below_count gives count nodes i node s h e g =
+    let all = second_of_both (go_up (filter_map gives nodes)) (list_all (λ x. nat_lt x count) (filter_map gives nodes)) h in
+    ltb-true s count (filter_map-passes (λ x. nat_lt x count) gives nodes i node s all e g)
+
+-- a node of a function of a text, by its place among the function's nodes
+pub record IsNode (p : Typed) (node : Node) : Type 0 where
+  pub number : ℕ
+  pub function : Function
+  pub function_there : slice_get p.functions number ≡ Some function
+  pub place : ℕ
+  pub there : slice_get (nodes_in_stmt function.body) place ≡ Some node
+
+-- a site that a node names is one of the text
+pub site_is_there : (p : Typed) → WellTyped p → (node : Node) → IsNode p node → (s : ℕ) → site_in node ≡ Some s → s < length p.sites
+site_is_there p w node at s g =
+    let all = first_of_both (are_numbers_of (length p.sites) (filter_map site_in (nodes_in_stmt at.function.body)))
+        (are_numbers_of (length p.loops) (filter_map loop_in (nodes_in_stmt at.function.body))) (numbered p w at.number at.function at.function_there) in
+    below_count site_in (length p.sites) (nodes_in_stmt at.function.body) at.place node s all at.there g
+
+-- it is below the limit of sites
+pub site_is_below : (p : Typed) → WellTyped p → (node : Node) → IsNode p node → (s : ℕ) → site_in node ≡ Some s → s < SITES
+site_is_below p w node at s g =
+    let few = leb-true (length p.sites) SITES (second_of_both (nat_le (length p.functions) FUNCTIONS) (nat_le (length p.sites) SITES) w.few) in
+    let there = site_is_there p w node at s g in
+    omega (arith, few, there)
+
+-- a loop is one of the text
+pub loop_is_there : (p : Typed) → WellTyped p → (node : Node) → IsNode p node → (n : ℕ) → loop_in node ≡ Some n → n < length p.loops
+loop_is_there p w node at n g =
+    let all = second_of_both (are_numbers_of (length p.sites) (filter_map site_in (nodes_in_stmt at.function.body)))
+        (are_numbers_of (length p.loops) (filter_map loop_in (nodes_in_stmt at.function.body))) (numbered p w at.number at.function at.function_there) in
+    below_count loop_in (length p.loops) (nodes_in_stmt at.function.body) at.place node n all at.there g
+
+-- a variable that has a type is there
+variable_is_there : (us : List ExprType) (x : ℕ) → has_type (variable_type us x) ≡ true → x < length us
+variable_is_there [] x h = absurd cc
+variable_is_there (u ∷ us) zero h = omega arith
+variable_is_there (u ∷ us) (suc x) h = let there = variable_is_there us x h in omega (arith, there)
+
+-- the three limits of a scope
+few_iterators : (g : Scope) → is_within g ≡ true → length g.iterators ≤ ITERATORS
+few_iterators g w = leb-true (length g.iterators) ITERATORS (second_of_both
+    (nat_le (length g.scalars) SCALARS && nat_le (length g.containers) CONTAINERS) (nat_le (length g.iterators) ITERATORS) w)
+
+few_others : (g : Scope) → is_within g ≡ true → (nat_le (length g.scalars) SCALARS && nat_le (length g.containers) CONTAINERS) ≡ true
+few_others g w = first_of_both
+    (nat_le (length g.scalars) SCALARS && nat_le (length g.containers) CONTAINERS) (nat_le (length g.iterators) ITERATORS) w
+
+few_scalars : (g : Scope) → is_within g ≡ true → length g.scalars ≤ SCALARS
+few_scalars g w = leb-true (length g.scalars) SCALARS
+    (first_of_both (nat_le (length g.scalars) SCALARS) (nat_le (length g.containers) CONTAINERS) (few_others g w))
+
+few_containers : (g : Scope) → is_within g ≡ true → length g.containers ≤ CONTAINERS
+few_containers g w = leb-true (length g.containers) CONTAINERS
+    (second_of_both (nat_le (length g.scalars) SCALARS) (nat_le (length g.containers) CONTAINERS) (few_others g w))
+
+-- in a scope within the limits, a variable that has a type has a number below its limit
+pub scalar_is_below : (g : Scope) (x : ℕ) → is_within g ≡ true → has_type (variable_type g.scalars x) ≡ true → x < SCALARS
+scalar_is_below g x w h = let few = few_scalars g w in let there = variable_is_there g.scalars x h in omega (arith, few, there)
+
+pub container_is_below : (g : Scope) (x : ℕ) → is_within g ≡ true → has_type (variable_type g.containers x) ≡ true → x < CONTAINERS
+container_is_below g x w h = let few = few_containers g w in let there = variable_is_there g.containers x h in omega (arith, few, there)
+
+pub iterator_is_below : (g : Scope) (x : ℕ) → is_within g ≡ true → has_type (variable_type g.iterators x) ≡ true → x < ITERATORS
+iterator_is_below g x w h = let few = few_iterators g w in let there = variable_is_there g.iterators x h in omega (arith, few, there)
