@@ -45,3 +45,4 @@ pub mod Examples
 -- ## Well typed texts
 pub mod TypedLists
 pub mod TypedNumbers
+pub mod TypedOperands

@@ -13,6 +13,10 @@ pub second_of_both : (a b : Bool) → (a && b) ≡ true → b ≡ true
 second_of_both true b h = h
 second_of_both false b h = absurd cc
 
+pub both_true : (a b : Bool) → a ≡ true → b ≡ true → (a && b) ≡ true
+both_true true b h k = k
+both_true false b h k = absurd cc
+
 -- what is in the list passes the test
 pub list_all-passes : {X : Type 0} (test : X → Bool) (xs : List X) (i : ℕ) (x : X) → list_all test xs ≡ true → slice_get xs i ≡ Some x → test x ≡ true
 list_all-passes test [] i x h e = absurd cc

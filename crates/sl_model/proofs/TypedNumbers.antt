@@ -1,14 +1,14 @@
 -- What a well typed text numbers is there, and within the limits.
-use Rattle.std.proofs.Common.{◌≡◌, ℕ, zero, suc, ◌<◌, ◌≤◌, Bool, true, false, ◌&&◌, List, [], ◌∷◌, length, Option, Some, sym, subst, arith}
+use Rattle.std.proofs.Common.{◌≡◌, ℕ, zero, suc, ◌<◌, ◌≤◌, true, ◌&&◌, List, [], ◌∷◌, length, Option, Some, arith}
 use Rattle.std.specs.Prelude.{nat_le, nat_lt, slice_get, filter_map}
 use Rattle.std.specs.List.{list_all}
 use Rattle.std.proofs.lemmas.Bool.{leb-true, ltb-true}
 use Rattle.sl_base.specs.declared.limits.TheConstants.{CONTAINERS, FUNCTIONS, ITERATORS, SCALARS, SITES}
 use Rattle.sl_syntax.specs.Typed.{Function, Typed}
-use Rattle.sl_model.specs.WellTypedTypes.{ExprType, no_type, Scope, has_type, is_within, variable_type}
+use Rattle.sl_model.specs.WellTypedTypes.{ExprType, Scope, has_type, is_within, variable_type}
 use Rattle.sl_model.specs.WellTypedNodes.{Node, nodes_in_stmt}
 use Rattle.sl_model.specs.WellTypedNumbers.{site_in, loop_in, go_up, are_numbers_of, is_numbered}
-use Rattle.sl_model.specs.WellTyped.{has_few, has_numbers, WellTyped}
+use Rattle.sl_model.specs.WellTyped.{has_numbers, WellTyped}
 use Rattle.sl_model.proofs.TypedLists.{first_of_both, second_of_both, list_all-passes, filter_map-passes}
 
 -- the sites and the loops of a function of a well typed text are numbered

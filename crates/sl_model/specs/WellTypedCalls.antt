@@ -25,7 +25,6 @@ use Rattle.sl_syntax.specs.declared.operator.Comparison.{Comparison}
 use Rattle.sl_syntax.specs.declared.operator.Comparison.TheVariants as comparisons
 use Rattle.sl_syntax.specs.declared.typed.callee.Callee.{Callee}
 use Rattle.sl_syntax.specs.declared.typed.callee.Callee.TheVariants as callees
-use Rattle.sl_syntax.specs.declared.typed.head.Head.{Head}
 use Rattle.sl_syntax.specs.declared.typed.operator.Operator.{Operator}
 use Rattle.sl_syntax.specs.declared.typed.operator.Operator.TheVariants as operators
 use Rattle.sl_model.specs.WellTypedTypes.{ExprType, no_type, empty_type, scalar_type, element_type, iterator_type, iterator_and_bool, two_iterators}
@@ -211,14 +210,12 @@ operator_type operators.Difference (iterator_type b x ∷ u ∷ []) = only (is_r
 operator_type (operators.Compare o) (u ∷ v ∷ []) = only (same_iterators u v && (if is_equality o then true else is_random u)) (scalar_type t.Bool)
 operator_type o us = no_type
 
--- the type of a call of the library on operands of these types, whatever its node does with it
-abbrev pub call_type : Scope → Head → List ExprType → ExprType
-call_type g h us = elim h.callee as (λ _. ExprType) [
-  | callees.Row n ↦ row_type g (row_at n) h.object us
-  | callees.Appends n ↦ only (not (is_some h.object)) (appending_type (row_at n) us)
-  | callees.Operator o ↦ only (not (is_some h.object)) (operator_type o us)
-  | callees.Hidden o ↦ no_type
-]
+-- the type of a call of the library on an object, or without one, whatever its node does with it
+abbrev pub call_type : Scope → Callee → Option ℕ → List ExprType → ExprType
+call_type g (callees.Row n) object us = row_type g (row_at n) object us
+call_type g (callees.Appends n) object us = only (not (is_some object)) (appending_type (row_at n) us)
+call_type g (callees.Operator o) object us = only (not (is_some object)) (operator_type o us)
+call_type g (callees.Hidden o) object us = no_type
 
 -- an operator that moves its iterator
 abbrev pub is_moving_operator : Operator → Bool

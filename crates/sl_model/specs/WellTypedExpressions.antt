@@ -20,7 +20,7 @@ use Rattle.sl_syntax.specs.declared.typed.parameter.ParameterKind.{ParameterKind
 use Rattle.sl_syntax.specs.declared.typed.parameter.ParameterKind.TheVariants as parameters
 use Rattle.sl_syntax.specs.Typed.{Expr, literal, held, iterator, convert, negate, logical_not, logical_and, logical_or, arithmetic, comparison}
 use Rattle.sl_syntax.specs.Typed.{increment, move, call, own_call, first, second, container, handed_scalar, Left, scalar, reference, element}
-use Rattle.sl_syntax.specs.Typed.{Operands, none, with}
+use Rattle.sl_syntax.specs.Typed.{Operands, none, with, Function}
 use Rattle.sl_model.specs.WellTypedTypes.{ExprType, no_type, empty_type, scalar_type, element_type, iterator_type, iterator_and_bool, two_iterators}
 use Rattle.sl_model.specs.WellTypedTypes.{container_type, handed_type, int_reference, entry_reference, Scope, variable_type, only, same_scalar}
 use Rattle.sl_model.specs.WellTypedTypes.{is_scalar, is_number, is_written, is_arithmetic, are_comparable, is_iterator, goes_into, is_container_of}
@@ -94,12 +94,14 @@ type_given (Some (parameters.Value s)) = scalar_type s
 type_given (Some (parameters.Iterator b x)) = iterator_type b x
 type_given k = no_type
 
--- the type of a call of a function that is there, and isn't `main`
+-- the type of a call of a function, if it is there and may be called
+abbrev pub function_type : Bool → Option Function → List ExprType → ExprType
+function_type may_be_called None us = no_type
+function_type may_be_called (Some h) us = only (may_be_called && go_to h.parameters us) (type_given h.result)
+
+-- the type of a call of a function by its number; `main` isn't called
 abbrev pub own_type : Scope → ℕ → List ExprType → ExprType
-own_type g n us = elim (slice_get g.functions n) as (λ _. ExprType) [
-  | None ↦ no_type
-  | Some f ↦ only (not (n == g.main) && go_to f.parameters us) (type_given f.result)
-]
+own_type g n us = function_type (not (n == g.main)) (slice_get g.functions n) us
 
 -- `it->first` and `it->second`
 abbrev pub is_arrow : Callee → Bool
@@ -126,8 +128,8 @@ unfoldable mutual
   type_of g (arithmetic op s at d e) = only (is_arithmetic s && is_scalar s (type_of g d) && is_scalar s (type_of g e)) (scalar_type s)
   type_of g (comparison op at d e) = only (are_comparable (type_of g d) (type_of g e)) (scalar_type t.Bool)
   type_of g (increment step fix s at l) = let u = type_of_left g l in only (is_arithmetic s && is_scalar s u && is_written u) (scalar_type s)
-  type_of g (move fix x h ops) = only (is_moving h.callee) (call_type g h (variable_type g.iterators x ∷ types_of g ops))
-  type_of g (call h ops) = only (not (is_moving h.callee)) (only_value (call_type g h (types_of g ops)))
+  type_of g (move fix x h ops) = only (is_moving h.callee) (call_type g h.callee h.object (variable_type g.iterators x ∷ types_of g ops))
+  type_of g (call h ops) = only (not (is_moving h.callee)) (only_value (call_type g h.callee h.object (types_of g ops)))
   type_of g (own_call n at ops) = own_type g n (types_of g ops)
   type_of g (first at e) = type_of_first (type_of g e)
   type_of g (second at e) = type_of_second (type_of g e)
@@ -138,7 +140,7 @@ unfoldable mutual
   pub type_of_left : Scope → Left → ExprType
   type_of_left g (scalar x at) = variable_type g.scalars x
   type_of_left g (reference x at name part) = type_of_use part (variable_type g.iterators x)
-  type_of_left g (element h ops) = only (not (is_arrow h.callee) || is_variable ops) (only_element (call_type g h (types_of g ops)))
+  type_of_left g (element h ops) = only (not (is_arrow h.callee) || is_variable ops) (only_element (call_type g h.callee h.object (types_of g ops)))
 
   -- the types of operands
   pub types_of : Scope → Operands → List ExprType

@@ -131,11 +131,9 @@ is_typed_last g None = true
 is_typed_last g (Some w) = is_typed_effect g w
 
 -- a call that makes a container of a form
-abbrev pub is_typed_making : Scope → Form → Head → Operands → Bool
-is_typed_making g form h ops = elim h.callee as (λ _. Bool) [
-  | callees.Row n ↦ elim h.object as (λ _. Bool) [ None ↦ constructs form (row_at n) (types_of g ops) | Some x ↦ false ]
-  | callee ↦ false
-]
+abbrev pub is_making : Form → Callee → Option ℕ → List ExprType → Bool
+is_making form (callees.Row n) None us = constructs form (row_at n) us
+is_making form callee object us = false
 
 -- a declaration
 abbrev pub is_typed_declaration : Scope → Declaration → Bool
@@ -143,7 +141,7 @@ is_typed_declaration g (unset_scalar s) = true
 is_typed_declaration g (set_scalar s e) = is_scalar s (type_of g e)
 is_typed_declaration g (set_iterator e) = is_iterator (type_of g e)
 is_typed_declaration g (binds_reference h ops) = has_type (type_of_left g (element h ops))
-is_typed_declaration g (makes form h ops) = is_typed_making g form h ops
+is_typed_declaration g (makes form h ops) = is_making form h.callee h.object (types_of g ops)
 
 -- the type of a reference to an element
 abbrev pub reference_to : ExprType → ExprType
