@@ -46,3 +46,4 @@ pub mod Examples
 pub mod TypedLists
 pub mod TypedNumbers
 pub mod TypedOperands
+pub mod TypedCalls

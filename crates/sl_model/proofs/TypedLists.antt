@@ -1,5 +1,5 @@
 -- Lists of which all pass a test, and what is found in them.
-use Rattle.std.proofs.Common.{◌≡◌, ℕ, zero, suc, Bool, true, false, ◌&&◌, List, [], ◌∷◌, Option, Some, None, sym, subst}
+use Rattle.std.proofs.Common.{◌≡◌, ℕ, zero, suc, Bool, true, false, ◌&&◌, ◌||◌, List, [], ◌∷◌, Option, Some, None, sym, subst}
 use Rattle.std.specs.Prelude.{slice_get, filter_map}
 use Rattle.std.specs.List.{cons_option}
 use Rattle.std.specs.List.{list_all}
@@ -16,6 +16,15 @@ second_of_both false b h = absurd cc
 pub both_true : (a b : Bool) → a ≡ true → b ≡ true → (a && b) ≡ true
 both_true true b h k = k
 both_true false b h k = absurd cc
+
+-- neither of two answers is true where one of them isn't
+pub first_of_neither : (a b : Bool) → (a || b) ≡ false → a ≡ false
+first_of_neither true b h = absurd cc
+first_of_neither false b h = cc
+
+pub second_of_neither : (a b : Bool) → (a || b) ≡ false → b ≡ false
+second_of_neither true b h = absurd cc
+second_of_neither false b h = h
 
 -- what is in the list passes the test
 pub list_all-passes : {X : Type 0} (test : X → Bool) (xs : List X) (i : ℕ) (x : X) → list_all test xs ≡ true → slice_get xs i ≡ Some x → test x ≡ true

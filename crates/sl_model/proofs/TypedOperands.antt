@@ -28,7 +28,7 @@ abbrev pub all_typed : List ExprType → Bool
 all_typed us = list_all has_type us
 
 -- an iterator of one type with another has a type
-same_iterators-typed : (u v : ExprType) → same_iterators u v ≡ true → has_type v ≡ true
+pub same_iterators-typed : (u v : ExprType) → same_iterators u v ≡ true → has_type v ≡ true
 same_iterators-typed (iterator_type b x) no_type h = absurd cc
 same_iterators-typed (iterator_type b x) v h = refl
 same_iterators-typed u v h = absurd cc

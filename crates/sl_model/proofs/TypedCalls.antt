@@ -1,0 +1,280 @@
+-- A call of the library that has a type: its operands have types, its row is there, and it has as many operands as the row's letters take.
+use Rattle.std.proofs.Common.{◌≡◌, ℕ, zero, suc, ◌+◌, ◌≤◌, Bool, true, false, not, ◌&&◌, List, [], ◌∷◌, length, take, drop, map, Option, Some, None}
+use Rattle.std.proofs.Common.{refl, sym, subst, arith, length-take, length-drop}
+use Rattle.std.specs.Prelude.{is_some, if◌then◌else◌}
+use Rattle.std.specs.List.{list_any}
+use Rattle.sl_base.specs.declared.form.Form.{Form}
+use Rattle.sl_base.specs.declared.form.Form.TheVariants as f
+use Rattle.sl_base.specs.declared.scalar.Scalar.TheVariants as t
+use Rattle.sl_specs.specs.declared.letter.Letter.{Letter}
+use Rattle.sl_specs.specs.declared.letter.Letter.TheVariants as l
+use Rattle.sl_specs.specs.Forms.{same_form, same_object}
+use Rattle.sl_specs.specs.Rows.{Row}
+use Rattle.sl_syntax.specs.declared.operator.Comparison.{Comparison}
+use Rattle.sl_syntax.specs.declared.typed.callee.Callee.{Callee}
+use Rattle.sl_syntax.specs.declared.typed.callee.Callee.TheVariants as callees
+use Rattle.sl_syntax.specs.declared.typed.operator.Operator.{Operator}
+use Rattle.sl_syntax.specs.declared.typed.operator.Operator.TheVariants as operators
+use Rattle.sl_model.specs.WellTypedTypes.{ExprType, no_type, empty_type, scalar_type, element_type, iterator_type, iterator_and_bool, two_iterators}
+use Rattle.sl_model.specs.WellTypedTypes.{container_type, handed_type, int_reference, entry_reference, Scope, variable_type, has_type, only, is_scalar}
+use Rattle.sl_model.specs.WellTypedTypes.{is_iterator, is_iterator_of, is_writing_iterator, is_random_access, same_iterators, is_const}
+use Rattle.sl_model.specs.WellTypedTypes.{is_container_of, is_changed_container, is_sequence}
+use Rattle.sl_model.specs.WellTypedCalls.{is_int_iterator, is_bidirectional}
+use Rattle.std.proofs.lemmas.List.{take_all}
+use Rattle.sl_model.specs.WellTypedCalls.{one, optional, range, elements, fits_letter, width, fits, operator_type, call_type, row_type, member_type, algorithm_type, appending_type, constructs, row_at}
+use Rattle.sl_model.specs.WellTypedCalls.{is_constructor, may_be_called, is_algorithm, is_output, appending, result_type, is_equality, is_random}
+use Rattle.sl_model.specs.WellTypedStatements.{is_making}
+use Rattle.sl_model.proofs.TypedLists.{first_of_both, second_of_both, both_true, first_of_neither, second_of_neither}
+use Rattle.sl_model.proofs.TypedOperands.{typed_by, only-holds, all_typed, fits-typed, same_iterators-typed}
+
+-- the second operand of an operator has a type where the first is an iterator and the call has one
+two_typed : (b : Bool) (x : Form) (test : ExprType → Bool) → test no_type ≡ false → (c : Bool) (u w : ExprType) → has_type (only (c && test u) w) ≡ true
+    → all_typed (iterator_type b x ∷ u ∷ []) ≡ true
+two_typed b x test n c u w h =
+    both_true (has_type u) true (typed_by test n u (second_of_both c (test u) (only-holds (c && test u) w h))) refl
+
+-- the first of two iterators of one type has a type
+same_iterators-first : (u v : ExprType) → same_iterators u v ≡ true → has_type u ≡ true
+same_iterators-first no_type v h = absurd cc
+same_iterators-first u v h = refl
+
+compared_typed : (o : Comparison) (u v : ExprType) → has_type (operator_type (operators.Compare o) (u ∷ v ∷ [])) ≡ true → all_typed (u ∷ v ∷ []) ≡ true
+compared_typed o u v h =
+    let same = first_of_both (same_iterators u v) (if is_equality o then true else is_random u)
+        (only-holds (same_iterators u v && (if is_equality o then true else is_random u)) (scalar_type t.Bool) h) in
+    both_true (has_type u) (has_type v && true) (same_iterators-first u v same) (both_true (has_type v) true (same_iterators-typed u v same) refl)
+
+-- the operands of an operator that has a type have types
+operator_type-operands : (o : Operator) (us : List ExprType) → has_type (operator_type o us) ≡ true → all_typed us ≡ true
+operator_type-operands operators.Dereference (iterator_type b x ∷ []) h = refl
+operator_type-operands operators.ArrowFirst (iterator_type b x ∷ []) h = refl
+operator_type-operands operators.ArrowSecond (iterator_type b x ∷ []) h = refl
+operator_type-operands operators.Increment (iterator_type b x ∷ []) h = refl
+operator_type-operands operators.Decrement (iterator_type b x ∷ []) h = refl
+operator_type-operands operators.Add (iterator_type b x ∷ u ∷ []) h = two_typed b x (is_scalar t.Diff) refl (is_random_access x) u (iterator_type b x) h
+operator_type-operands operators.Subtract (iterator_type b x ∷ u ∷ []) h =
+    two_typed b x (is_scalar t.Diff) refl (is_random_access x) u (iterator_type b x) h
+operator_type-operands operators.AddAssign (iterator_type b x ∷ u ∷ []) h = two_typed b x (is_scalar t.Diff) refl (is_random_access x) u empty_type h
+operator_type-operands operators.SubtractAssign (iterator_type b x ∷ u ∷ []) h =
+    two_typed b x (is_scalar t.Diff) refl (is_random_access x) u empty_type h
+operator_type-operands operators.Difference (iterator_type b x ∷ u ∷ []) h =
+    two_typed b x (is_iterator_of x) refl (is_random_access x) u (scalar_type t.Diff) h
+operator_type-operands (operators.Compare o) (u ∷ v ∷ []) h = compared_typed o u v h
+operator_type-operands o us h = absurd cc
+
+-- a letter stands for the elements of a list
+abbrev pub is_list : Letter → Bool
+is_list l.InitializerList = true
+is_list letter = false
+
+-- the fewest and the most operands that a letter stands for, of which a list has no most
+abbrev pub fewest_of : Letter → ℕ
+fewest_of l.OwnRange = 2
+fewest_of l.IntRange = 2
+fewest_of l.SecondIntRange = 2
+fewest_of l.WrittenRange = 2
+fewest_of l.RandomAccessRange = 2
+fewest_of l.AnyRange = 2
+fewest_of l.OptionalDistance = 0
+fewest_of letter = 1
+
+abbrev pub most_of : Letter → ℕ
+most_of l.OptionalDistance = 1
+most_of letter = fewest_of letter
+
+-- the fewest and the most operands of letters in turn
+abbrev pub fewest : List Letter → ℕ
+fewest [] = 0
+fewest (letter ∷ rest) = fewest_of letter + fewest rest
+
+abbrev pub most : List Letter → ℕ
+most [] = 0
+most (letter ∷ rest) = most_of letter + most rest
+
+-- n operands are as many as letters take
+pub record Takes (letters : List Letter) (n : ℕ) : Type 0 where
+  pub least : fewest letters ≤ n
+  pub most : list_any is_list letters ≡ false → n ≤ most letters
+
+one-count : (test : ExprType → Bool) (us : List ExprType) → one test (take 1 us) ≡ true → 1 + length (drop 1 us) ≡ length us
+one-count test [] h = absurd cc
+one-count test (u ∷ us) h = omega arith
+
+range-count : (test : ExprType → Bool) (us : List ExprType) → range test (take 2 us) ≡ true → 2 + length (drop 2 us) ≡ length us
+range-count test [] h = absurd cc
+range-count test (u ∷ []) h = absurd cc
+range-count test (u ∷ v ∷ us) h = omega arith
+
+-- nothing is left of a list of which all is dropped
+drop_length : (us : List ExprType) → length (drop (length us) us) ≡ 0
+drop_length us = let left = length-drop (length us) us in omega (arith, left)
+
+-- of so many operands a letter stands for no fewer and no more, where it is no list
+abbrev Stands : Letter → List ExprType → Type 0
+Stands letter us = (fewest_of letter + length (drop (width letter us) us) ≤ length us)
+    × (is_list letter ≡ false → length us ≤ most_of letter + length (drop (width letter us) us))
+
+one-stands : (test : ExprType → Bool) (us : List ExprType) → one test (take 1 us) ≡ true
+    → (1 + length (drop 1 us) ≤ length us) × (false ≡ false → length us ≤ 1 + length (drop 1 us))
+one-stands test us h = let count = one-count test us h in (omega (arith, count), λ e. omega (arith, count))
+
+range-stands : (test : ExprType → Bool) (us : List ExprType) → range test (take 2 us) ≡ true
+    → (2 + length (drop 2 us) ≤ length us) × (false ≡ false → length us ≤ 2 + length (drop 2 us))
+range-stands test us h = let count = range-count test us h in (omega (arith, count), λ e. omega (arith, count))
+
+optional-count : (test : ExprType → Bool) (us : List ExprType) → optional test us ≡ true → length us ≤ 1
+optional-count test [] h = omega arith
+optional-count test (u ∷ []) h = omega arith
+optional-count test (u ∷ v ∷ us) h = absurd cc
+
+elements-count : (us : List ExprType) → elements us ≡ true → 1 ≤ length us
+elements-count [] h = absurd cc
+elements-count (u ∷ us) h = omega arith
+
+optional-stands : (test : ExprType → Bool) (us : List ExprType) → optional test (take (length us) us) ≡ true
+    → (0 + length (drop (length us) us) ≤ length us) × (false ≡ false → length us ≤ 1 + length (drop (length us) us))
+optional-stands test us h =
+    let all = subst (λ (vs : List ExprType). optional test vs ≡ true) (take_all (length us) us (omega arith)) h in
+    let count = optional-count test us all in let left = drop_length us in (omega (arith, left), λ e. omega (arith, count, left))
+
+elements-stands : (us : List ExprType) → elements (take (length us) us) ≡ true
+    → (1 + length (drop (length us) us) ≤ length us) × (true ≡ false → length us ≤ 1 + length (drop (length us) us))
+elements-stands us h =
+    let all = subst (λ (vs : List ExprType). elements vs ≡ true) (take_all (length us) us (omega arith)) h in
+    let count = elements-count us all in let left = drop_length us in (omega (arith, count, left), λ e. absurd cc)
+
+fits_letter-stands : (form : Form) (letter : Letter) (us : List ExprType) → fits_letter form letter (take (width letter us) us) ≡ true → Stands letter us
+fits_letter-stands form l.Position us h = one-stands (is_iterator_of form) us h
+fits_letter-stands form l.SplicedPosition us h = one-stands (is_iterator_of form) us h
+fits_letter-stands form l.OwnRange us h = range-stands (is_iterator_of form) us h
+fits_letter-stands form l.IntRange us h = range-stands is_int_iterator us h
+fits_letter-stands form l.SecondIntRange us h = range-stands is_int_iterator us h
+fits_letter-stands form l.WrittenRange us h = range-stands is_writing_iterator us h
+fits_letter-stands form l.RandomAccessRange us h = range-stands (λ u. is_writing_iterator u && is_random u) us h
+fits_letter-stands form l.AnyRange us h = range-stands is_iterator us h
+fits_letter-stands form l.Count us h = one-stands (is_scalar t.Size) us h
+fits_letter-stands form l.Element us h = one-stands (is_scalar t.Int) us h
+fits_letter-stands form l.Key us h = one-stands (is_scalar t.Int) us h
+fits_letter-stands form l.InitializerList us h = elements-stands us h
+fits_letter-stands form l.Container us h = one-stands (is_container_of form) us h
+fits_letter-stands form l.ChangedContainer us h = one-stands (is_changed_container (same_form form)) us h
+fits_letter-stands form l.AppendedContainer us h = one-stands (is_changed_container is_sequence) us h
+fits_letter-stands form l.Int us h = one-stands (is_scalar t.Int) us h
+fits_letter-stands form l.Output us h = one-stands is_writing_iterator us h
+fits_letter-stands form l.IteratorVariable us h = one-stands is_iterator us h
+fits_letter-stands form l.Iterator us h = one-stands is_iterator us h
+fits_letter-stands form l.BidirectionalIterator us h = one-stands is_bidirectional us h
+fits_letter-stands form l.Distance us h = one-stands (is_scalar t.Diff) us h
+fits_letter-stands form l.OptionalDistance us h = optional-stands (is_scalar t.Diff) us h
+
+-- operands that fit letters are as many as these take
+pub fits-takes : (form : Form) (letters : List Letter) (us : List ExprType) → fits form letters us ≡ true → Takes letters (length us)
+fits-takes form [] [] h = record { least = omega arith; most = λ e. omega arith }
+fits-takes form [] (u ∷ us) h = absurd cc
+fits-takes form (letter ∷ rest) us h =
+    let own = fits_letter-stands form letter us
+        (first_of_both (fits_letter form letter (take (width letter us) us)) (fits form rest (drop (width letter us) us)) h) in
+    let others = fits-takes form rest (drop (width letter us) us)
+        (second_of_both (fits_letter form letter (take (width letter us) us)) (fits form rest (drop (width letter us) us)) h) in
+    let least = own.0 in let most = own.1 in let least_of_others = others.least in
+    record {
+      least = omega (arith, least, least_of_others);
+      most = λ e.
+          let one_most = most (first_of_neither (is_list letter) (list_any is_list rest) e) in
+          let others_most = others.most (second_of_neither (is_list letter) (list_any is_list rest) e) in
+          omega (arith, one_most, others_most);
+    }
+
+-- operands fit the letters of a row, as one of a form or of an algorithm
+abbrev Fit : List Letter → List ExprType → Type 0
+Fit letters us = (form : Form) × (fits form letters us ≡ true)
+
+member_type-fits : (row : Row) (u : ExprType) (us : List ExprType) → has_type (member_type row u us) ≡ true → Fit row.letters us
+member_type-fits row (container_type access x) us h =
+    let all = only-holds (same_object row.form (Some x) && not (is_constructor row) && may_be_called row.changes access && fits x row.letters us)
+        (result_type row.gives (is_const access) x us) h in
+    (x, second_of_both (same_object row.form (Some x) && not (is_constructor row) && may_be_called row.changes access) (fits x row.letters us) all)
+member_type-fits row u us h = absurd cc
+
+algorithm_type-fits : (row : Row) (us : List ExprType) → has_type (algorithm_type row us) ≡ true → Fit row.letters us
+algorithm_type-fits row us h =
+    let all = only-holds (is_algorithm row && fits f.Vector row.letters us) (result_type row.gives false f.Vector us) h in
+    (f.Vector, second_of_both (is_algorithm row) (fits f.Vector row.letters us) all)
+
+row_type-fits : (g : Scope) (row : Row) (object : Option ℕ) (us : List ExprType) → has_type (row_type g (Some row) object us) ≡ true → Fit row.letters us
+row_type-fits g row None us h = algorithm_type-fits row us h
+row_type-fits g row (Some x) us h = member_type-fits row (variable_type g.containers x) us h
+
+appending_type-fits : (row : Row) (us : List ExprType) → has_type (appending_type (Some row) us) ≡ true → Fit (map appending row.letters) us
+appending_type-fits row us h =
+    let all = only-holds (is_algorithm row && list_any is_output row.letters && fits f.Vector (map appending row.letters) us) empty_type h in
+    (f.Vector, second_of_both (is_algorithm row && list_any is_output row.letters) (fits f.Vector (map appending row.letters) us) all)
+
+constructs-fits : (form : Form) (row : Row) (us : List ExprType) → constructs form (Some row) us ≡ true → Fit row.letters us
+constructs-fits form row us h =
+    (form, second_of_both (same_object row.form (Some form) && is_constructor row) (fits form row.letters us) h)
+
+-- there is a row with this number, and n operands are as many as these letters of it take
+pub record HasRow (letters_of : Row → List Letter) (number n : ℕ) : Type 0 where
+  pub row : Row
+  pub there : row_at number ≡ Some row
+  pub takes : Takes (letters_of row) n
+
+-- the letters of a row, and those with a container in place of the output
+abbrev pub own_letters : Row → List Letter
+own_letters row = row.letters
+
+abbrev pub appended_letters : Row → List Letter
+appended_letters row = map appending row.letters
+
+-- a call of the library with n operands is one of a row that is there and takes so many, or an operator
+abbrev pub IsThere : Callee → ℕ → Type 0
+IsThere (callees.Row number) n = HasRow own_letters number n
+IsThere (callees.Appends number) n = HasRow appended_letters number n
+IsThere (callees.Operator o) n = Unit {0}
+IsThere (callees.Hidden o) n = ⊥
+
+-- what is known of operands of these types that fit
+abbrev pub Known : Callee → List ExprType → Type 0
+Known callee us = (all_typed us ≡ true) × IsThere callee (length us)
+
+fit-known : (letters_of : Row → List Letter) (number : ℕ) (row : Row) (us : List ExprType) → row_at number ≡ Some row → Fit (letters_of row) us
+    → (all_typed us ≡ true) × HasRow letters_of number (length us)
+fit-known letters_of number row us e fit =
+    (fits-typed fit.0 (letters_of row) us fit.1, record { row = row; there = e; takes = fits-takes fit.0 (letters_of row) us fit.1 })
+
+row-known : (g : Scope) (number : ℕ) (found : Option Row) (object : Option ℕ) (us : List ExprType) → row_at number ≡ found
+    → has_type (row_type g found object us) ≡ true → Known (callees.Row number) us
+row-known g number None object us e h = absurd cc
+row-known g number (Some row) object us e h = fit-known own_letters number row us e (row_type-fits g row object us h)
+
+appending-known : (number : ℕ) (found : Option Row) (us : List ExprType) → row_at number ≡ found → has_type (appending_type found us) ≡ true
+    → Known (callees.Appends number) us
+appending-known number None us e h = absurd cc
+appending-known number (Some row) us e h = fit-known appended_letters number row us e (appending_type-fits row us h)
+
+making-known : (form : Form) (number : ℕ) (found : Option Row) (us : List ExprType) → row_at number ≡ found → constructs form found us ≡ true
+    → Known (callees.Row number) us
+making-known form number None us e h = absurd cc
+making-known form number (Some row) us e h = fit-known own_letters number row us e (constructs-fits form row us h)
+
+-- the type behind a condition that holds
+only-rest : (b : Bool) (u : ExprType) → has_type (only b u) ≡ true → has_type u ≡ true
+only-rest true u h = h
+only-rest false u h = absurd cc
+
+-- where a call of the library has a type, its operands have types, and its row is there and takes so many
+pub call_type-known : (g : Scope) (callee : Callee) (object : Option ℕ) (us : List ExprType) → has_type (call_type g callee object us) ≡ true
+    → Known callee us
+call_type-known g (callees.Row number) object us h = row-known g number (row_at number) object us refl h
+call_type-known g (callees.Appends number) object us h =
+    appending-known number (row_at number) us refl (only-rest (not (is_some object)) (appending_type (row_at number) us) h)
+call_type-known g (callees.Operator o) object us h =
+    (operator_type-operands o us (only-rest (not (is_some object)) (operator_type o us) h), tt)
+call_type-known g (callees.Hidden o) object us h = absurd cc
+
+-- the same where a container is made
+pub is_making-known : (form : Form) (callee : Callee) (object : Option ℕ) (us : List ExprType) → is_making form callee object us ≡ true
+    → Known callee us
+is_making-known form (callees.Row number) None us h = making-known form number (row_at number) us refl h
+is_making-known form callee object us h = absurd cc
