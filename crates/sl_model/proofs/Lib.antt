@@ -47,3 +47,4 @@ pub mod TypedLists
 pub mod TypedNumbers
 pub mod TypedOperands
 pub mod TypedCalls
+pub mod TypedExpressions

@@ -259,7 +259,7 @@ making-known form number None us e h = absurd cc
 making-known form number (Some row) us e h = fit-known own_letters number row us e (constructs-fits form row us h)
 
 -- the type behind a condition that holds
-only-rest : (b : Bool) (u : ExprType) → has_type (only b u) ≡ true → has_type u ≡ true
+pub only-rest : (b : Bool) (u : ExprType) → has_type (only b u) ≡ true → has_type u ≡ true
 only-rest true u h = h
 only-rest false u h = absurd cc
 
