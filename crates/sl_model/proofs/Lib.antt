@@ -48,3 +48,4 @@ pub mod TypedNumbers
 pub mod TypedOperands
 pub mod TypedCalls
 pub mod TypedExpressions
+pub mod TypedStatements

@@ -1,6 +1,6 @@
 -- A call of the library that has a type: its operands have types, its row is there, and it has as many operands as the row's letters take.
-use Rattle.std.proofs.Common.{◌≡◌, ℕ, zero, suc, ◌+◌, ◌≤◌, Bool, true, false, not, ◌&&◌, List, [], ◌∷◌, length, take, drop, map, Option, Some, None}
-use Rattle.std.proofs.Common.{refl, sym, subst, arith, length-take, length-drop}
+use Rattle.std.proofs.Common.{◌≡◌, ℕ, ◌+◌, ◌≤◌, Bool, true, false, not, ◌&&◌, List, [], ◌∷◌, length, take, drop, map, Option, Some, None}
+use Rattle.std.proofs.Common.{refl, subst, arith, length-drop}
 use Rattle.std.specs.Prelude.{is_some, if◌then◌else◌}
 use Rattle.std.specs.List.{list_any}
 use Rattle.sl_base.specs.declared.form.Form.{Form}
@@ -15,8 +15,8 @@ use Rattle.sl_syntax.specs.declared.typed.callee.Callee.{Callee}
 use Rattle.sl_syntax.specs.declared.typed.callee.Callee.TheVariants as callees
 use Rattle.sl_syntax.specs.declared.typed.operator.Operator.{Operator}
 use Rattle.sl_syntax.specs.declared.typed.operator.Operator.TheVariants as operators
-use Rattle.sl_model.specs.WellTypedTypes.{ExprType, no_type, empty_type, scalar_type, element_type, iterator_type, iterator_and_bool, two_iterators}
-use Rattle.sl_model.specs.WellTypedTypes.{container_type, handed_type, int_reference, entry_reference, Scope, variable_type, has_type, only, is_scalar}
+use Rattle.sl_model.specs.WellTypedTypes.{ExprType, no_type, empty_type, scalar_type, iterator_type}
+use Rattle.sl_model.specs.WellTypedTypes.{container_type, Scope, variable_type, has_type, only, is_scalar}
 use Rattle.sl_model.specs.WellTypedTypes.{is_iterator, is_iterator_of, is_writing_iterator, is_random_access, same_iterators, is_const}
 use Rattle.sl_model.specs.WellTypedTypes.{is_container_of, is_changed_container, is_sequence}
 use Rattle.sl_model.specs.WellTypedCalls.{is_int_iterator, is_bidirectional}
@@ -41,7 +41,7 @@ same_iterators-first u v h = refl
 compared_typed : (o : Comparison) (u v : ExprType) → has_type (operator_type (operators.Compare o) (u ∷ v ∷ [])) ≡ true → all_typed (u ∷ v ∷ []) ≡ true
 compared_typed o u v h =
     let same = first_of_both (same_iterators u v) (if is_equality o then true else is_random u)
-        (only-holds (same_iterators u v && (if is_equality o then true else is_random u)) (scalar_type t.Bool) h) in
+    (only-holds (same_iterators u v && (if is_equality o then true else is_random u)) (scalar_type t.Bool) h) in
     both_true (has_type u) (has_type v && true) (same_iterators-first u v same) (both_true (has_type v) true (same_iterators-typed u v same) refl)
 
 -- the operands of an operator that has a type have types
@@ -173,9 +173,9 @@ fits-takes form [] [] h = record { least = omega arith; most = λ e. omega arith
 fits-takes form [] (u ∷ us) h = absurd cc
 fits-takes form (letter ∷ rest) us h =
     let own = fits_letter-stands form letter us
-        (first_of_both (fits_letter form letter (take (width letter us) us)) (fits form rest (drop (width letter us) us)) h) in
+    (first_of_both (fits_letter form letter (take (width letter us) us)) (fits form rest (drop (width letter us) us)) h) in
     let others = fits-takes form rest (drop (width letter us) us)
-        (second_of_both (fits_letter form letter (take (width letter us) us)) (fits form rest (drop (width letter us) us)) h) in
+    (second_of_both (fits_letter form letter (take (width letter us) us)) (fits form rest (drop (width letter us) us)) h) in
     let least = own.0 in let most = own.1 in let least_of_others = others.least in
     record {
       least = omega (arith, least, least_of_others);
@@ -192,7 +192,7 @@ Fit letters us = (form : Form) × (fits form letters us ≡ true)
 member_type-fits : (row : Row) (u : ExprType) (us : List ExprType) → has_type (member_type row u us) ≡ true → Fit row.letters us
 member_type-fits row (container_type access x) us h =
     let all = only-holds (same_object row.form (Some x) && not (is_constructor row) && may_be_called row.changes access && fits x row.letters us)
-        (result_type row.gives (is_const access) x us) h in
+    (result_type row.gives (is_const access) x us) h in
     (x, second_of_both (same_object row.form (Some x) && not (is_constructor row) && may_be_called row.changes access) (fits x row.letters us) all)
 member_type-fits row u us h = absurd cc
 

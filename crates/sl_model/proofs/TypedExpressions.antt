@@ -1,6 +1,6 @@
 -- Each call in an expression that has a type is of a row or a function that is there, and has as many operands as that takes.
-use Rattle.std.proofs.Common.{◌≡◌, ℕ, zero, suc, ◌==◌, Bool, true, false, not, ◌&&◌, ◌||◌, List, [], ◌∷◌, ◌++◌, length, Option, Some, None, refl, ap, subst}
-use Rattle.std.proofs.Common.{sym, arith}
+use Rattle.std.proofs.Common.{◌≡◌, ℕ, ◌==◌, Bool, true, false, not, ◌&&◌, ◌||◌, List, [], ◌∷◌, ◌++◌, length, Option, Some, None, refl, subst}
+use Rattle.std.proofs.Common.{arith}
 use Rattle.std.specs.Prelude.{slice_get}
 use Rattle.sl_base.specs.declared.scalar.Scalar.TheVariants as t
 use Rattle.sl_syntax.specs.declared.operator.Access.TheVariants as a
@@ -10,12 +10,12 @@ use Rattle.sl_syntax.specs.declared.typed.parameter.ParameterKind.TheVariants as
 use Rattle.sl_syntax.specs.Typed.{Expr, literal, held, iterator, convert, negate, logical_not, logical_and, logical_or, arithmetic, comparison}
 use Rattle.sl_syntax.specs.Typed.{increment, move, call, own_call, first, second, container, handed_scalar, Left, scalar, reference, element}
 use Rattle.sl_syntax.specs.Typed.{Operands, none, with, Function}
-use Rattle.sl_model.specs.WellTypedTypes.{ExprType, no_type, scalar_type, Scope, variable_type, has_type, only, is_scalar, is_number, is_written}
+use Rattle.sl_model.specs.WellTypedTypes.{ExprType, no_type, scalar_type, Scope, variable_type, has_type, is_scalar, is_number, is_written}
 use Rattle.sl_model.specs.WellTypedTypes.{is_arithmetic, are_comparable}
 use Rattle.sl_model.specs.WellTypedCalls.{call_type, is_moving}
 use Rattle.sl_model.specs.WellTypedExpressions.{only_value, only_element, type_of_first, type_of_second, goes_to, go_to, type_given, function_type}
 use Rattle.sl_model.specs.WellTypedExpressions.{is_arrow, is_variable, type_of, type_of_left, types_of}
-use Rattle.sl_model.specs.WellTypedNodes.{Node, a_literal, a_call, an_own_call, an_operator, a_step, a_use, a_loop, a_range, a_variable, a_brace}
+use Rattle.sl_model.specs.WellTypedNodes.{Node, a_call, an_own_call}
 use Rattle.sl_model.specs.WellTypedNodes.{nodes_in, nodes_in_left, nodes_in_operands}
 use Rattle.sl_model.specs.WellTypedOrder.{listed}
 use Rattle.sl_model.proofs.TypedLists.{first_of_both, second_of_both, both_true}
@@ -46,7 +46,7 @@ types_of-length g none = refl
 types_of-length g (with e rest) = let more = types_of-length g rest in omega (arith, more)
 
 -- no type goes to no parameter
-no_type-goes : (k : ParameterKind) → goes_to k no_type ≡ false
+pub no_type-goes : (k : ParameterKind) → goes_to k no_type ≡ false
 no_type-goes (parameters.Value s) = refl
 no_type-goes (parameters.Reference s) = refl
 no_type-goes (parameters.Container a.Const x) = refl
@@ -61,8 +61,7 @@ go_to-known [] (u ∷ us) h = absurd cc
 go_to-known (k ∷ ks) [] h = absurd cc
 go_to-known (k ∷ ks) (u ∷ us) h =
     let others = go_to-known ks us (second_of_both (goes_to k u) (go_to ks us) h) in
-    let count = others.1 in
-    (
+    let count = others.1 in (
       both_true (has_type u) (all_typed us) (typed_by (goes_to k) (no_type-goes k) u (first_of_both (goes_to k u) (go_to ks us) h)) others.0,
       omega (arith, count),
     )
@@ -75,7 +74,7 @@ function-known fs number b (Some f) us e h =
     (known.0, record { function = f; there = e; count = known.1 })
 
 -- numbers that are compared have types
-and_false : (b : Bool) → (b && false) ≡ false
+pub and_false : (b : Bool) → (b && false) ≡ false
 and_false true = refl
 and_false false = refl
 
@@ -97,12 +96,13 @@ both_fine fs [] ys h k = k
 both_fine fs (x ∷ xs) ys h k = (h.0, both_fine fs xs ys h.1 k)
 
 -- a call of the library and its operands are fine where the operands are known
-called_fine : (g : Scope) (c : Head) (ops : Operands) → Known c.callee (types_of g ops) → AreFine g.functions (nodes_in_operands ops)
+pub called_fine : (g : Scope) (c : Head) (ops : Operands) → Known c.callee (types_of g ops) → AreFine g.functions (nodes_in_operands ops)
     → AreFine g.functions (a_call c ops ∷ nodes_in_operands ops)
 called_fine g c ops known fine = (subst (IsThere c.callee) (types_of-length g ops) known.1, fine)
 
 mutual
   unfolding type_of type_of_left types_of nodes_in nodes_in_left nodes_in_operands
+
   -- the nodes of an expression that has a type are fine
   pub expression_is_fine : (g : Scope) (e : Expr) → has_type (type_of g e) ≡ true → AreFine g.functions (nodes_in e)
   expression_is_fine g (literal s z) h = (tt, tt)
@@ -116,39 +116,43 @@ mutual
       expression_is_fine g e (typed_by is_number refl (type_of g e) (only-holds (is_number (type_of g e)) (scalar_type t.Bool) h))
   expression_is_fine g (logical_and at d e) h =
       let typed = pair_typed is_number refl (type_of g d) (type_of g e)
-          (only-holds (is_number (type_of g d) && is_number (type_of g e)) (scalar_type t.Bool) h) in
+      (only-holds (is_number (type_of g d) && is_number (type_of g e)) (scalar_type t.Bool) h) in
       both_fine g.functions (nodes_in d) (nodes_in e) (expression_is_fine g d typed.0) (expression_is_fine g e typed.1)
   expression_is_fine g (logical_or at d e) h =
       let typed = pair_typed is_number refl (type_of g d) (type_of g e)
-          (only-holds (is_number (type_of g d) && is_number (type_of g e)) (scalar_type t.Bool) h) in
+      (only-holds (is_number (type_of g d) && is_number (type_of g e)) (scalar_type t.Bool) h) in
       both_fine g.functions (nodes_in d) (nodes_in e) (expression_is_fine g d typed.0) (expression_is_fine g e typed.1)
   expression_is_fine g (arithmetic op s at d e) h =
       let all = only-holds (is_arithmetic s && is_scalar s (type_of g d) && is_scalar s (type_of g e)) (scalar_type s) h in
       let left = second_of_both (is_arithmetic s) (is_scalar s (type_of g d))
-          (first_of_both (is_arithmetic s && is_scalar s (type_of g d)) (is_scalar s (type_of g e)) all) in
-      let right = second_of_both (is_arithmetic s && is_scalar s (type_of g d)) (is_scalar s (type_of g e)) all in
-      (tt, both_fine g.functions (nodes_in d) (nodes_in e) (expression_is_fine g d (typed_by (is_scalar s) refl (type_of g d) left))
-        (expression_is_fine g e (typed_by (is_scalar s) refl (type_of g e) right)))
+      (first_of_both (is_arithmetic s && is_scalar s (type_of g d)) (is_scalar s (type_of g e)) all) in
+      let right = second_of_both (is_arithmetic s && is_scalar s (type_of g d)) (is_scalar s (type_of g e)) all in (
+        tt,
+        both_fine g.functions (nodes_in d) (nodes_in e) (expression_is_fine g d (typed_by (is_scalar s) refl (type_of g d) left))
+            (expression_is_fine g e (typed_by (is_scalar s) refl (type_of g e) right)),
+      )
   expression_is_fine g (comparison op at d e) h =
-      let all = only-holds (are_comparable (type_of g d) (type_of g e)) (scalar_type t.Bool) h in
-      (tt, both_fine g.functions (nodes_in d) (nodes_in e) (expression_is_fine g d (comparable_first (type_of g d) (type_of g e) all))
-        (expression_is_fine g e (comparable_second (type_of g d) (type_of g e) all)))
+      let all = only-holds (are_comparable (type_of g d) (type_of g e)) (scalar_type t.Bool) h in (
+        tt,
+        both_fine g.functions (nodes_in d) (nodes_in e) (expression_is_fine g d (comparable_first (type_of g d) (type_of g e) all))
+            (expression_is_fine g e (comparable_second (type_of g d) (type_of g e) all)),
+      )
   expression_is_fine g (increment step fix s at l) h =
       let u = type_of_left g l in
       let all = first_of_both (is_arithmetic s && is_scalar s u) (is_written u)
-          (only-holds (is_arithmetic s && is_scalar s u && is_written u) (scalar_type s) h) in
+      (only-holds (is_arithmetic s && is_scalar s u && is_written u) (scalar_type s) h) in
       (tt, left_is_fine g l (typed_by (is_scalar s) refl u (second_of_both (is_arithmetic s) (is_scalar s u) all)))
   expression_is_fine g (move fix x c ops) h =
       let u = variable_type g.iterators x in
       let known = call_type-known g c.callee c.object (u ∷ types_of g ops)
-          (only-rest (is_moving c.callee) (call_type g c.callee c.object (u ∷ types_of g ops)) h) in
+      (only-rest (is_moving c.callee) (call_type g c.callee c.object (u ∷ types_of g ops)) h) in
       let count = types_of-length g ops in
       let more : length (u ∷ types_of g ops) ≡ length (listed (with (iterator x) ops)) = omega (arith, count) in
       (subst (IsThere c.callee) more known.1, operands_are_fine g ops (second_of_both (has_type u) (all_typed (types_of g ops)) known.0))
   expression_is_fine g (call c ops) h =
       let u = call_type g c.callee c.object (types_of g ops) in
       let known = call_type-known g c.callee c.object (types_of g ops)
-          (typed_by (λ w. has_type (only_value w)) refl u (only-rest (not (is_moving c.callee)) (only_value u) h)) in
+      (typed_by (λ w. has_type (only_value w)) refl u (only-rest (not (is_moving c.callee)) (only_value u) h)) in
       called_fine g c ops known (operands_are_fine g ops known.0)
   expression_is_fine g (own_call n at ops) h =
       let known = function-known g.functions n (not (n == g.main)) (slice_get g.functions n) (types_of g ops) refl h in
@@ -165,7 +169,7 @@ mutual
   left_is_fine g (element c ops) h =
       let u = call_type g c.callee c.object (types_of g ops) in
       let known = call_type-known g c.callee c.object (types_of g ops)
-          (typed_by (λ w. has_type (only_element w)) refl u (only-rest (not (is_arrow c.callee) || is_variable ops) (only_element u) h)) in
+      (typed_by (λ w. has_type (only_element w)) refl u (only-rest (not (is_arrow c.callee) || is_variable ops) (only_element u) h)) in
       called_fine g c ops known (operands_are_fine g ops known.0)
 
   -- those of operands

@@ -35,7 +35,7 @@ pub record IsNode (p : Typed) (node : Node) : Type 0 where
 pub site_is_there : (p : Typed) → WellTyped p → (node : Node) → IsNode p node → (s : ℕ) → site_in node ≡ Some s → s < length p.sites
 site_is_there p w node at s g =
     let all = first_of_both (are_numbers_of (length p.sites) (filter_map site_in (nodes_in_stmt at.function.body)))
-        (are_numbers_of (length p.loops) (filter_map loop_in (nodes_in_stmt at.function.body))) (numbered p w at.number at.function at.function_there) in
+    (are_numbers_of (length p.loops) (filter_map loop_in (nodes_in_stmt at.function.body))) (numbered p w at.number at.function at.function_there) in
     below_count site_in (length p.sites) (nodes_in_stmt at.function.body) at.place node s all at.there g
 
 -- it is below the limit of sites
@@ -49,7 +49,7 @@ site_is_below p w node at s g =
 pub loop_is_there : (p : Typed) → WellTyped p → (node : Node) → IsNode p node → (n : ℕ) → loop_in node ≡ Some n → n < length p.loops
 loop_is_there p w node at n g =
     let all = second_of_both (are_numbers_of (length p.sites) (filter_map site_in (nodes_in_stmt at.function.body)))
-        (are_numbers_of (length p.loops) (filter_map loop_in (nodes_in_stmt at.function.body))) (numbered p w at.number at.function at.function_there) in
+    (are_numbers_of (length p.loops) (filter_map loop_in (nodes_in_stmt at.function.body))) (numbered p w at.number at.function at.function_there) in
     below_count loop_in (length p.loops) (nodes_in_stmt at.function.body) at.place node n all at.there g
 
 -- a variable that has a type is there

@@ -96,8 +96,8 @@ fits-typed form [] [] h = refl
 fits-typed form [] (u ∷ us) h = absurd cc
 fits-typed form (letter ∷ rest) us h =
     let own = fits_letter-typed form letter (take (width letter us) us)
-        (first_of_both (fits_letter form letter (take (width letter us) us)) (fits form rest (drop (width letter us) us)) h) in
+    (first_of_both (fits_letter form letter (take (width letter us) us)) (fits form rest (drop (width letter us) us)) h) in
     let others = fits-typed form rest (drop (width letter us) us)
-        (second_of_both (fits_letter form letter (take (width letter us) us)) (fits form rest (drop (width letter us) us)) h) in
+    (second_of_both (fits_letter form letter (take (width letter us) us)) (fits form rest (drop (width letter us) us)) h) in
     subst (λ (vs : List ExprType). all_typed vs ≡ true) (take-append-drop (width letter us) us)
-        (joined-typed (take (width letter us) us) (drop (width letter us) us) own others)
+    (joined-typed (take (width letter us) us) (drop (width letter us) us) own others)
