@@ -47,5 +47,6 @@ pub mod TypedLists
 pub mod TypedNumbers
 pub mod TypedOperands
 pub mod TypedCalls
+pub mod TypedParts
 pub mod TypedExpressions
 pub mod TypedStatements

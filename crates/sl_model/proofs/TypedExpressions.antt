@@ -1,5 +1,5 @@
 -- Each call in an expression that has a type is of a row or a function that is there, and has as many operands as that takes.
-use Rattle.std.proofs.Common.{◌≡◌, ℕ, ◌==◌, Bool, true, false, not, ◌&&◌, ◌||◌, List, [], ◌∷◌, ◌++◌, length, Option, Some, None, refl, subst}
+use Rattle.std.proofs.Common.{◌≡◌, ℕ, ◌==◌, Bool, true, false, not, ◌&&◌, List, [], ◌∷◌, ◌++◌, length, Option, Some, None, refl, subst}
 use Rattle.std.proofs.Common.{arith}
 use Rattle.std.specs.Prelude.{slice_get}
 use Rattle.sl_base.specs.declared.scalar.Scalar.TheVariants as t
@@ -10,17 +10,18 @@ use Rattle.sl_syntax.specs.declared.typed.parameter.ParameterKind.TheVariants as
 use Rattle.sl_syntax.specs.Typed.{Expr, literal, held, iterator, convert, negate, logical_not, logical_and, logical_or, arithmetic, comparison}
 use Rattle.sl_syntax.specs.Typed.{increment, move, call, own_call, first, second, container, handed_scalar, Left, scalar, reference, element}
 use Rattle.sl_syntax.specs.Typed.{Operands, none, with, Function}
-use Rattle.sl_model.specs.WellTypedTypes.{ExprType, no_type, scalar_type, Scope, variable_type, has_type, is_scalar, is_number, is_written}
-use Rattle.sl_model.specs.WellTypedTypes.{is_arithmetic, are_comparable}
-use Rattle.sl_model.specs.WellTypedCalls.{call_type, is_moving}
-use Rattle.sl_model.specs.WellTypedExpressions.{only_value, only_element, type_of_first, type_of_second, goes_to, go_to, type_given, function_type}
-use Rattle.sl_model.specs.WellTypedExpressions.{is_arrow, is_variable, type_of, type_of_left, types_of}
+use Rattle.sl_model.specs.WellTypedTypes.{ExprType, no_type, Scope, variable_type, has_type, is_scalar, is_number}
+use Rattle.sl_model.specs.WellTypedTypes.{are_comparable}
+use Rattle.sl_model.specs.WellTypedExpressions.{goes_to, go_to, type_given, function_type}
+use Rattle.sl_model.specs.WellTypedExpressions.{type_of, type_of_left, types_of}
 use Rattle.sl_model.specs.WellTypedNodes.{Node, a_call, an_own_call}
 use Rattle.sl_model.specs.WellTypedNodes.{nodes_in, nodes_in_left, nodes_in_operands}
 use Rattle.sl_model.specs.WellTypedOrder.{listed}
 use Rattle.sl_model.proofs.TypedLists.{first_of_both, second_of_both, both_true}
-use Rattle.sl_model.proofs.TypedOperands.{typed_by, only-holds, all_typed}
-use Rattle.sl_model.proofs.TypedCalls.{IsThere, Known, only-rest, call_type-known}
+use Rattle.sl_model.proofs.TypedOperands.{typed_by, only_holds, all_typed}
+use Rattle.sl_model.proofs.TypedCalls.{IsThere, Known, call_known}
+use Rattle.sl_model.proofs.TypedParts.{held_typed, converted_number, negated_number, inverted_number, numbers_of_and, numbers_of_or, calculated_numbers}
+use Rattle.sl_model.proofs.TypedParts.{compared_numbers, stepped_number, moving_call, value_call, element_call, function_call, first_stands, second_stands}
 
 -- a function is there, and has n parameters
 pub record IsOwn (functions : List Function) (number n : ℕ) : Type 0 where
@@ -40,37 +41,37 @@ AreFine fs [] = Unit {0}
 AreFine fs (node ∷ nodes) = IsFine fs node × AreFine fs nodes
 
 -- there are as many types as operands
-types_of-length : (g : Scope) (ops : Operands) → length (types_of g ops) ≡ length (listed ops)
+length-types_of : (g : Scope) (ops : Operands) → length (types_of g ops) ≡ length (listed ops)
 unfolding types_of
-types_of-length g none = refl
-types_of-length g (with e rest) = let more = types_of-length g rest in omega (arith, more)
+length-types_of g none = refl
+length-types_of g (with e rest) = let more = length-types_of g rest in omega (arith, more)
 
 -- no type goes to no parameter
-pub no_type-goes : (k : ParameterKind) → goes_to k no_type ≡ false
-no_type-goes (parameters.Value s) = refl
-no_type-goes (parameters.Reference s) = refl
-no_type-goes (parameters.Container a.Const x) = refl
-no_type-goes (parameters.Container a.Whole x) = refl
-no_type-goes (parameters.Container a.Elements x) = refl
-no_type-goes (parameters.Iterator b x) = refl
+pub no_type_goes : (k : ParameterKind) → goes_to k no_type ≡ false
+no_type_goes (parameters.Value s) = refl
+no_type_goes (parameters.Reference s) = refl
+no_type_goes (parameters.Container a.Const x) = refl
+no_type_goes (parameters.Container a.Whole x) = refl
+no_type_goes (parameters.Container a.Elements x) = refl
+no_type_goes (parameters.Iterator b x) = refl
 
 -- operands that go to parameters have types, and there are as many
-go_to-known : (ks : List ParameterKind) (us : List ExprType) → go_to ks us ≡ true → (all_typed us ≡ true) × (length ks ≡ length us)
-go_to-known [] [] h = (refl, refl)
-go_to-known [] (u ∷ us) h = absurd cc
-go_to-known (k ∷ ks) [] h = absurd cc
-go_to-known (k ∷ ks) (u ∷ us) h =
-    let others = go_to-known ks us (second_of_both (goes_to k u) (go_to ks us) h) in
+going_known : (ks : List ParameterKind) (us : List ExprType) → go_to ks us ≡ true → (all_typed us ≡ true) × (length ks ≡ length us)
+going_known [] [] h = (refl, refl)
+going_known [] (u ∷ us) h = absurd cc
+going_known (k ∷ ks) [] h = absurd cc
+going_known (k ∷ ks) (u ∷ us) h =
+    let others = going_known ks us (second_of_both (goes_to k u) (go_to ks us) h) in
     let count = others.1 in (
-      both_true (has_type u) (all_typed us) (typed_by (goes_to k) (no_type-goes k) u (first_of_both (goes_to k u) (go_to ks us) h)) others.0,
+      both_true (has_type u) (all_typed us) (typed_by (goes_to k) (no_type_goes k) u (first_of_both (goes_to k u) (go_to ks us) h)) others.0,
       omega (arith, count),
     )
 
-function-known : (fs : List Function) (number : ℕ) (b : Bool) (found : Option Function) (us : List ExprType) → slice_get fs number ≡ found
+function_known : (fs : List Function) (number : ℕ) (b : Bool) (found : Option Function) (us : List ExprType) → slice_get fs number ≡ found
     → has_type (function_type b found us) ≡ true → (all_typed us ≡ true) × IsOwn fs number (length us)
-function-known fs number b None us e h = absurd cc
-function-known fs number b (Some f) us e h =
-    let known = go_to-known f.parameters us (second_of_both b (go_to f.parameters us) (only-holds (b && go_to f.parameters us) (type_given f.result) h)) in
+function_known fs number b None us e h = absurd cc
+function_known fs number b (Some f) us e h =
+    let known = going_known f.parameters us (second_of_both b (go_to f.parameters us) (only_holds (b && go_to f.parameters us) (type_given f.result) h)) in
     (known.0, record { function = f; there = e; count = known.1 })
 
 -- numbers that are compared have types
@@ -85,11 +86,6 @@ comparable_second : (u v : ExprType) → are_comparable u v ≡ true → has_typ
 comparable_second u v h =
     typed_by (are_comparable u) (rw (and_false (is_scalar t.Int u), and_false (is_scalar t.Size u), and_false (is_scalar t.Diff u)) refl) v h
 
--- two operands that pass a test have types
-pair_typed : (test : ExprType → Bool) → test no_type ≡ false → (u v : ExprType) → (test u && test v) ≡ true
-    → (has_type u ≡ true) × (has_type v ≡ true)
-pair_typed test n u v h = (typed_by test n u (first_of_both (test u) (test v) h), typed_by test n v (second_of_both (test u) (test v) h))
-
 -- nodes of two parts
 pub both_fine : (fs : List Function) (xs ys : List Node) → AreFine fs xs → AreFine fs ys → AreFine fs (xs ++ ys)
 both_fine fs [] ys h k = k
@@ -98,67 +94,48 @@ both_fine fs (x ∷ xs) ys h k = (h.0, both_fine fs xs ys h.1 k)
 -- a call of the library and its operands are fine where the operands are known
 pub called_fine : (g : Scope) (c : Head) (ops : Operands) → Known c.callee (types_of g ops) → AreFine g.functions (nodes_in_operands ops)
     → AreFine g.functions (a_call c ops ∷ nodes_in_operands ops)
-called_fine g c ops known fine = (subst (IsThere c.callee) (types_of-length g ops) known.1, fine)
+called_fine g c ops known fine = (subst (IsThere c.callee) (length-types_of g ops) known.1, fine)
 
+-- the nodes of an expression that has a type are fine
 mutual
-  unfolding type_of type_of_left types_of nodes_in nodes_in_left nodes_in_operands
-
-  -- the nodes of an expression that has a type are fine
+  unfolding nodes_in nodes_in_left nodes_in_operands types_of
   pub expression_is_fine : (g : Scope) (e : Expr) → has_type (type_of g e) ≡ true → AreFine g.functions (nodes_in e)
   expression_is_fine g (literal s z) h = (tt, tt)
-  expression_is_fine g (held l) h = left_is_fine g l h
+  expression_is_fine g (held l) h = left_is_fine g l (held_typed g l h)
   expression_is_fine g (iterator x) h = tt
-  expression_is_fine g (convert s e) h =
-      expression_is_fine g e (typed_by is_number refl (type_of g e) (only-holds (is_number (type_of g e)) (scalar_type s) h))
-  expression_is_fine g (negate s at e) h = expression_is_fine g e (typed_by (is_scalar s) refl (type_of g e)
-      (second_of_both (is_arithmetic s) (is_scalar s (type_of g e)) (only-holds (is_arithmetic s && is_scalar s (type_of g e)) (scalar_type s) h)))
-  expression_is_fine g (logical_not at e) h =
-      expression_is_fine g e (typed_by is_number refl (type_of g e) (only-holds (is_number (type_of g e)) (scalar_type t.Bool) h))
+  expression_is_fine g (convert s e) h = expression_is_fine g e (typed_by is_number refl (type_of g e) (converted_number g s e h))
+  expression_is_fine g (negate s at e) h = let parts = negated_number g s at e h in expression_is_fine g e (typed_by (is_scalar s) refl (type_of g e) parts.1)
+  expression_is_fine g (logical_not at e) h = expression_is_fine g e (typed_by is_number refl (type_of g e) (inverted_number g at e h))
   expression_is_fine g (logical_and at d e) h =
-      let typed = pair_typed is_number refl (type_of g d) (type_of g e)
-      (only-holds (is_number (type_of g d) && is_number (type_of g e)) (scalar_type t.Bool) h) in
-      both_fine g.functions (nodes_in d) (nodes_in e) (expression_is_fine g d typed.0) (expression_is_fine g e typed.1)
+      let parts = numbers_of_and g at d e h in
+      both_fine g.functions (nodes_in d) (nodes_in e) (expression_is_fine g d (typed_by is_number refl (type_of g d) parts.0)) (expression_is_fine g e (typed_by is_number refl (type_of g e) parts.1))
   expression_is_fine g (logical_or at d e) h =
-      let typed = pair_typed is_number refl (type_of g d) (type_of g e)
-      (only-holds (is_number (type_of g d) && is_number (type_of g e)) (scalar_type t.Bool) h) in
-      both_fine g.functions (nodes_in d) (nodes_in e) (expression_is_fine g d typed.0) (expression_is_fine g e typed.1)
+      let parts = numbers_of_or g at d e h in
+      both_fine g.functions (nodes_in d) (nodes_in e) (expression_is_fine g d (typed_by is_number refl (type_of g d) parts.0)) (expression_is_fine g e (typed_by is_number refl (type_of g e) parts.1))
   expression_is_fine g (arithmetic op s at d e) h =
-      let all = only-holds (is_arithmetic s && is_scalar s (type_of g d) && is_scalar s (type_of g e)) (scalar_type s) h in
-      let left = second_of_both (is_arithmetic s) (is_scalar s (type_of g d))
-      (first_of_both (is_arithmetic s && is_scalar s (type_of g d)) (is_scalar s (type_of g e)) all) in
-      let right = second_of_both (is_arithmetic s && is_scalar s (type_of g d)) (is_scalar s (type_of g e)) all in (
-        tt,
-        both_fine g.functions (nodes_in d) (nodes_in e) (expression_is_fine g d (typed_by (is_scalar s) refl (type_of g d) left))
-            (expression_is_fine g e (typed_by (is_scalar s) refl (type_of g e) right)),
-      )
+      let parts = calculated_numbers g op s at d e h in
+      (tt, both_fine g.functions (nodes_in d) (nodes_in e) (expression_is_fine g d (typed_by (is_scalar s) refl (type_of g d) parts.1))
+        (expression_is_fine g e (typed_by (is_scalar s) refl (type_of g e) parts.2)))
   expression_is_fine g (comparison op at d e) h =
-      let all = only-holds (are_comparable (type_of g d) (type_of g e)) (scalar_type t.Bool) h in (
-        tt,
-        both_fine g.functions (nodes_in d) (nodes_in e) (expression_is_fine g d (comparable_first (type_of g d) (type_of g e) all))
-            (expression_is_fine g e (comparable_second (type_of g d) (type_of g e) all)),
-      )
+      let alike = compared_numbers g op at d e h in
+      (tt, both_fine g.functions (nodes_in d) (nodes_in e) (expression_is_fine g d (comparable_first (type_of g d) (type_of g e) alike))
+        (expression_is_fine g e (comparable_second (type_of g d) (type_of g e) alike)))
   expression_is_fine g (increment step fix s at l) h =
-      let u = type_of_left g l in
-      let all = first_of_both (is_arithmetic s && is_scalar s u) (is_written u)
-      (only-holds (is_arithmetic s && is_scalar s u && is_written u) (scalar_type s) h) in
-      (tt, left_is_fine g l (typed_by (is_scalar s) refl u (second_of_both (is_arithmetic s) (is_scalar s u) all)))
+      let parts = stepped_number g step fix s at l h in (tt, left_is_fine g l (typed_by (is_scalar s) refl (type_of_left g l) parts.1))
   expression_is_fine g (move fix x c ops) h =
-      let u = variable_type g.iterators x in
-      let known = call_type-known g c.callee c.object (u ∷ types_of g ops)
-      (only-rest (is_moving c.callee) (call_type g c.callee c.object (u ∷ types_of g ops)) h) in
-      let count = types_of-length g ops in
+      let u = variable_type g.iterators x in let parts = moving_call g fix x c ops h in
+      let known = call_known g c.callee c.object (u ∷ types_of g ops) parts.1 in
+      let count = length-types_of g ops in
       let more : length (u ∷ types_of g ops) ≡ length (listed (with (iterator x) ops)) = omega (arith, count) in
       (subst (IsThere c.callee) more known.1, operands_are_fine g ops (second_of_both (has_type u) (all_typed (types_of g ops)) known.0))
   expression_is_fine g (call c ops) h =
-      let u = call_type g c.callee c.object (types_of g ops) in
-      let known = call_type-known g c.callee c.object (types_of g ops)
-      (typed_by (λ w. has_type (only_value w)) refl u (only-rest (not (is_moving c.callee)) (only_value u) h)) in
+      let parts = value_call g c ops h in let known = call_known g c.callee c.object (types_of g ops) parts.1 in
       called_fine g c ops known (operands_are_fine g ops known.0)
   expression_is_fine g (own_call n at ops) h =
-      let known = function-known g.functions n (not (n == g.main)) (slice_get g.functions n) (types_of g ops) refl h in
-      (subst (IsOwn g.functions n) (types_of-length g ops) known.1, operands_are_fine g ops known.0)
-  expression_is_fine g (first at e) h = expression_is_fine g e (typed_by (λ u. has_type (type_of_first u)) refl (type_of g e) h)
-  expression_is_fine g (second at e) h = expression_is_fine g e (typed_by (λ u. has_type (type_of_second u)) refl (type_of g e) h)
+      let known = function_known g.functions n (not (n == g.main)) (slice_get g.functions n) (types_of g ops) refl (function_call g n at ops h) in
+      (subst (IsOwn g.functions n) (length-types_of g ops) known.1, operands_are_fine g ops known.0)
+  expression_is_fine g (first at e) h = expression_is_fine g e (first_stands g at e h)
+  expression_is_fine g (second at e) h = expression_is_fine g e (second_stands g at e h)
   expression_is_fine g (container x) h = tt
   expression_is_fine g (handed_scalar x) h = tt
 
@@ -167,9 +144,7 @@ mutual
   left_is_fine g (scalar x at) h = tt
   left_is_fine g (reference x at name part) h = (tt, tt)
   left_is_fine g (element c ops) h =
-      let u = call_type g c.callee c.object (types_of g ops) in
-      let known = call_type-known g c.callee c.object (types_of g ops)
-      (typed_by (λ w. has_type (only_element w)) refl u (only-rest (not (is_arrow c.callee) || is_variable ops) (only_element u) h)) in
+      let known = call_known g c.callee c.object (types_of g ops) (element_call g c ops h) in
       called_fine g c ops known (operands_are_fine g ops known.0)
 
   -- those of operands
@@ -178,3 +153,8 @@ mutual
   operands_are_fine g (with e rest) h = both_fine g.functions (nodes_in e) (nodes_in_operands rest)
       (expression_is_fine g e (first_of_both (has_type (type_of g e)) (all_typed (types_of g rest)) h))
       (operands_are_fine g rest (second_of_both (has_type (type_of g e)) (all_typed (types_of g rest)) h))
+
+-- those of an expression whose type passes a test
+pub passing_is_fine : (g : Scope) (e : Expr) (test : ExprType → Bool) → test no_type ≡ false → test (type_of g e) ≡ true
+    → AreFine g.functions (nodes_in e)
+passing_is_fine g e test n h = expression_is_fine g e (typed_by test n (type_of g e) h)

@@ -9,19 +9,19 @@ use Rattle.sl_model.specs.WellTypedTypes.{ExprType, Scope, has_type, is_within, 
 use Rattle.sl_model.specs.WellTypedNodes.{Node, nodes_in_stmt}
 use Rattle.sl_model.specs.WellTypedNumbers.{site_in, loop_in, go_up, are_numbers_of, is_numbered}
 use Rattle.sl_model.specs.WellTyped.{has_numbers, WellTyped}
-use Rattle.sl_model.proofs.TypedLists.{first_of_both, second_of_both, list_all-passes, filter_map-passes}
+use Rattle.sl_model.proofs.TypedLists.{first_of_both, second_of_both, passes_at, given_passes}
 
 -- the sites and the loops of a function of a well typed text are numbered
 numbered : (p : Typed) → WellTyped p → (n : ℕ) (h : Function) → slice_get p.functions n ≡ Some h → is_numbered p h ≡ true
 unfolding has_numbers
-numbered p w n h e = list_all-passes (is_numbered p) p.functions n h w.numbers e
+numbered p w n h e = passes_at (is_numbered p) p.functions n h w.numbers e
 
 -- a number that a node gives is below the count of what is numbered
 below_count : (gives : Node → Option ℕ) (count : ℕ) (nodes : List Node) (i : ℕ) (node : Node) (s : ℕ)
     → are_numbers_of count (filter_map gives nodes) ≡ true → slice_get nodes i ≡ Some node → gives node ≡ Some s → s < count
 below_count gives count nodes i node s h e g =
     let all = second_of_both (go_up (filter_map gives nodes)) (list_all (λ x. nat_lt x count) (filter_map gives nodes)) h in
-    ltb-true s count (filter_map-passes (λ x. nat_lt x count) gives nodes i node s all e g)
+    ltb-true s count (given_passes (λ x. nat_lt x count) gives nodes i node s all e g)
 
 -- a node of a function of a text, by its place among the function's nodes
 pub record IsNode (p : Typed) (node : Node) : Type 0 where

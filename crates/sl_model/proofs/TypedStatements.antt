@@ -20,27 +20,23 @@ use Rattle.sl_model.specs.WellTypedStatements.{is_typed_last, is_typed_declarati
 use Rattle.sl_model.specs.WellTypedStatements.{in_range, is_typed_return, is_typed_stmt, are_typed_stmts, with_parameter, with_parameters}
 use Rattle.sl_model.specs.WellTypedStatements.{no_variables, is_block, is_typed_function}
 use Rattle.sl_model.specs.WellTyped.{has_types, WellTyped}
-use Rattle.sl_model.proofs.TypedLists.{first_of_both, second_of_both, list_all-passes}
-use Rattle.sl_model.proofs.TypedOperands.{typed_by, same_iterators-typed}
-use Rattle.sl_model.proofs.TypedCalls.{is_making-known}
+use Rattle.sl_model.proofs.TypedLists.{first_of_both, second_of_both, passes_at}
+use Rattle.sl_model.proofs.TypedOperands.{typed_by, second_iterator_typed}
+use Rattle.sl_model.proofs.TypedCalls.{making_known}
 use Rattle.sl_model.proofs.TypedNumbers.{IsNode}
-use Rattle.sl_model.proofs.TypedExpressions.{IsFine, AreFine, no_type-goes, and_false, both_fine, called_fine, expression_is_fine, left_is_fine}
-use Rattle.sl_model.proofs.TypedExpressions.{operands_are_fine}
-
--- the nodes of a part are fine where a test of its type is passed
-fine_by : (g : Scope) (e : Expr) (check : ExprType → Bool) → check no_type ≡ false → check (type_of g e) ≡ true → AreFine g.functions (nodes_in e)
-fine_by g e check n h = expression_is_fine g e (typed_by check n (type_of g e) h)
+use Rattle.sl_model.proofs.TypedExpressions.{IsFine, AreFine, no_type_goes, and_false, both_fine, called_fine, expression_is_fine, left_is_fine}
+use Rattle.sl_model.proofs.TypedExpressions.{passing_is_fine, operands_are_fine}
 
 cond_is_fine : (g : Scope) (k : Cond) → is_typed_cond g k ≡ true → AreFine g.functions (nodes_in_cond k)
 cond_is_fine g (read xs) h = tt
 cond_is_fine g (not_read xs) h = tt
-cond_is_fine g (test e) h = fine_by g e is_number refl h
+cond_is_fine g (test e) h = passing_is_fine g e is_number refl h
 cond_is_fine g always h = tt
 
 item_is_fine : (g : Scope) (item : Printed) → is_typed_item g item ≡ true → AreFine g.functions (nodes_in_printed item)
 item_is_fine g (text bytes) h = tt
 item_is_fine g endline h = tt
-item_is_fine g (number e) h = fine_by g e is_number refl h
+item_is_fine g (number e) h = passing_is_fine g e is_number refl h
 
 items_are_fine : (g : Scope) (items : List Printed) → list_all (is_typed_item g) items ≡ true → AreFine g.functions (flat_map nodes_in_printed items)
 items_are_fine g [] h = tt
@@ -49,24 +45,24 @@ items_are_fine g (item ∷ items) h = both_fine g.functions (nodes_in_printed it
     (items_are_fine g items (second_of_both (is_typed_item g item) (list_all (is_typed_item g) items) h))
 
 -- no left side takes what has no type
-no_type-taken : (u : ExprType) → takes u no_type ≡ false
-no_type-taken (scalar_type s) = refl
-no_type-taken (element_type w) = and_false w
-no_type-taken u = refl
+no_type_taken : (u : ExprType) → takes u no_type ≡ false
+no_type_taken (scalar_type s) = refl
+no_type_taken (element_type w) = and_false w
+no_type_taken u = refl
 
 effect_is_fine : (g : Scope) (w : Effect) → is_typed_effect g w ≡ true → AreFine g.functions (nodes_in_effect w)
 effect_is_fine g (reads xs) h = tt
 effect_is_fine g (prints items) h = items_are_fine g items h
-effect_is_fine g (evaluates e) h = fine_by g e may_stand_alone refl (first_of_both (may_stand_alone (type_of g e)) (assigns_others g e) h)
+effect_is_fine g (evaluates e) h = passing_is_fine g e may_stand_alone refl (first_of_both (may_stand_alone (type_of g e)) (assigns_others g e) h)
 effect_is_fine g (assigns l e) h = both_fine g.functions (nodes_in_left l) (nodes_in e)
     (left_is_fine g l (typed_by (λ u. takes u (type_of g e)) refl (type_of_left g l) h))
-    (fine_by g e (takes (type_of_left g l)) (no_type-taken (type_of_left g l)) h)
+    (passing_is_fine g e (takes (type_of_left g l)) (no_type_taken (type_of_left g l)) h)
 effect_is_fine g (updates op s r at l e) h =
     let left = first_of_both (is_written_left g r l) (works_in r s) (first_of_both (is_written_left g r l && works_in r s) (is_scalar s (type_of g e)) h) in
     both_fine g.functions (nodes_in_left l) (nodes_in e)
     (left_is_fine g l (typed_by (is_scalar r) refl (type_of_left g l) (first_of_both (is_scalar r (type_of_left g l)) (is_written (type_of_left g l)) left)))
-    (fine_by g e (is_scalar s) refl (second_of_both (is_written_left g r l && works_in r s) (is_scalar s (type_of g e)) h))
-effect_is_fine g (moves_to x e) h = expression_is_fine g e (same_iterators-typed (variable_type g.iterators x) (type_of g e) h)
+    (passing_is_fine g e (is_scalar s) refl (second_of_both (is_written_left g r l && works_in r s) (is_scalar s (type_of g e)) h))
+effect_is_fine g (moves_to x e) h = expression_is_fine g e (second_iterator_typed (variable_type g.iterators x) (type_of g e) h)
 
 last_is_fine : (g : Scope) (last : Option Effect) → is_typed_last g last ≡ true → AreFine g.functions (nodes_in_last last)
 last_is_fine g None h = tt
@@ -75,12 +71,12 @@ last_is_fine g (Some w) h = effect_is_fine g w h
 declaration_is_fine : (g : Scope) (d : Declaration) → is_typed_declaration g d ≡ true → AreFine g.functions (nodes_in_declaration d)
 unfolding nodes_in_left
 declaration_is_fine g (unset_scalar s) h = (tt, tt)
-declaration_is_fine g (set_scalar s e) h = both_fine g.functions (nodes_in e) _ (fine_by g e (is_scalar s) refl h) (tt, tt)
-declaration_is_fine g (set_iterator e) h = both_fine g.functions (nodes_in e) _ (fine_by g e is_iterator refl h) (tt, tt)
+declaration_is_fine g (set_scalar s e) h = both_fine g.functions (nodes_in e) _ (passing_is_fine g e (is_scalar s) refl h) (tt, tt)
+declaration_is_fine g (set_iterator e) h = both_fine g.functions (nodes_in e) _ (passing_is_fine g e is_iterator refl h) (tt, tt)
 declaration_is_fine g (binds_reference c ops) h =
     let fine = left_is_fine g (element c ops) h in (fine.0, both_fine g.functions (nodes_in_operands ops) _ fine.1 (tt, tt))
 declaration_is_fine g (makes form c ops) h =
-    let known = is_making-known form c.callee c.object (types_of g ops) h in
+    let known = making_known form c.callee c.object (types_of g ops) h in
     let fine = called_fine g c ops known (operands_are_fine g ops known.0) in
     (fine.0, both_fine g.functions (nodes_in_operands ops) _ fine.1 (tt, tt))
 
@@ -95,32 +91,32 @@ return_is_fine : (g : Scope) (k : Option ParameterKind) (value : Option Expr) �
     → AreFine g.functions (nodes_in_value value)
 return_is_fine g k None h = tt
 return_is_fine g None (Some e) h = absurd cc
-return_is_fine g (Some k) (Some e) h = fine_by g e (goes_to k) (no_type-goes k) h
+return_is_fine g (Some k) (Some e) h = passing_is_fine g e (goes_to k) (no_type_goes k) h
 
 -- the functions of a text stay known
-functions-behind : (d : Declaration) (g : Scope) → (behind d g).functions ≡ g.functions
-functions-behind (unset_scalar s) g = refl
-functions-behind (set_scalar s e) g = refl
-functions-behind (set_iterator e) g = refl
-functions-behind (binds_reference c ops) g = refl
-functions-behind (makes form c ops) g = refl
+functions_behind : (d : Declaration) (g : Scope) → (behind d g).functions ≡ g.functions
+functions_behind (unset_scalar s) g = refl
+functions_behind (set_scalar s e) g = refl
+functions_behind (set_iterator e) g = refl
+functions_behind (binds_reference c ops) g = refl
+functions_behind (makes form c ops) g = refl
 
-functions-behind_first : (head : First) (g : Scope) → (behind_first head g).functions ≡ g.functions
-functions-behind_first no_first g = refl
-functions-behind_first (declares_first d) g = functions-behind d g
-functions-behind_first (does_first w) g = refl
+functions_behind_first : (head : First) (g : Scope) → (behind_first head g).functions ≡ g.functions
+functions_behind_first no_first g = refl
+functions_behind_first (declares_first d) g = functions_behind d g
+functions_behind_first (does_first w) g = refl
 
-functions-in_range : (how : Taken) (u : ExprType) (g : Scope) → (in_range how u g).functions ≡ g.functions
-functions-in_range taken.Value (container_type access x) g = refl
-functions-in_range taken.Reference (container_type access x) g = refl
-functions-in_range how u g = refl
+functions_in_range : (how : Taken) (u : ExprType) (g : Scope) → (in_range how u g).functions ≡ g.functions
+functions_in_range taken.Value (container_type access x) g = refl
+functions_in_range taken.Reference (container_type access x) g = refl
+functions_in_range how u g = refl
 
-functions-with_parameters : (ks : List ParameterKind) (g : Scope) → (with_parameters ks g).functions ≡ g.functions
-functions-with_parameters [] g = refl
-functions-with_parameters (parameters.Value s ∷ ks) g = functions-with_parameters ks (with_parameter (parameters.Value s) g)
-functions-with_parameters (parameters.Reference s ∷ ks) g = functions-with_parameters ks (with_parameter (parameters.Reference s) g)
-functions-with_parameters (parameters.Container access x ∷ ks) g = functions-with_parameters ks (with_parameter (parameters.Container access x) g)
-functions-with_parameters (parameters.Iterator b x ∷ ks) g = functions-with_parameters ks (with_parameter (parameters.Iterator b x) g)
+functions_with_parameters : (ks : List ParameterKind) (g : Scope) → (with_parameters ks g).functions ≡ g.functions
+functions_with_parameters [] g = refl
+functions_with_parameters (parameters.Value s ∷ ks) g = functions_with_parameters ks (with_parameter (parameters.Value s) g)
+functions_with_parameters (parameters.Reference s ∷ ks) g = functions_with_parameters ks (with_parameter (parameters.Reference s) g)
+functions_with_parameters (parameters.Container access x ∷ ks) g = functions_with_parameters ks (with_parameter (parameters.Container access x) g)
+functions_with_parameters (parameters.Iterator b x ∷ ks) g = functions_with_parameters ks (with_parameter (parameters.Iterator b x) g)
 
 -- what is fine in one scope is so in one that knows the same functions
 fine_in : (g : Scope) (fs : List Function) (nodes : List Node) → g.functions ≡ fs → AreFine g.functions nodes → AreFine fs nodes
@@ -165,7 +161,7 @@ mutual
         (statement_is_fine g k true b (second_of_both (is_typed_cond g condition) (is_typed_stmt g k true b) h)),
   )
   statement_is_fine g k inside (for n head condition last b) h =
-      let r = behind_first head g in let known = functions-behind_first head g in
+      let r = behind_first head g in let known = functions_behind_first head g in
       let parts = for_parts (is_typed_first g head) (is_within r) (is_typed_cond r condition) (is_typed_last r last) (is_typed_stmt r k true b) h in (
         tt,
         both_fine g.functions (nodes_in_first head) (nodes_in_cond condition ++ (nodes_in_last last ++ nodes_in_stmt b))
@@ -175,7 +171,7 @@ mutual
             (both_fine r.functions (nodes_in_last last) (nodes_in_stmt b) (last_is_fine r last parts.2) (statement_is_fine r k true b parts.3)))),
       )
   statement_is_fine g k inside (range_for n how x at name b) h =
-      let u = variable_type g.containers x in let r = in_range how u g in let known = functions-in_range how u g in
+      let u = variable_type g.containers x in let r = in_range how u g in let known = functions_in_range how u g in
       let parts = outer_parts (may_go_over how u) (is_within r) (is_typed_stmt r k true b) h in
       (tt, (tt, (tt, fine_in r g.functions (nodes_in_stmt b) known (statement_is_fine r k true b parts.1))))
   statement_is_fine g k inside break h = tt
@@ -188,7 +184,7 @@ mutual
       → AreFine g.functions (nodes_in_stmts all)
   statements_are_fine g k inside no_more h = tt
   statements_are_fine g k inside (followed (declares d) rest) h =
-      let r = behind d g in let known = functions-behind d g in
+      let r = behind d g in let known = functions_behind d g in
       let parts = outer_parts (is_typed_declaration g d) (is_within r) (are_typed_stmts r k inside rest) h in
       both_fine g.functions (nodes_in_declaration d) (nodes_in_stmts rest) (declaration_is_fine g d parts.0)
       (fine_in r g.functions (nodes_in_stmts rest) known (statements_are_fine r k inside rest parts.1))
@@ -207,13 +203,13 @@ function_is_fine : (p : Typed) (f : Function) → is_typed_function p f ≡ true
 function_is_fine p f h =
     let g = with_parameters f.parameters (no_variables p) in
     let typed = second_of_both (is_block f.body && has_type (type_given f.result) && is_within g) (is_typed_stmt g f.result false f.body) h in
-    fine_in g p.functions (nodes_in_stmt f.body) (functions-with_parameters f.parameters (no_variables p))
+    fine_in g p.functions (nodes_in_stmt f.body) (functions_with_parameters f.parameters (no_variables p))
     (statement_is_fine g f.result false f.body typed)
 
 -- each function of a well typed text is typed
 function_is_typed : (p : Typed) → WellTyped p → (n : ℕ) (f : Function) → slice_get p.functions n ≡ Some f → is_typed_function p f ≡ true
 unfolding has_types
-function_is_typed p w n f e = list_all-passes (is_typed_function p) p.functions n f w.types e
+function_is_typed p w n f e = passes_at (is_typed_function p) p.functions n f w.types e
 
 -- in a well typed text each call is of a row or a function that is there, and has as many operands as that takes
 pub node_is_fine : (p : Typed) → WellTyped p → (node : Node) → IsNode p node → IsFine p.functions node
