@@ -50,3 +50,5 @@ pub mod TypedCalls
 pub mod TypedParts
 pub mod TypedExpressions
 pub mod TypedStatements
+pub mod TypedVariables
+pub mod TypedUses

@@ -34,7 +34,7 @@ two_typed b x test n c u w h =
     both_true (has_type u) true (typed_by test n u (second_of_both c (test u) (only_holds (c && test u) w h))) refl
 
 -- the first of two iterators of one type has a type
-first_iterator_typed : (u v : ExprType) → same_iterators u v ≡ true → has_type u ≡ true
+pub first_iterator_typed : (u v : ExprType) → same_iterators u v ≡ true → has_type u ≡ true
 first_iterator_typed no_type v h = absurd cc
 first_iterator_typed u v h = refl
 

@@ -67,7 +67,7 @@ going_known (k ∷ ks) (u ∷ us) h =
       omega (arith, count),
     )
 
-function_known : (fs : List Function) (number : ℕ) (b : Bool) (found : Option Function) (us : List ExprType) → slice_get fs number ≡ found
+pub function_known : (fs : List Function) (number : ℕ) (b : Bool) (found : Option Function) (us : List ExprType) → slice_get fs number ≡ found
     → has_type (function_type b found us) ≡ true → (all_typed us ≡ true) × IsOwn fs number (length us)
 function_known fs number b None us e h = absurd cc
 function_known fs number b (Some f) us e h =
@@ -79,10 +79,10 @@ pub and_false : (b : Bool) → (b && false) ≡ false
 and_false true = refl
 and_false false = refl
 
-comparable_first : (u v : ExprType) → are_comparable u v ≡ true → has_type u ≡ true
+pub comparable_first : (u v : ExprType) → are_comparable u v ≡ true → has_type u ≡ true
 comparable_first u v h = typed_by (λ w. are_comparable w v) refl u h
 
-comparable_second : (u v : ExprType) → are_comparable u v ≡ true → has_type v ≡ true
+pub comparable_second : (u v : ExprType) → are_comparable u v ≡ true → has_type v ≡ true
 comparable_second u v h =
     typed_by (are_comparable u) (rw (and_false (is_scalar t.Int u), and_false (is_scalar t.Size u), and_false (is_scalar t.Diff u)) refl) v h
 

@@ -45,7 +45,7 @@ items_are_fine g (item ∷ items) h = both_fine g.functions (nodes_in_printed it
     (items_are_fine g items (second_of_both (is_typed_item g item) (list_all (is_typed_item g) items) h))
 
 -- no left side takes what has no type
-no_type_taken : (u : ExprType) → takes u no_type ≡ false
+pub no_type_taken : (u : ExprType) → takes u no_type ≡ false
 no_type_taken (scalar_type s) = refl
 no_type_taken (element_type w) = and_false w
 no_type_taken u = refl
@@ -207,7 +207,7 @@ function_is_fine p f h =
     (statement_is_fine g f.result false f.body typed)
 
 -- each function of a well typed text is typed
-function_is_typed : (p : Typed) → WellTyped p → (n : ℕ) (f : Function) → slice_get p.functions n ≡ Some f → is_typed_function p f ≡ true
+pub function_is_typed : (p : Typed) → WellTyped p → (n : ℕ) (f : Function) → slice_get p.functions n ≡ Some f → is_typed_function p f ≡ true
 unfolding has_types
 function_is_typed p w n f e = passes_at (is_typed_function p) p.functions n f w.types e
 
