@@ -99,6 +99,7 @@ called_fine g c ops known fine = (subst (IsThere c.callee) (length-types_of g op
 -- the nodes of an expression that has a type are fine
 mutual
   unfolding nodes_in nodes_in_left nodes_in_operands types_of
+
   pub expression_is_fine : (g : Scope) (e : Expr) → has_type (type_of g e) ≡ true → AreFine g.functions (nodes_in e)
   expression_is_fine g (literal s z) h = (tt, tt)
   expression_is_fine g (held l) h = left_is_fine g l (held_typed g l h)
@@ -113,13 +114,17 @@ mutual
       let parts = numbers_of_or g at d e h in
       both_fine g.functions (nodes_in d) (nodes_in e) (expression_is_fine g d (typed_by is_number refl (type_of g d) parts.0)) (expression_is_fine g e (typed_by is_number refl (type_of g e) parts.1))
   expression_is_fine g (arithmetic op s at d e) h =
-      let parts = calculated_numbers g op s at d e h in
-      (tt, both_fine g.functions (nodes_in d) (nodes_in e) (expression_is_fine g d (typed_by (is_scalar s) refl (type_of g d) parts.1))
-        (expression_is_fine g e (typed_by (is_scalar s) refl (type_of g e) parts.2)))
+      let parts = calculated_numbers g op s at d e h in (
+        tt,
+        both_fine g.functions (nodes_in d) (nodes_in e) (expression_is_fine g d (typed_by (is_scalar s) refl (type_of g d) parts.1))
+            (expression_is_fine g e (typed_by (is_scalar s) refl (type_of g e) parts.2)),
+      )
   expression_is_fine g (comparison op at d e) h =
-      let alike = compared_numbers g op at d e h in
-      (tt, both_fine g.functions (nodes_in d) (nodes_in e) (expression_is_fine g d (comparable_first (type_of g d) (type_of g e) alike))
-        (expression_is_fine g e (comparable_second (type_of g d) (type_of g e) alike)))
+      let alike = compared_numbers g op at d e h in (
+        tt,
+        both_fine g.functions (nodes_in d) (nodes_in e) (expression_is_fine g d (comparable_first (type_of g d) (type_of g e) alike))
+            (expression_is_fine g e (comparable_second (type_of g d) (type_of g e) alike)),
+      )
   expression_is_fine g (increment step fix s at l) h =
       let parts = stepped_number g step fix s at l h in (tt, left_is_fine g l (typed_by (is_scalar s) refl (type_of_left g l) parts.1))
   expression_is_fine g (move fix x c ops) h =

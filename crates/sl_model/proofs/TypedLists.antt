@@ -1,8 +1,9 @@
 -- Lists of which all pass a test, and what is found in them.
-use Rattle.std.proofs.Common.{◌≡◌, ℕ, zero, suc, Bool, true, false, ◌&&◌, ◌||◌, List, [], ◌∷◌, Option, Some, None, sym, subst}
-use Rattle.std.specs.Prelude.{slice_get, filter_map}
+use Rattle.std.proofs.Common.{◌≡◌, ℕ, zero, suc, Bool, true, false, ◌&&◌, ◌||◌, List, [], ◌∷◌, ◌++◌, Option, Some, None, sym, subst, ◌∙◌}
+use Rattle.std.specs.Prelude.{slice_get, filter_map, flat_map}
 use Rattle.std.specs.List.{cons_option}
 use Rattle.std.specs.List.{list_all}
+use Rattle.std.proofs.lemmas.List.Folds.{list_all-append}
 
 -- the first and the second of two answers that are both true
 pub first_of_both : (a b : Bool) → (a && b) ≡ true → a ≡ true
@@ -13,6 +14,22 @@ pub second_of_both : (a b : Bool) → (a && b) ≡ true → b ≡ true
 second_of_both true b h = h
 second_of_both false b h = absurd cc
 
+-- each of three answers that are all true, and of five
+pub three_parts : (a b c : Bool) → (a && b && c) ≡ true → (a ≡ true) × (b ≡ true) × (c ≡ true)
+three_parts a b c h =
+    let two = first_of_both (a && b) c h in (first_of_both a b two, second_of_both a b two, second_of_both (a && b) c h)
+
+pub five_parts : (a b c d e : Bool) → (a && b && c && d && e) ≡ true → (a ≡ true) × (b ≡ true) × (c ≡ true) × (d ≡ true) × (e ≡ true)
+five_parts a b c d e h =
+    let four = first_of_both (a && b && c && d) e h in let three = first_of_both (a && b && c) d four in let two = first_of_both (a && b) c three in (
+      first_of_both a b two,
+      second_of_both a b two,
+      second_of_both (a && b) c three,
+      second_of_both (a && b && c) d four,
+      second_of_both (a && b && c && d) e h,
+    )
+
+-- two answers that are both true
 pub both_true : (a b : Bool) → a ≡ true → b ≡ true → (a && b) ≡ true
 both_true true b h k = k
 both_true false b h k = absurd cc
@@ -53,3 +70,19 @@ given_passes test gives (z ∷ zs) zero x y h e g =
     first_put_passes test (gives z) y (filter_map gives zs) h (subst (λ w. gives w ≡ Some y) (sym same) g)
 given_passes test gives (z ∷ zs) (suc i) x y h e g =
     given_passes test gives zs i x y (rest_put_passes test (gives z) (filter_map gives zs) h) e g
+
+-- a test that all of two lists pass is passed by all of each
+both_lists : {Y : Type 0} (test : Y → Bool) (ys zs : List Y) → list_all test (ys ++ zs) ≡ true → (list_all test ys && list_all test zs) ≡ true
+both_lists test ys zs h = sym (list_all-append test ys zs) ∙ h
+
+-- what is in a list that one of another list gives passes the test that all pass that any of these gives
+pub flat_map_passes : {X Y : Type 0} (test : Y → Bool) (gives : X → List Y) (xs : List X) (n : ℕ) (x : X) (i : ℕ) (y : Y)
+    → list_all test (flat_map gives xs) ≡ true → slice_get xs n ≡ Some x → slice_get (gives x) i ≡ Some y → test y ≡ true
+flat_map_passes test gives [] n x i y h e g = absurd cc
+flat_map_passes test gives (z ∷ zs) zero x i y h e g =
+    let same : z ≡ x = cc in
+    let own = first_of_both (list_all test (gives z)) (list_all test (flat_map gives zs)) (both_lists test (gives z) (flat_map gives zs) h) in
+    passes_at test (gives x) i y (subst (λ w. list_all test (gives w) ≡ true) same own) g
+flat_map_passes test gives (z ∷ zs) (suc n) x i y h e g =
+    let others = second_of_both (list_all test (gives z)) (list_all test (flat_map gives zs)) (both_lists test (gives z) (flat_map gives zs) h) in
+    flat_map_passes test gives zs n x i y others e g

@@ -1,15 +1,17 @@
 -- What a well typed text numbers is there, and within the limits.
-use Rattle.std.proofs.Common.{◌≡◌, ℕ, zero, suc, ◌<◌, ◌≤◌, true, ◌&&◌, List, [], ◌∷◌, length, Option, Some, arith}
+use Rattle.std.proofs.Common.{◌≡◌, ℕ, Bool, zero, suc, ◌<◌, ◌≤◌, true, ◌&&◌, List, [], ◌∷◌, length, Option, Some, arith}
 use Rattle.std.specs.Prelude.{nat_le, nat_lt, slice_get, filter_map}
 use Rattle.std.specs.List.{list_all}
 use Rattle.std.proofs.lemmas.Bool.{leb-true, ltb-true}
 use Rattle.sl_base.specs.declared.limits.TheConstants.{CONTAINERS, FUNCTIONS, ITERATORS, SCALARS, SITES}
 use Rattle.sl_syntax.specs.Typed.{Function, Typed}
 use Rattle.sl_model.specs.WellTypedTypes.{ExprType, Scope, has_type, is_within, variable_type}
-use Rattle.sl_model.specs.WellTypedNodes.{Node, nodes_in_stmt}
+use Rattle.sl_model.specs.WellTypedNodes.{Node, nodes_in_stmt, nodes_of}
 use Rattle.sl_model.specs.WellTypedNumbers.{site_in, loop_in, go_up, are_numbers_of, is_numbered}
-use Rattle.sl_model.specs.WellTyped.{has_numbers, WellTyped}
-use Rattle.sl_model.proofs.TypedLists.{first_of_both, second_of_both, passes_at, given_passes}
+use Rattle.sl_model.specs.WellTypedNumbers.{has_due_site, tells_names}
+use Rattle.sl_model.specs.WellTypedOrder.{binds_apart, is_ordered}
+use Rattle.sl_model.specs.WellTyped.{has_numbers, has_sites, has_no_alias, has_order, has_names, WellTyped}
+use Rattle.sl_model.proofs.TypedLists.{first_of_both, second_of_both, passes_at, given_passes, flat_map_passes}
 
 -- the sites and the loops of a function of a well typed text are numbered
 numbered : (p : Typed) → WellTyped p → (n : ℕ) (h : Function) → slice_get p.functions n ≡ Some h → is_numbered p h ≡ true
@@ -30,6 +32,31 @@ pub record IsNode (p : Typed) (node : Node) : Type 0 where
   pub function_there : slice_get p.functions number ≡ Some function
   pub place : ℕ
   pub there : slice_get (nodes_in_stmt function.body) place ≡ Some node
+
+-- what all nodes of a text pass is passed by each
+passes_in : (p : Typed) (node : Node) → IsNode p node → (test : Node → Bool) → list_all test (nodes_of p) ≡ true → test node ≡ true
+passes_in p node at test h =
+    flat_map_passes test (λ (f : Function). nodes_in_stmt f.body) p.functions at.number at.function at.place node h at.function_there at.there
+
+-- a call or a brace is a site exactly where it can invalidate
+pub site_is_due : (p : Typed) → WellTyped p → (node : Node) → IsNode p node → has_due_site node ≡ true
+unfolding has_sites
+site_is_due p w node at = passes_in p node at has_due_site w.sites
+
+-- a call of a function binds no variable twice
+pub node_binds_apart : (p : Typed) → WellTyped p → (node : Node) → IsNode p node → binds_apart node ≡ true
+unfolding has_no_alias
+node_binds_apart p w node at = passes_in p node at binds_apart w.no_alias
+
+-- at a node no open order of effects matters
+pub node_is_ordered : (p : Typed) → WellTyped p → (node : Node) → IsNode p node → is_ordered p.functions node ≡ true
+unfolding has_order
+node_is_ordered p w node at = passes_in p node at (is_ordered p.functions) w.order
+
+-- the names that a node tells are names of the text
+pub names_are_there : (p : Typed) → WellTyped p → (node : Node) → IsNode p node → tells_names (length p.names) node ≡ true
+unfolding has_names
+names_are_there p w node at = passes_in p node at (tells_names (length p.names)) w.names
 
 -- a site that a node names is one of the text
 pub site_is_there : (p : Typed) → WellTyped p → (node : Node) → IsNode p node → (s : ℕ) → site_in node ≡ Some s → s < length p.sites

@@ -72,8 +72,7 @@ pub calculated_numbers : (g : Scope) (op : Arithmetic) (s : Scalar) (at : Place)
 unfolding type_of
 calculated_numbers g op s at d e h =
     let all = only_holds (is_arithmetic s && is_scalar s (type_of g d) && is_scalar s (type_of g e)) (scalar_type s) h in
-    let both = first_of_both (is_arithmetic s && is_scalar s (type_of g d)) (is_scalar s (type_of g e)) all in
-    (
+    let both = first_of_both (is_arithmetic s && is_scalar s (type_of g d)) (is_scalar s (type_of g e)) all in (
       first_of_both (is_arithmetic s) (is_scalar s (type_of g d)) both,
       second_of_both (is_arithmetic s) (is_scalar s (type_of g d)) both,
       second_of_both (is_arithmetic s && is_scalar s (type_of g d)) (is_scalar s (type_of g e)) all,
@@ -92,8 +91,7 @@ unfolding type_of
 stepped_number g step fix s at l h =
     let u = type_of_left g l in
     let all = only_holds (is_arithmetic s && is_scalar s u && is_written u) (scalar_type s) h in
-    let both = first_of_both (is_arithmetic s && is_scalar s u) (is_written u) all in
-    (
+    let both = first_of_both (is_arithmetic s && is_scalar s u) (is_written u) all in (
       first_of_both (is_arithmetic s) (is_scalar s u) both,
       second_of_both (is_arithmetic s) (is_scalar s u) both,
       second_of_both (is_arithmetic s && is_scalar s u) (is_written u) all,
@@ -112,8 +110,7 @@ pub value_call : (g : Scope) (c : Head) (ops : Operands) → has_type (type_of g
     → (not (is_moving c.callee) ≡ true) × (has_type (call_type g c.callee c.object (types_of g ops)) ≡ true)
 unfolding type_of
 value_call g c ops h =
-    let u = call_type g c.callee c.object (types_of g ops) in
-    (
+    let u = call_type g c.callee c.object (types_of g ops) in (
       only_holds (not (is_moving c.callee)) (only_value u) h,
       typed_by (λ w. has_type (only_value w)) refl u (only_rest (not (is_moving c.callee)) (only_value u) h),
     )

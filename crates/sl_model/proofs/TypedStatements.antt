@@ -20,7 +20,7 @@ use Rattle.sl_model.specs.WellTypedStatements.{is_typed_last, is_typed_declarati
 use Rattle.sl_model.specs.WellTypedStatements.{in_range, is_typed_return, is_typed_stmt, are_typed_stmts, with_parameter, with_parameters}
 use Rattle.sl_model.specs.WellTypedStatements.{no_variables, is_block, is_typed_function}
 use Rattle.sl_model.specs.WellTyped.{has_types, WellTyped}
-use Rattle.sl_model.proofs.TypedLists.{first_of_both, second_of_both, passes_at}
+use Rattle.sl_model.proofs.TypedLists.{first_of_both, second_of_both, three_parts, five_parts, passes_at}
 use Rattle.sl_model.proofs.TypedOperands.{typed_by, second_iterator_typed}
 use Rattle.sl_model.proofs.TypedCalls.{making_known}
 use Rattle.sl_model.proofs.TypedNumbers.{IsNode}
@@ -122,19 +122,6 @@ functions_with_parameters (parameters.Iterator b x ∷ ks) g = functions_with_pa
 fine_in : (g : Scope) (fs : List Function) (nodes : List Node) → g.functions ≡ fs → AreFine g.functions nodes → AreFine fs nodes
 fine_in g fs nodes e h = subst (λ (gs : List Function). AreFine gs nodes) e h
 
--- what holds of the five parts of a `for`, and of the three of a range-for or of a declaration with what follows it
-for_parts : (a b c d e : Bool) → (a && b && c && d && e) ≡ true → (a ≡ true) × (c ≡ true) × (d ≡ true) × (e ≡ true)
-for_parts a b c d e h =
-    let four = first_of_both (a && b && c && d) e h in let three = first_of_both (a && b && c) d four in (
-      first_of_both a b (first_of_both (a && b) c three),
-      second_of_both (a && b) c three,
-      second_of_both (a && b && c) d four,
-      second_of_both (a && b && c && d) e h,
-    )
-
-outer_parts : (a b c : Bool) → (a && b && c) ≡ true → (a ≡ true) × (c ≡ true)
-outer_parts a b c h = (first_of_both a b (first_of_both (a && b) c h), second_of_both (a && b) c h)
-
 mutual
   unfolding is_typed_stmt are_typed_stmts nodes_in_stmt nodes_in_stmts
 
@@ -162,18 +149,18 @@ mutual
   )
   statement_is_fine g k inside (for n head condition last b) h =
       let r = behind_first head g in let known = functions_behind_first head g in
-      let parts = for_parts (is_typed_first g head) (is_within r) (is_typed_cond r condition) (is_typed_last r last) (is_typed_stmt r k true b) h in (
+      let parts = five_parts (is_typed_first g head) (is_within r) (is_typed_cond r condition) (is_typed_last r last) (is_typed_stmt r k true b) h in (
         tt,
         both_fine g.functions (nodes_in_first head) (nodes_in_cond condition ++ (nodes_in_last last ++ nodes_in_stmt b))
             (first_is_fine g head parts.0)
             (fine_in r g.functions (nodes_in_cond condition ++ (nodes_in_last last ++ nodes_in_stmt b)) known
-            (both_fine r.functions (nodes_in_cond condition) (nodes_in_last last ++ nodes_in_stmt b) (cond_is_fine r condition parts.1)
-            (both_fine r.functions (nodes_in_last last) (nodes_in_stmt b) (last_is_fine r last parts.2) (statement_is_fine r k true b parts.3)))),
+            (both_fine r.functions (nodes_in_cond condition) (nodes_in_last last ++ nodes_in_stmt b) (cond_is_fine r condition parts.2)
+            (both_fine r.functions (nodes_in_last last) (nodes_in_stmt b) (last_is_fine r last parts.3) (statement_is_fine r k true b parts.4)))),
       )
   statement_is_fine g k inside (range_for n how x at name b) h =
       let u = variable_type g.containers x in let r = in_range how u g in let known = functions_in_range how u g in
-      let parts = outer_parts (may_go_over how u) (is_within r) (is_typed_stmt r k true b) h in
-      (tt, (tt, (tt, fine_in r g.functions (nodes_in_stmt b) known (statement_is_fine r k true b parts.1))))
+      let parts = three_parts (may_go_over how u) (is_within r) (is_typed_stmt r k true b) h in
+      (tt, (tt, (tt, fine_in r g.functions (nodes_in_stmt b) known (statement_is_fine r k true b parts.2))))
   statement_is_fine g k inside break h = tt
   statement_is_fine g k inside continue h = tt
   statement_is_fine g k inside (gives_back value) h = return_is_fine g k value h
@@ -185,9 +172,9 @@ mutual
   statements_are_fine g k inside no_more h = tt
   statements_are_fine g k inside (followed (declares d) rest) h =
       let r = behind d g in let known = functions_behind d g in
-      let parts = outer_parts (is_typed_declaration g d) (is_within r) (are_typed_stmts r k inside rest) h in
+      let parts = three_parts (is_typed_declaration g d) (is_within r) (are_typed_stmts r k inside rest) h in
       both_fine g.functions (nodes_in_declaration d) (nodes_in_stmts rest) (declaration_is_fine g d parts.0)
-      (fine_in r g.functions (nodes_in_stmts rest) known (statements_are_fine r k inside rest parts.1))
+      (fine_in r g.functions (nodes_in_stmts rest) known (statements_are_fine r k inside rest parts.2))
   statements_are_fine g k inside (followed b rest) h = both_fine g.functions (nodes_in_stmt b) (nodes_in_stmts rest)
       (statement_is_fine g k inside b (first_of_both (is_typed_stmt g k inside b) (are_typed_stmts g k inside rest) h))
       (statements_are_fine g k inside rest (second_of_both (is_typed_stmt g k inside b) (are_typed_stmts g k inside rest) h))

@@ -1,26 +1,25 @@
 -- In a well typed text each variable that is used has a number below the limit of its sort.
-use Rattle.std.proofs.Common.{◌≡◌, ℕ, ◌<◌, Bool, true, false, ◌&&◌, List, [], ◌∷◌, ◌++◌, map, Option, Some, None, refl}
-use Rattle.std.specs.Prelude.{slice_get, flat_map}
+use Rattle.std.proofs.Common.{◌≡◌, ℕ, Bool, true, false, ◌&&◌, List, [], ◌∷◌, ◌++◌, Option, Some, None, refl}
+use Rattle.std.specs.Prelude.{slice_get}
 use Rattle.std.specs.List.{list_all}
 use Rattle.sl_base.specs.declared.scalar.Scalar.TheVariants as t
-use Rattle.sl_syntax.specs.declared.operator.Access.TheVariants as a
 use Rattle.sl_syntax.specs.declared.typed.element.Taken.{Taken}
 use Rattle.sl_syntax.specs.declared.typed.element.Taken.TheVariants as taken
 use Rattle.sl_syntax.specs.declared.typed.parameter.ParameterKind.{ParameterKind}
-use Rattle.sl_syntax.specs.Typed.{Expr, Left, element, Operands, Cond, read, not_read, test, always, Printed, text, endline, number, Effect, reads}
+use Rattle.sl_syntax.specs.Typed.{Expr, element, Cond, read, not_read, test, always, Printed, number, Effect, reads}
 use Rattle.sl_syntax.specs.Typed.{prints, evaluates, assigns, updates, moves_to, Declaration, unset_scalar, set_scalar, set_iterator, binds_reference}
 use Rattle.sl_syntax.specs.Typed.{makes, First, no_first, declares_first, does_first, Stmt, block, declares, choice, choice_else, while, for}
 use Rattle.sl_syntax.specs.Typed.{range_for, break, continue, gives_back, does, Stmts, no_more, followed, Function, Typed}
 use Rattle.sl_model.specs.WellTypedTypes.{ExprType, no_type, Scope, is_within, variable_type, has_type, is_scalar, is_number, is_written, works_in}
-use Rattle.sl_model.specs.WellTypedTypes.{is_iterator, same_iterators}
+use Rattle.sl_model.specs.WellTypedTypes.{is_iterator}
 use Rattle.sl_model.specs.WellTypedExpressions.{goes_to, type_given, type_of, type_of_left, types_of}
-use Rattle.sl_model.specs.WellTypedOrder.{Variable, the_scalar, the_container, the_iterator, object_in}
+use Rattle.sl_model.specs.WellTypedOrder.{Variable, the_scalar, the_container, the_iterator}
 use Rattle.sl_model.specs.WellTypedStatements.{assigns_others, may_stand_alone, is_written_left, takes, are_ints, is_typed_cond, is_typed_item}
 use Rattle.sl_model.specs.WellTypedStatements.{is_typed_effect, is_typed_last, is_typed_declaration, behind, is_typed_first, behind_first}
 use Rattle.sl_model.specs.WellTypedStatements.{may_go_over, in_range, is_typed_return, is_typed_stmt, are_typed_stmts, with_parameters, no_variables}
-use Rattle.sl_model.specs.WellTypedStatements.{is_block, is_typed_function}
+use Rattle.sl_model.specs.WellTypedStatements.{is_block}
 use Rattle.sl_model.specs.WellTyped.{WellTyped}
-use Rattle.sl_model.proofs.TypedLists.{first_of_both, second_of_both}
+use Rattle.sl_model.proofs.TypedLists.{first_of_both, second_of_both, three_parts, five_parts}
 use Rattle.sl_model.proofs.TypedOperands.{typed_by, second_iterator_typed}
 use Rattle.sl_model.proofs.TypedCalls.{making_known, first_iterator_typed}
 use Rattle.sl_model.proofs.TypedNumbers.{scalar_is_below, container_is_below, iterator_is_below}
@@ -102,8 +101,7 @@ passing_below g e check n w h = expression_below g e w (typed_by check n (type_o
 read_below : (g : Scope) (xs : List ℕ) → is_within g ≡ true → are_ints g xs ≡ true → AreBelow (uses_in_read xs)
 read_below g [] w h = tt
 read_below g (x ∷ xs) w h =
-    let one = first_of_both (is_scalar t.Int (variable_type g.scalars x)) (are_ints g xs) h in
-    (
+    let one = first_of_both (is_scalar t.Int (variable_type g.scalars x)) (are_ints g xs) h in (
       scalar_is_below g x w (typed_by (is_scalar t.Int) refl (variable_type g.scalars x) one),
       read_below g xs w (second_of_both (is_scalar t.Int (variable_type g.scalars x)) (are_ints g xs) h),
     )
@@ -133,11 +131,10 @@ effect_below g (updates op s r at l e) w h =
     both_below (uses_in_left l) (uses_in e)
     (left_below g l w (typed_by (is_scalar r) refl (type_of_left g l) (first_of_both (is_scalar r (type_of_left g l)) (is_written (type_of_left g l)) left)))
     (passing_below g e (is_scalar s) refl w (second_of_both (is_written_left g r l && works_in r s) (is_scalar s (type_of g e)) h))
-effect_below g (moves_to x e) w h =
-    (
-      iterator_is_below g x w (first_iterator_typed (variable_type g.iterators x) (type_of g e) h),
-      expression_below g e w (second_iterator_typed (variable_type g.iterators x) (type_of g e) h),
-    )
+effect_below g (moves_to x e) w h = (
+  iterator_is_below g x w (first_iterator_typed (variable_type g.iterators x) (type_of g e) h),
+  expression_below g e w (second_iterator_typed (variable_type g.iterators x) (type_of g e) h),
+)
 
 last_below : (g : Scope) (last : Option Effect) → is_within g ≡ true → is_typed_last g last ≡ true → AreBelow (uses_in_last last)
 last_below g None w h = tt
@@ -169,19 +166,9 @@ nothing_gone_over : (how : Taken) → may_go_over how no_type ≡ false
 nothing_gone_over taken.Value = refl
 nothing_gone_over taken.Reference = refl
 
--- the parts of a `for` and of what begins with a declaration
-for_parts : (a b c d e : Bool) → (a && b && c && d && e) ≡ true → (a ≡ true) × (b ≡ true) × (c ≡ true) × (d ≡ true) × (e ≡ true)
-for_parts a b c d e h =
-    let four = first_of_both (a && b && c && d) e h in let three = first_of_both (a && b && c) d four in let two = first_of_both (a && b) c three in
-    (first_of_both a b two, second_of_both a b two, second_of_both (a && b) c three, second_of_both (a && b && c) d four,
-      second_of_both (a && b && c && d) e h)
-
-three_parts : (a b c : Bool) → (a && b && c) ≡ true → (a ≡ true) × (b ≡ true) × (c ≡ true)
-three_parts a b c h =
-    let two = first_of_both (a && b) c h in (first_of_both a b two, second_of_both a b two, second_of_both (a && b) c h)
-
 mutual
   unfolding is_typed_stmt are_typed_stmts
+
   -- the variables that a typed statement uses are below the limits
   statement_below : (g : Scope) (k : Option ParameterKind) (inside : Bool) (b : Stmt) → is_within g ≡ true → is_typed_stmt g k inside b ≡ true
       → AreBelow (uses_in_stmt b)
@@ -199,14 +186,13 @@ mutual
       (statement_below g k true b w (second_of_both (is_typed_cond g condition) (is_typed_stmt g k true b) h))
   statement_below g k inside (for n head condition last b) w h =
       let r = behind_first head g in
-      let parts = for_parts (is_typed_first g head) (is_within r) (is_typed_cond r condition) (is_typed_last r last) (is_typed_stmt r k true b) h in
+      let parts = five_parts (is_typed_first g head) (is_within r) (is_typed_cond r condition) (is_typed_last r last) (is_typed_stmt r k true b) h in
       both_below (uses_in_first head) (uses_in_cond condition ++ (uses_in_last last ++ uses_in_stmt b)) (first_below g head w parts.0)
       (both_below (uses_in_cond condition) (uses_in_last last ++ uses_in_stmt b) (cond_below r condition parts.1 parts.2)
-        (both_below (uses_in_last last) (uses_in_stmt b) (last_below r last parts.1 parts.3) (statement_below r k true b parts.1 parts.4)))
+      (both_below (uses_in_last last) (uses_in_stmt b) (last_below r last parts.1 parts.3) (statement_below r k true b parts.1 parts.4)))
   statement_below g k inside (range_for n how x at name b) w h =
       let u = variable_type g.containers x in let r = in_range how u g in
-      let parts = three_parts (may_go_over how u) (is_within r) (is_typed_stmt r k true b) h in
-      (
+      let parts = three_parts (may_go_over how u) (is_within r) (is_typed_stmt r k true b) h in (
         container_is_below g x w (typed_by (may_go_over how) (nothing_gone_over how) u parts.0),
         statement_below r k true b parts.1 parts.2,
       )
@@ -232,5 +218,5 @@ pub variables_are_below : (p : Typed) → WellTyped p → (n : ℕ) (f : Functio
 variables_are_below p w n f e =
     let g = with_parameters f.parameters (no_variables p) in
     let parts = three_parts (is_block f.body && has_type (type_given f.result)) (is_within g) (is_typed_stmt g f.result false f.body)
-        (function_is_typed p w n f e) in
+    (function_is_typed p w n f e) in
     statement_below g f.result false f.body parts.1 parts.2

@@ -1,39 +1,25 @@
 -- The variables that an expression with a type uses have numbers below the limits of their sorts.
-use Rattle.std.proofs.Common.{◌≡◌, ℕ, ◌<◌, ◌==◌, Bool, true, false, not, ◌&&◌, List, [], ◌∷◌, ◌++◌, Option, Some, None, refl}
-use Rattle.std.specs.Prelude.{is_some, slice_get, flat_map}
-use Rattle.std.specs.List.{list_all}
+use Rattle.std.proofs.Common.{◌≡◌, ℕ, ◌<◌, ◌==◌, true, not, List, [], ◌∷◌, ◌++◌, Option, Some, None, refl}
+use Rattle.std.specs.Prelude.{slice_get}
 use Rattle.sl_base.specs.declared.limits.TheConstants.{CONTAINERS, ITERATORS, SCALARS}
-use Rattle.sl_base.specs.declared.form.Form.{Form}
-use Rattle.sl_base.specs.declared.scalar.Scalar.TheVariants as t
 use Rattle.sl_specs.specs.Rows.{Row}
 use Rattle.sl_syntax.specs.declared.typed.callee.Callee.{Callee}
 use Rattle.sl_syntax.specs.declared.typed.callee.Callee.TheVariants as callees
-use Rattle.sl_syntax.specs.declared.typed.head.Head.{Head}
-use Rattle.sl_syntax.specs.declared.typed.parameter.ParameterKind.{ParameterKind}
 use Rattle.sl_syntax.specs.Typed.{Expr, literal, held, iterator, convert, negate, logical_not, logical_and, logical_or, arithmetic, comparison}
 use Rattle.sl_syntax.specs.Typed.{increment, move, call, own_call, first, second, container, handed_scalar, Left, scalar, reference, element}
-use Rattle.sl_syntax.specs.Typed.{Operands, none, with, Cond, read, not_read, test, always, Printed, text, endline, number, Effect, reads, prints}
-use Rattle.sl_syntax.specs.Typed.{evaluates, assigns, updates, moves_to, Declaration, unset_scalar, set_scalar, set_iterator, binds_reference, makes}
-use Rattle.sl_syntax.specs.Typed.{First, no_first, declares_first, does_first, Stmt, block, declares, choice, choice_else, while, for, range_for}
-use Rattle.sl_syntax.specs.Typed.{break, continue, gives_back, does, Stmts, no_more, followed, Function, Typed}
-use Rattle.sl_model.specs.WellTypedTypes.{ExprType, no_type, Scope, is_within, variable_type, has_type, only, is_scalar, is_number, is_written}
-use Rattle.sl_model.specs.WellTypedTypes.{is_iterator, same_iterators, works_in}
-use Rattle.sl_model.specs.WellTypedCalls.{call_type, row_type, member_type, appending_type, operator_type, row_at}
-use Rattle.sl_model.specs.WellTypedExpressions.{goes_to, type_given, type_of, type_of_left, types_of}
+use Rattle.sl_syntax.specs.Typed.{Operands, none, with}
+use Rattle.sl_model.specs.WellTypedTypes.{ExprType, Scope, is_within, variable_type, has_type, is_scalar, is_number}
+use Rattle.sl_model.specs.WellTypedCalls.{call_type, row_type, member_type, row_at}
+use Rattle.sl_model.specs.WellTypedExpressions.{type_of, type_of_left, types_of}
 use Rattle.sl_model.specs.WellTypedOrder.{Variable, the_scalar, the_container, the_iterator, object_in}
-use Rattle.sl_model.specs.WellTypedStatements.{assigns_others, may_stand_alone, is_written_left, takes, are_ints, is_typed_cond, is_typed_item}
-use Rattle.sl_model.specs.WellTypedStatements.{is_typed_effect, is_typed_last, is_making, is_typed_declaration, behind, is_typed_first, behind_first}
-use Rattle.sl_model.specs.WellTypedStatements.{may_go_over, in_range, is_typed_return, is_typed_stmt, are_typed_stmts, with_parameters, no_variables}
-use Rattle.sl_model.specs.WellTypedStatements.{is_block, is_typed_function}
-use Rattle.sl_model.specs.WellTyped.{WellTyped}
 use Rattle.sl_model.proofs.TypedLists.{first_of_both, second_of_both}
-use Rattle.sl_model.proofs.TypedOperands.{typed_by, only_holds, only_rest, all_typed, second_iterator_typed}
-use Rattle.sl_model.proofs.TypedCalls.{call_known, making_known}
+use Rattle.sl_model.proofs.TypedOperands.{typed_by, all_typed}
+use Rattle.sl_model.proofs.TypedCalls.{call_known}
 use Rattle.sl_model.proofs.TypedParts.{held_typed, converted_number, negated_number, inverted_number, numbers_of_and, numbers_of_or, calculated_numbers}
 use Rattle.sl_model.proofs.TypedParts.{compared_numbers, stepped_number, moving_call, value_call, element_call, function_call, first_stands, second_stands}
 use Rattle.sl_model.proofs.TypedParts.{iterator_there, container_there, handed_there, scalar_there, reference_there}
 use Rattle.sl_model.proofs.TypedNumbers.{scalar_is_below, container_is_below, iterator_is_below}
-use Rattle.sl_model.proofs.TypedExpressions.{comparable_first, comparable_second, function_known, no_type_goes}
+use Rattle.sl_model.proofs.TypedExpressions.{comparable_first, comparable_second, function_known}
 
 -- the variables that an expression uses
 abbrev mutual
@@ -106,6 +92,7 @@ object_below g callee (Some x) us w h = (container_is_below g x w (object_typed 
 
 mutual
   unfolding types_of
+
   -- in a scope within the limits, the variables that an expression with a type uses are below the limits
   pub expression_below : (g : Scope) (e : Expr) → is_within g ≡ true → has_type (type_of g e) ≡ true → AreBelow (uses_in e)
   expression_below g (literal s z) w h = tt
@@ -135,11 +122,10 @@ mutual
       let parts = stepped_number g step fix s at l h in left_below g l w (typed_by (is_scalar s) refl (type_of_left g l) parts.1)
   expression_below g (move fix x c ops) w h =
       let u = variable_type g.iterators x in let parts = moving_call g fix x c ops h in
-      let known = call_known g c.callee c.object (u ∷ types_of g ops) parts.1 in
-      (
+      let known = call_known g c.callee c.object (u ∷ types_of g ops) parts.1 in (
         iterator_is_below g x w (first_of_both (has_type u) (all_typed (types_of g ops)) known.0),
         both_below (object_in c) (uses_in_operands ops) (object_below g c.callee c.object (u ∷ types_of g ops) w parts.1)
-        (operands_below g ops w (second_of_both (has_type u) (all_typed (types_of g ops)) known.0)),
+            (operands_below g ops w (second_of_both (has_type u) (all_typed (types_of g ops)) known.0)),
       )
   expression_below g (call c ops) w h =
       let parts = value_call g c ops h in let known = call_known g c.callee c.object (types_of g ops) parts.1 in

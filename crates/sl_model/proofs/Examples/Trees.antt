@@ -1,5 +1,6 @@
 -- Short ways to write typed texts whose parts are judged, and which parts of being well typed a text breaks.
-use Rattle.std.specs.Prelude.{ℕ, suc, Bool, true, false, List, [], ◌∷◌, ◌++◌, map, replicate, pos, negsuc, Option, Some, None, codes}
+use Rattle.std.proofs.Common.{sym, ◌∙◌}
+use Rattle.std.specs.Prelude.{◌≡◌, refl, ℕ, suc, Bool, true, false, List, [], ◌∷◌, map, replicate, pos, negsuc, Option, Some, None, codes}
 use Rattle.sl_base.specs.declared.place.Place.{Place}
 use Rattle.sl_base.specs.declared.form.Form.{Form}
 use Rattle.sl_base.specs.declared.form.Form.TheVariants as f
@@ -17,24 +18,64 @@ use Rattle.sl_syntax.specs.declared.typed.variable.VariableKind.TheVariants as v
 use Rattle.sl_syntax.specs.Typed.{Expr, literal, held, iterator, call, Left, scalar, element, none, with, Stmt, block, declares}
 use Rattle.sl_syntax.specs.Typed.{makes, set_iterator, does, evaluates, Function, Typed, operands_from, stmts_from}
 use Rattle.sl_model.specs.WellTyped.{has_few, has_main, has_types, has_no_alias, has_order, has_sites, has_numbers, has_names, has_variables}
-use Rattle.sl_model.specs.WellTyped.{has_constants, has_one_asker}
+use Rattle.sl_model.specs.WellTyped.{has_constants, has_one_asker, WellTyped}
 
 -- a part of being well typed
 pub data Part : Type 0 where
   Few Main Types Alias Order Sites Numbers Names Variables Constants Asker : Part
 
--- the part, where it is broken
-abbrev pub unless : Bool → Part → List Part
-unless true part = []
-unless false part = part ∷ []
+-- the parts whose answers aren't true
+abbrev pub untrue : List (Bool × Part) → List Part
+untrue [] = []
+untrue ((true, part) ∷ rest) = untrue rest
+untrue ((false, part) ∷ rest) = part ∷ untrue rest
+
+-- what each part answers
+abbrev pub answers : Typed → List (Bool × Part)
+answers p =
+    (has_few p, Few) ∷ (has_main p, Main) ∷ (has_types p, Types) ∷ (has_no_alias p, Alias) ∷ (has_order p, Order) ∷ (has_sites p, Sites) ∷
+    (has_numbers p, Numbers) ∷ (has_names p, Names) ∷ (has_variables p, Variables) ∷ (has_constants p, Constants) ∷ (has_one_asker p, Asker) ∷ []
 
 -- the parts that a text breaks
 unfoldable pub broken : Typed → List Part
 unfolding has_types has_no_alias has_order has_sites has_numbers has_names has_variables has_constants has_one_asker
-broken p =
-    unless (has_few p) Few ++ unless (has_main p) Main ++ unless (has_types p) Types ++ unless (has_no_alias p) Alias ++ unless (has_order p) Order
-    ++ unless (has_sites p) Sites ++ unless (has_numbers p) Numbers ++ unless (has_names p) Names ++ unless (has_variables p) Variables
-    ++ unless (has_constants p) Constants ++ unless (has_one_asker p) Asker
+broken p = untrue (answers p)
+
+-- where none is untrue, the first is true, and none of the rest is untrue
+first_true : (b : Bool) (part : Part) (rest : List (Bool × Part)) → untrue ((b, part) ∷ rest) ≡ [] → (b ≡ true) × (untrue rest ≡ [])
+first_true true part rest h = (refl, h)
+first_true false part rest h = absurd cc
+
+-- a text that breaks no part is well typed
+pub well : (p : Typed) → broken p ≡ [] → WellTyped p
+unfolding broken
+well p h =
+    let a = first_true (has_few p) Few _ h in let b = first_true (has_main p) Main _ a.1 in let c = first_true (has_types p) Types _ b.1 in
+    let d = first_true (has_no_alias p) Alias _ c.1 in let e = first_true (has_order p) Order _ d.1 in let g = first_true (has_sites p) Sites _ e.1 in
+    let i = first_true (has_numbers p) Numbers _ g.1 in let j = first_true (has_names p) Names _ i.1 in
+    let k = first_true (has_variables p) Variables _ j.1 in let l = first_true (has_constants p) Constants _ k.1 in
+    let m = first_true (has_one_asker p) Asker _ l.1 in
+    record {
+      few = a.0;
+      main = b.0;
+      types = c.0;
+      no_alias = d.0;
+      order = e.0;
+      sites = g.0;
+      numbers = i.0;
+      names = j.0;
+      variables = k.0;
+      constants = l.0;
+      one_asker = m.0;
+    }
+
+-- a text that breaks a part isn't
+pub not_well : (p : Typed) (part : Part) → broken p ≡ part ∷ [] → ¬ WellTyped p
+unfolding broken
+not_well p part h w =
+    let none : untrue (answers p) ≡ [] =
+    rw (w.few, w.main, w.types, w.no_alias, w.order, w.sites, w.numbers, w.names, w.variables, w.constants, w.one_asker) refl in
+    let one : [] ≡ part ∷ [] = sym none ∙ h in absurd cc
 
 -- a place
 abbrev pub at : ℕ → ℕ → Place

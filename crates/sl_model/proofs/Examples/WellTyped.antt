@@ -1,5 +1,5 @@
 -- Texts that are well typed. The text of each stands above its tree; the names of variables, which aren't looked at, are left out of the trees.
-use Rattle.std.specs.Prelude.{◌≡◌, refl, true, false, [], ◌∷◌, ◌++◌, replicate, pos, Some, None, codes}
+use Rattle.std.specs.Prelude.{refl, true, false, [], ◌∷◌, ◌++◌, replicate, pos, Some, None, codes}
 use Rattle.sl_base.specs.declared.scalar.Scalar.TheVariants as t
 use Rattle.sl_base.specs.declared.form.Form.TheVariants as f
 use Rattle.sl_specs.specs.declared.rows.sequences.TheConstants as sequence
@@ -20,17 +20,18 @@ use Rattle.sl_syntax.specs.Typed.{second, container, scalar, reference, element,
 use Rattle.sl_syntax.specs.Typed.{evaluates, assigns, updates, unset_scalar, set_scalar, set_iterator, binds_reference, declares_first}
 use Rattle.sl_syntax.specs.Typed.{declares, choice, choice_else, while, for, range_for, break, continue, gives_back, does, Typed}
 use Rattle.sl_syntax.specs.Typed.{operands_from}
-use Rattle.sl_model.proofs.Examples.Trees.{broken, at, on, on_site, off, appends, operator, int, value, calls, element_of, star, done, made}
-use Rattle.sl_model.proofs.Examples.Trees.{vector, begun, pushed, body, body_at, function, main_of, whole, alone, behind_vector}
+use Rattle.sl_model.specs.WellTyped.{WellTyped}
+use Rattle.sl_model.proofs.Examples.Trees.{well, broken, at, on, on_site, off, appends, operator, int, value, calls, element_of, star, done}
+use Rattle.sl_model.proofs.Examples.Trees.{made, vector, begun, pushed, body, body_at, function, main_of, whole, alone, behind_vector}
 
 -- int main() {
 -- }
 abbrev empty : Typed
 empty = alone [] (body []) 0
 
-empty_is_well : broken empty ≡ []
+empty_is_well : WellTyped empty
 unfolding broken
-empty_is_well = refl
+empty_is_well = well empty refl
 
 -- int main() {
 --   std::vector<int> v;
@@ -43,9 +44,9 @@ abbrev growth : Typed
 growth = behind_vector (v.Iterator ∷ v.Scalar ∷ []) 2 (
     pushed (at 3 5) 0 0 (int 1) ∷ begun (at 4 15) 0 ∷ pushed (at 5 5) 1 0 (int 2) ∷ declares (set_scalar t.Int (held (star (at 6 11) 0))) ∷ [])
 
-growth_is_well : broken growth ≡ []
+growth_is_well : WellTyped growth
 unfolding broken
-growth_is_well = refl
+growth_is_well = well growth refl
 
 -- void f(const std::vector<int>& v) {
 --   std::vector<int> w;
@@ -59,9 +60,9 @@ copy_of_const = whole (
     (body_at 1 (vector (at 2 3) ∷ done (calls (on_site sequence.VECTOR_ASSIGNMENT (at 3 5) 0 1) (container 0 ∷ [])) ∷ [])) ∷
     main_of [] (body []) ∷ []) 1 2 0
 
-copy_of_const_is_well : broken copy_of_const ≡ []
+copy_of_const_is_well : WellTyped copy_of_const
 unfolding broken
-copy_of_const_is_well = refl
+copy_of_const_is_well = well copy_of_const refl
 
 -- int f(const std::vector<int>& v) {
 --   auto it = v.begin();
@@ -76,9 +77,9 @@ read_of_const = whole (
     gives_back (Some (arithmetic o.Add t.Int (at 3 14) (held (star (at 3 10) 0)) (element_of (on sequence.VECTOR_FRONT (at 3 18) 0) []))) ∷ [])) ∷
     main_of [] (body []) ∷ []) 1 0 0
 
-read_of_const_is_well : broken read_of_const ≡ []
+read_of_const_is_well : WellTyped read_of_const
 unfolding broken
-read_of_const_is_well = refl
+read_of_const_is_well = well read_of_const refl
 
 -- int main() {
 --   std::deque<int> d = {1, 2};
@@ -93,9 +94,9 @@ front_reference = alone (v.Container ∷ v.Reference ∷ []) (body_at 1 (
     done (calls (on_site sequence.DEQUE_PUSH_BACK (at 4 5) 0 0) (int 3 ∷ [])) ∷
     does (assigns (reference 0 (at 5 3) 1 parts.Whole) (int 5)) ∷ [])) 2
 
-front_reference_is_well : broken front_reference ≡ []
+front_reference_is_well : WellTyped front_reference
 unfolding broken
-front_reference_is_well = refl
+front_reference_is_well = well front_reference refl
 
 -- int main() {
 --   std::map<int, int> m;
@@ -111,9 +112,9 @@ entries = whole (main_of (v.Container ∷ v.Reference ∷ []) (body_at 0 (
     (does (updates o.Add t.Int t.Int (at 4 30) (reference 2 (at 4 21) 1 parts.Second) (held (reference 2 (at 4 33) 1 parts.First)))) ∷
     does (prints (number (element_of (on associative.MAP_AT (at 5 18) 0) (int 1 ∷ [])) ∷ [])) ∷ [])) ∷ []) 0 1 1
 
-entries_is_well : broken entries ≡ []
+entries_is_well : WellTyped entries
 unfolding broken
-entries_is_well = refl
+entries_is_well = well entries refl
 
 -- int main() {
 --   std::set<int> s = {3, 1};
@@ -124,9 +125,9 @@ set_by_value = whole (main_of (v.Container ∷ v.Scalar ∷ []) (body_at 0 (
     made f.Set associative.SET_CONSTRUCTOR_LIST (at 2 3) (int 3 ∷ int 1 ∷ []) ∷
     range_for 0 taken.Value 0 (at 3 3) 0 (does (prints (number (value 0) ∷ endline ∷ []))) ∷ [])) ∷ []) 0 1 1
 
-set_by_value_is_well : broken set_by_value ≡ []
+set_by_value_is_well : WellTyped set_by_value
 unfolding broken
-set_by_value_is_well = refl
+set_by_value_is_well = well set_by_value refl
 
 -- int f(std::vector<int>::iterator it, std::vector<int>::iterator end) {
 --   int s = 0;
@@ -153,9 +154,9 @@ iterator_parameters = whole (
     declares (set_scalar t.Int (own_call 0 (at 11 11) (operands_from (
     calls (on sequence.VECTOR_BEGIN (at 11 15) 0) [] ∷ calls (on sequence.VECTOR_END (at 11 26) 0) [] ∷ [])))) ∷ [])) ∷ []) 1 1 1
 
-iterator_parameters_is_well : broken iterator_parameters ≡ []
+iterator_parameters_is_well : WellTyped iterator_parameters
 unfolding broken
-iterator_parameters_is_well = refl
+iterator_parameters_is_well = well iterator_parameters refl
 
 -- std::vector<int>::const_iterator f(std::vector<int>::const_iterator it) {
 --   return it;
@@ -170,9 +171,9 @@ const_iterator = whole (
     main_of (v.Container ∷ v.Iterator ∷ []) (body_at 0 (vector (at 5 3) ∷
     declares (set_iterator (own_call 0 (at 6 13) (with (calls (on sequence.VECTOR_BEGIN (at 6 17) 0) []) none))) ∷ [])) ∷ []) 1 1 0
 
-const_iterator_is_well : broken const_iterator ≡ []
+const_iterator_is_well : WellTyped const_iterator
 unfolding broken
-const_iterator_is_well = refl
+const_iterator_is_well = well const_iterator refl
 
 -- int main() {
 --   std::multiset<int> s = {1, 1, 2};
@@ -187,9 +188,9 @@ equal_range = alone (v.Container ∷ v.Iterator ∷ v.Iterator ∷ []) (body_at 
     declares (set_iterator (second (at 4 29) (calls (on associative.MULTI_SET_EQUAL_RANGE (at 4 15) 0) (int 1 ∷ [])))) ∷
     done (calls (on_site associative.MULTI_SET_ERASE_RANGE (at 5 5) 0 0) (iterator 0 ∷ iterator 1 ∷ [])) ∷ [])) 2
 
-equal_range_is_well : broken equal_range ≡ []
+equal_range_is_well : WellTyped equal_range
 unfolding broken
-equal_range_is_well = refl
+equal_range_is_well = well equal_range refl
 
 -- int main() {
 --   std::set<int> s;
@@ -204,9 +205,9 @@ insertion = alone (v.Container ∷ v.Scalar ∷ v.Iterator ∷ []) (body_at 0 (
     declares (set_iterator (first (at 4 24) (calls (on associative.SET_INSERT (at 4 15) 0) (int 2 ∷ [])))) ∷
     done (calls (on associative.SET_INSERT (at 5 5) 0) (int 3 ∷ [])) ∷ [])) 1
 
-insertion_is_well : broken insertion ≡ []
+insertion_is_well : WellTyped insertion
 unfolding broken
-insertion_is_well = refl
+insertion_is_well = well insertion refl
 
 -- One vector is added to a function with an iterator, for its elements alone, and handed on:
 -- void f(std::vector<int>::iterator it, std::vector<int>& v) {
@@ -225,9 +226,9 @@ elements_alone = whole (
     done (own_call 0 (at 6 3) (operands_from (
     calls (on_site sequence.VECTOR_ERASE (at 6 7) 0 0) (calls (on sequence.VECTOR_BEGIN (at 6 15) 0) [] ∷ []) ∷ container 0 ∷ []))) ∷ [])) ∷ []) 1 2 0
 
-elements_alone_is_well : broken elements_alone ≡ []
+elements_alone_is_well : WellTyped elements_alone
 unfolding broken
-elements_alone_is_well = refl
+elements_alone_is_well = well elements_alone refl
 
 -- Two copies of one function, which share its sites and loops:
 -- void f(std::vector<int>& v) {
@@ -240,9 +241,9 @@ copies = let copy = function (k.Container a.Whole f.Vector ∷ []) None (v.Conta
     while 0 (test (calls (on sequence.VECTOR_EMPTY (at 2 12) 0) [])) (pushed (at 2 23) 0 0 (int 1)) ∷ [])) in
     whole (copy ∷ copy ∷ main_of [] (body []) ∷ []) 2 1 1
 
-copies_is_well : broken copies ≡ []
+copies_is_well : WellTyped copies
 unfolding broken
-copies_is_well = refl
+copies_is_well = well copies refl
 
 -- int main() {
 --   std::vector<int> a = {3, 1, 2};
@@ -264,9 +265,9 @@ algorithms = alone (v.Container ∷ v.Container ∷ v.Iterator ∷ []) (body_at 
     done (move fixes.Prefix 0 (off algorithm.STD_ADVANCE (at 7 3)) (with (convert t.Diff (negate t.Int (at 7 20) (int 1))) none)) ∷
     done (move fixes.Prefix 0 (operator operators.AddAssign (at 8 6)) (with (convert t.Diff (int 1)) none)) ∷ [])) 2
 
-algorithms_is_well : broken algorithms ≡ []
+algorithms_is_well : WellTyped algorithms
 unfolding broken
-algorithms_is_well = refl
+algorithms_is_well = well algorithms refl
 
 -- int main() {
 --   std::vector<int> v(2);
@@ -281,9 +282,9 @@ conversions = whole (main_of (v.Container ∷ v.Scalar ∷ []) (body_at 0 (
     (does (assigns (element (on sequence.VECTOR_SUBSCRIPT (at 3 47) 0) (with (value 0) none)) (convert t.Int (literal t.Bool (pos 1))))) ∷ [])) ∷ [])
     0 1 1
 
-conversions_is_well : broken conversions ≡ []
+conversions_is_well : WellTyped conversions
 unfolding broken
-conversions_is_well = refl
+conversions_is_well = well conversions refl
 
 -- A function is called that stands behind its caller, as two copies may call each other:
 -- void f() {
@@ -299,9 +300,9 @@ later_call = whole (
     function [] None [] (body (done (own_call 1 (at 2 3) none) ∷ [])) ∷ function [] None [] (body (done (own_call 0 (at 5 3) none) ∷ [])) ∷
     main_of [] (body []) ∷ []) 2 0 0
 
-later_call_is_well : broken later_call ≡ []
+later_call_is_well : WellTyped later_call
 unfolding broken
-later_call_is_well = refl
+later_call_is_well = well later_call refl
 
 -- int main() {
 --   int x;
@@ -320,9 +321,9 @@ ways_out = whole (main_of (v.Scalar ∷ []) (body (
     choice_else (test (value 0)) break (does (prints (text (codes "n") ∷ []))) ∷ [])) ∷
     gives_back (Some (int 0)) ∷ [])) ∷ []) 0 0 1
 
-ways_out_is_well : broken ways_out ≡ []
+ways_out_is_well : WellTyped ways_out
 unfolding broken
-ways_out_is_well = refl
+ways_out_is_well = well ways_out refl
 
 -- int main() {
 --   std::unordered_map<int, int> m;
@@ -339,9 +340,9 @@ new_keys = alone (v.Container ∷ v.Iterator ∷ []) (body_at 2 (
     does (updates o.Add t.Int t.Int (at 5 14) (element (operator operators.ArrowSecond (at 5 5)) (with (iterator 0) none))
     (element_of (on associative.HASH_MAP_AT (at 5 19) 0) (element_of (operator operators.ArrowFirst (at 5 24)) (iterator 0 ∷ []) ∷ []))) ∷ [])) 3
 
-new_keys_is_well : broken new_keys ≡ []
+new_keys_is_well : WellTyped new_keys
 unfolding broken
-new_keys_is_well = refl
+new_keys_is_well = well new_keys refl
 
 -- int main() {
 --   int x = 1;
@@ -357,9 +358,9 @@ orders = alone (v.Scalar ∷ v.Scalar ∷ v.Container ∷ v.Scalar ∷ []) (body
     declares (set_scalar t.Int (arithmetic o.Add t.Int (at 5 13) (value 1) (increment steps.Up fixes.Prefix t.Int (at 5 15) (scalar 0 (at 5 17))))) ∷ []))
     1
 
-orders_is_well : broken orders ≡ []
+orders_is_well : WellTyped orders
 unfolding broken
-orders_is_well = refl
+orders_is_well = well orders refl
 
 -- int main() {
 --   std::vector<int> v;
@@ -373,9 +374,9 @@ assigned_copy = behind_vector (v.Container ∷ v.Iterator ∷ []) 1 (
     declares (set_iterator (calls (on sequence.DEQUE_BEGIN (at 4 15) 1) [])) ∷
     done (calls (on_site sequence.VECTOR_ASSIGN (at 5 5) 0 0) (convert t.Size (int 2) ∷ held (star (at 5 15) 0) ∷ [])) ∷ [])
 
-assigned_copy_is_well : broken assigned_copy ≡ []
+assigned_copy_is_well : WellTyped assigned_copy
 unfolding broken
-assigned_copy_is_well = refl
+assigned_copy_is_well = well assigned_copy refl
 
 -- int main() {
 --   std::vector<int> v;
@@ -385,6 +386,6 @@ abbrev full_scope : Typed
 full_scope = alone (replicate 16 v.Container ++ replicate 32 v.Iterator ++ replicate 48 v.Scalar)
     (body_at 0 (replicate 16 (vector (at 2 3)) ++ replicate 32 (begun (at 3 15) 0) ++ replicate 48 (declares (unset_scalar t.Int)))) 1
 
-full_scope_is_well : broken full_scope ≡ []
+full_scope_is_well : WellTyped full_scope
 unfolding broken
-full_scope_is_well = refl
+full_scope_is_well = well full_scope refl
