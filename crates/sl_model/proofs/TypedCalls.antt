@@ -38,6 +38,7 @@ pub first_iterator_typed : (u v : ExprType) → same_iterators u v ≡ true → 
 first_iterator_typed no_type v h = absurd cc
 first_iterator_typed u v h = refl
 
+-- two iterators that are compared have types
 compared_typed : (o : Comparison) (u v : ExprType) → has_type (operator_type (operators.Compare o) (u ∷ v ∷ [])) ≡ true → all_typed (u ∷ v ∷ []) ≡ true
 compared_typed o u v h =
     let same = first_of_both (same_iterators u v) (if is_equality o then true else is_random u)
@@ -67,7 +68,7 @@ abbrev pub is_list : Letter → Bool
 is_list l.InitializerList = true
 is_list letter = false
 
--- the fewest and the most operands that a letter stands for, of which a list has no most
+-- the fewest operands that a letter stands for
 abbrev pub fewest_of : Letter → ℕ
 fewest_of l.OwnRange = 2
 fewest_of l.IntRange = 2
@@ -78,15 +79,17 @@ fewest_of l.AnyRange = 2
 fewest_of l.OptionalDistance = 0
 fewest_of letter = 1
 
+-- the most, where it is no list
 abbrev pub most_of : Letter → ℕ
 most_of l.OptionalDistance = 1
 most_of letter = fewest_of letter
 
--- the fewest and the most operands of letters in turn
+-- the fewest operands of letters in turn
 abbrev pub fewest : List Letter → ℕ
 fewest [] = 0
 fewest (letter ∷ rest) = fewest_of letter + fewest rest
 
+-- the most of them
 abbrev pub most : List Letter → ℕ
 most [] = 0
 most (letter ∷ rest) = most_of letter + most rest
@@ -96,10 +99,12 @@ pub record Takes (letters : List Letter) (n : ℕ) : Type 0 where
   pub least : fewest letters ≤ n
   pub most : list_any is_list letters ≡ false → n ≤ most letters
 
+-- a letter for one operand stands for one
 one_counted : (test : ExprType → Bool) (us : List ExprType) → one test (take 1 us) ≡ true → 1 + length (drop 1 us) ≡ length us
 one_counted test [] h = absurd cc
 one_counted test (u ∷ us) h = omega arith
 
+-- a range stands for two
 range_counted : (test : ExprType → Bool) (us : List ExprType) → range test (take 2 us) ≡ true → 2 + length (drop 2 us) ≡ length us
 range_counted test [] h = absurd cc
 range_counted test (u ∷ []) h = absurd cc
@@ -114,35 +119,42 @@ abbrev Stands : Letter → List ExprType → Type 0
 Stands letter us = (fewest_of letter + length (drop (width letter us) us) ≤ length us)
     × (is_list letter ≡ false → length us ≤ most_of letter + length (drop (width letter us) us))
 
+-- the count of one operand
 one_stands : (test : ExprType → Bool) (us : List ExprType) → one test (take 1 us) ≡ true
     → (1 + length (drop 1 us) ≤ length us) × (false ≡ false → length us ≤ 1 + length (drop 1 us))
 one_stands test us h = let count = one_counted test us h in (omega (arith, count), λ e. omega (arith, count))
 
+-- that of a range
 range_stands : (test : ExprType → Bool) (us : List ExprType) → range test (take 2 us) ≡ true
     → (2 + length (drop 2 us) ≤ length us) × (false ≡ false → length us ≤ 2 + length (drop 2 us))
 range_stands test us h = let count = range_counted test us h in (omega (arith, count), λ e. omega (arith, count))
 
+-- at most one operand may be missing
 optional_counted : (test : ExprType → Bool) (us : List ExprType) → optional test us ≡ true → length us ≤ 1
 optional_counted test [] h = omega arith
 optional_counted test (u ∷ []) h = omega arith
 optional_counted test (u ∷ v ∷ us) h = absurd cc
 
+-- a list has an element
 elements_counted : (us : List ExprType) → elements us ≡ true → 1 ≤ length us
 elements_counted [] h = absurd cc
 elements_counted (u ∷ us) h = omega arith
 
+-- the count of an operand that may be missing
 optional_stands : (test : ExprType → Bool) (us : List ExprType) → optional test (take (length us) us) ≡ true
     → (0 + length (drop (length us) us) ≤ length us) × (false ≡ false → length us ≤ 1 + length (drop (length us) us))
 optional_stands test us h =
     let all = subst (λ (vs : List ExprType). optional test vs ≡ true) (take_all (length us) us (omega arith)) h in
     let count = optional_counted test us all in let left = nothing_left us in (omega (arith, left), λ e. omega (arith, count, left))
 
+-- that of a list
 elements_stand : (us : List ExprType) → elements (take (length us) us) ≡ true
     → (1 + length (drop (length us) us) ≤ length us) × (true ≡ false → length us ≤ 1 + length (drop (length us) us))
 elements_stand us h =
     let all = subst (λ (vs : List ExprType). elements vs ≡ true) (take_all (length us) us (omega arith)) h in
     let count = elements_counted us all in let left = nothing_left us in (omega (arith, count, left), λ e. absurd cc)
 
+-- the count of a letter's operands
 letter_stands : (form : Form) (letter : Letter) (us : List ExprType) → fits_letter form letter (take (width letter us) us) ≡ true → Stands letter us
 letter_stands form l.Position us h = one_stands (is_iterator_of form) us h
 letter_stands form l.SplicedPosition us h = one_stands (is_iterator_of form) us h
@@ -189,6 +201,7 @@ fitting_taken form (letter ∷ rest) us h =
 abbrev Fit : List Letter → List ExprType → Type 0
 Fit letters us = (form : Form) × (fits form letters us ≡ true)
 
+-- the operands of a member call that has a type fit
 member_fits : (row : Row) (u : ExprType) (us : List ExprType) → has_type (member_type row u us) ≡ true → Fit row.letters us
 member_fits row (container_type access x) us h =
     let all = only_holds (same_object row.form (Some x) && not (is_constructor row) && may_be_called row.changes access && fits x row.letters us)
@@ -196,20 +209,24 @@ member_fits row (container_type access x) us h =
     (x, second_of_both (same_object row.form (Some x) && not (is_constructor row) && may_be_called row.changes access) (fits x row.letters us) all)
 member_fits row u us h = absurd cc
 
+-- so do those of an algorithm
 algorithm_fits : (row : Row) (us : List ExprType) → has_type (algorithm_type row us) ≡ true → Fit row.letters us
 algorithm_fits row us h =
     let all = only_holds (is_algorithm row && fits f.Vector row.letters us) (result_type row.gives false f.Vector us) h in
     (f.Vector, second_of_both (is_algorithm row) (fits f.Vector row.letters us) all)
 
+-- so do those of either
 row_fits : (g : Scope) (row : Row) (object : Option ℕ) (us : List ExprType) → has_type (row_type g (Some row) object us) ≡ true → Fit row.letters us
 row_fits g row None us h = algorithm_fits row us h
 row_fits g row (Some x) us h = member_fits row (variable_type g.containers x) us h
 
+-- so do those of an algorithm that appends
 appending_fits : (row : Row) (us : List ExprType) → has_type (appending_type (Some row) us) ≡ true → Fit (map appending row.letters) us
 appending_fits row us h =
     let all = only_holds (is_algorithm row && list_any is_output row.letters && fits f.Vector (map appending row.letters) us) empty_type h in
     (f.Vector, second_of_both (is_algorithm row && list_any is_output row.letters) (fits f.Vector (map appending row.letters) us) all)
 
+-- so do those of a constructor
 constructor_fits : (form : Form) (row : Row) (us : List ExprType) → constructs form (Some row) us ≡ true → Fit row.letters us
 constructor_fits form row us h =
     (form, second_of_both (same_object row.form (Some form) && is_constructor row) (fits form row.letters us) h)
@@ -220,10 +237,11 @@ pub record HasRow (letters_of : Row → List Letter) (number n : ℕ) : Type 0 w
   pub there : row_at number ≡ Some row
   pub takes : Takes (letters_of row) n
 
--- the letters of a row, and those with a container in place of the output
+-- the letters of a row
 abbrev pub own_letters : Row → List Letter
 own_letters row = row.letters
 
+-- those with a container in place of the output
 abbrev pub appended_letters : Row → List Letter
 appended_letters row = map appending row.letters
 
@@ -238,21 +256,25 @@ IsThere (callees.Hidden o) n = ⊥
 abbrev pub Known : Callee → List ExprType → Type 0
 Known callee us = (all_typed us ≡ true) × IsThere callee (length us)
 
+-- operands that fit have types, and the row takes so many
 fit_known : (letters_of : Row → List Letter) (number : ℕ) (row : Row) (us : List ExprType) → row_at number ≡ Some row → Fit (letters_of row) us
     → (all_typed us ≡ true) × HasRow letters_of number (length us)
 fit_known letters_of number row us e fit =
     (fitting_typed fit.0 (letters_of row) us fit.1, record { row = row; there = e; takes = fitting_taken fit.0 (letters_of row) us fit.1 })
 
+-- what is known of the operands of a row
 row_known : (g : Scope) (number : ℕ) (found : Option Row) (object : Option ℕ) (us : List ExprType) → row_at number ≡ found
     → has_type (row_type g found object us) ≡ true → Known (callees.Row number) us
 row_known g number None object us e h = absurd cc
 row_known g number (Some row) object us e h = fit_known own_letters number row us e (row_fits g row object us h)
 
+-- of those of an algorithm that appends
 appending_known : (number : ℕ) (found : Option Row) (us : List ExprType) → row_at number ≡ found → has_type (appending_type found us) ≡ true
     → Known (callees.Appends number) us
 appending_known number None us e h = absurd cc
 appending_known number (Some row) us e h = fit_known appended_letters number row us e (appending_fits row us h)
 
+-- of those of a constructor
 constructor_known : (form : Form) (number : ℕ) (found : Option Row) (us : List ExprType) → row_at number ≡ found → constructs form found us ≡ true
     → Known (callees.Row number) us
 constructor_known form number None us e h = absurd cc

@@ -67,6 +67,7 @@ going_known (k ∷ ks) (u ∷ us) h =
       omega (arith, count),
     )
 
+-- the operands of a call of a function have types, and it is there and has so many parameters
 pub function_known : (fs : List Function) (number : ℕ) (b : Bool) (found : Option Function) (us : List ExprType) → slice_get fs number ≡ found
     → has_type (function_type b found us) ≡ true → (all_typed us ≡ true) × IsOwn fs number (length us)
 function_known fs number b None us e h = absurd cc
@@ -74,14 +75,16 @@ function_known fs number b (Some f) us e h =
     let known = going_known f.parameters us (second_of_both b (go_to f.parameters us) (only_holds (b && go_to f.parameters us) (type_given f.result) h)) in
     (known.0, record { function = f; there = e; count = known.1 })
 
--- numbers that are compared have types
+-- nothing is true beside what isn't
 pub and_false : (b : Bool) → (b && false) ≡ false
 and_false true = refl
 and_false false = refl
 
+-- the first of two numbers that are compared has a type
 pub comparable_first : (u v : ExprType) → are_comparable u v ≡ true → has_type u ≡ true
 comparable_first u v h = typed_by (λ w. are_comparable w v) refl u h
 
+-- so has the second
 pub comparable_second : (u v : ExprType) → are_comparable u v ≡ true → has_type v ≡ true
 comparable_second u v h =
     typed_by (are_comparable u) (rw (and_false (is_scalar t.Int u), and_false (is_scalar t.Size u), and_false (is_scalar t.Diff u)) refl) v h
@@ -96,9 +99,10 @@ pub called_fine : (g : Scope) (c : Head) (ops : Operands) → Known c.callee (ty
     → AreFine g.functions (a_call c ops ∷ nodes_in_operands ops)
 called_fine g c ops known fine = (subst (IsThere c.callee) (length-types_of g ops) known.1, fine)
 
--- the nodes of an expression that has a type are fine
 mutual
   unfolding nodes_in nodes_in_left nodes_in_operands types_of
+
+  -- the nodes of an expression that has a type are fine
 
   pub expression_is_fine : (g : Scope) (e : Expr) → has_type (type_of g e) ≡ true → AreFine g.functions (nodes_in e)
   expression_is_fine g (literal s z) h = (tt, tt)

@@ -5,20 +5,22 @@ use Rattle.std.specs.List.{cons_option}
 use Rattle.std.specs.List.{list_all}
 use Rattle.std.proofs.lemmas.List.Folds.{list_all-append}
 
--- the first and the second of two answers that are both true
+-- the first of two answers that are both true
 pub first_of_both : (a b : Bool) → (a && b) ≡ true → a ≡ true
 first_of_both true b h = cc
 first_of_both false b h = absurd cc
 
+-- the second of them
 pub second_of_both : (a b : Bool) → (a && b) ≡ true → b ≡ true
 second_of_both true b h = h
 second_of_both false b h = absurd cc
 
--- each of three answers that are all true, and of five
+-- each of three answers that are all true
 pub three_parts : (a b c : Bool) → (a && b && c) ≡ true → (a ≡ true) × (b ≡ true) × (c ≡ true)
 three_parts a b c h =
     let two = first_of_both (a && b) c h in (first_of_both a b two, second_of_both a b two, second_of_both (a && b) c h)
 
+-- each of five
 pub five_parts : (a b c d e : Bool) → (a && b && c && d && e) ≡ true → (a ≡ true) × (b ≡ true) × (c ≡ true) × (d ≡ true) × (e ≡ true)
 five_parts a b c d e h =
     let four = first_of_both (a && b && c && d) e h in let three = first_of_both (a && b && c) d four in let two = first_of_both (a && b) c three in (
@@ -34,11 +36,12 @@ pub both_true : (a b : Bool) → a ≡ true → b ≡ true → (a && b) ≡ true
 both_true true b h k = k
 both_true false b h k = absurd cc
 
--- neither of two answers is true where one of them isn't
+-- the first of two answers of which neither is true
 pub first_of_neither : (a b : Bool) → (a || b) ≡ false → a ≡ false
 first_of_neither true b h = absurd cc
 first_of_neither false b h = cc
 
+-- the second of them
 pub second_of_neither : (a b : Bool) → (a || b) ≡ false → b ≡ false
 second_of_neither true b h = absurd cc
 second_of_neither false b h = h
@@ -50,13 +53,14 @@ passes_at test (y ∷ ys) zero x h e =
     let same : y ≡ x = cc in subst (λ z. test z ≡ true) same (first_of_both (test y) (list_all test ys) h)
 passes_at test (y ∷ ys) (suc i) x h e = passes_at test ys i x (second_of_both (test y) (list_all test ys) h) e
 
--- what is put before a list, if it is something, passes with the list, and the list passes
+-- what is put before a list, if it is something, passes with the list
 first_put_passes : {Y : Type 0} (test : Y → Bool) (m : Option Y) (y : Y) (ys : List Y) → list_all test (cons_option m ys) ≡ true → m ≡ Some y
     → test y ≡ true
 first_put_passes test None y ys h e = absurd cc
 first_put_passes test (Some z) y ys h e =
     let same : z ≡ y = cc in subst (λ x. test x ≡ true) same (first_of_both (test z) (list_all test ys) h)
 
+-- the list passes
 rest_put_passes : {Y : Type 0} (test : Y → Bool) (m : Option Y) (ys : List Y) → list_all test (cons_option m ys) ≡ true → list_all test ys ≡ true
 rest_put_passes test None ys h = h
 rest_put_passes test (Some z) ys h = second_of_both (test z) (list_all test ys) h

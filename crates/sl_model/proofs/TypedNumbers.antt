@@ -85,29 +85,34 @@ variable_is_there [] x h = absurd cc
 variable_is_there (u ∷ us) zero h = omega arith
 variable_is_there (u ∷ us) (suc x) h = let there = variable_is_there us x h in omega (arith, there)
 
--- the three limits of a scope
+-- the limit of iterators in a scope
 few_iterators : (g : Scope) → is_within g ≡ true → length g.iterators ≤ ITERATORS
 few_iterators g w = leb-true (length g.iterators) ITERATORS (second_of_both
     (nat_le (length g.scalars) SCALARS && nat_le (length g.containers) CONTAINERS) (nat_le (length g.iterators) ITERATORS) w)
 
+-- the other two limits
 few_others : (g : Scope) → is_within g ≡ true → (nat_le (length g.scalars) SCALARS && nat_le (length g.containers) CONTAINERS) ≡ true
 few_others g w = first_of_both
     (nat_le (length g.scalars) SCALARS && nat_le (length g.containers) CONTAINERS) (nat_le (length g.iterators) ITERATORS) w
 
+-- that of scalars
 few_scalars : (g : Scope) → is_within g ≡ true → length g.scalars ≤ SCALARS
 few_scalars g w = leb-true (length g.scalars) SCALARS
     (first_of_both (nat_le (length g.scalars) SCALARS) (nat_le (length g.containers) CONTAINERS) (few_others g w))
 
+-- that of containers
 few_containers : (g : Scope) → is_within g ≡ true → length g.containers ≤ CONTAINERS
 few_containers g w = leb-true (length g.containers) CONTAINERS
     (second_of_both (nat_le (length g.scalars) SCALARS) (nat_le (length g.containers) CONTAINERS) (few_others g w))
 
--- in a scope within the limits, a variable that has a type has a number below its limit
+-- in a scope within the limits, a scalar that has a type has a number below the limit of its sort
 pub scalar_is_below : (g : Scope) (x : ℕ) → is_within g ≡ true → has_type (variable_type g.scalars x) ≡ true → x < SCALARS
 scalar_is_below g x w h = let few = few_scalars g w in let there = variable_is_there g.scalars x h in omega (arith, few, there)
 
+-- a container has
 pub container_is_below : (g : Scope) (x : ℕ) → is_within g ≡ true → has_type (variable_type g.containers x) ≡ true → x < CONTAINERS
 container_is_below g x w h = let few = few_containers g w in let there = variable_is_there g.containers x h in omega (arith, few, there)
 
+-- an iterator or reference has
 pub iterator_is_below : (g : Scope) (x : ℕ) → is_within g ≡ true → has_type (variable_type g.iterators x) ≡ true → x < ITERATORS
 iterator_is_below g x w h = let few = few_iterators g w in let there = variable_is_there g.iterators x h in omega (arith, few, there)

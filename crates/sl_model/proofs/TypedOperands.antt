@@ -38,15 +38,18 @@ second_iterator_typed (iterator_type b x) no_type h = absurd cc
 second_iterator_typed (iterator_type b x) v h = refl
 second_iterator_typed u v h = absurd cc
 
+-- an operand that passes a test has a type
 one_typed : (test : ExprType → Bool) → test no_type ≡ false → (us : List ExprType) → one test us ≡ true → all_typed us ≡ true
 one_typed test n [] h = absurd cc
 one_typed test n (u ∷ []) h = both_true (has_type u) true (typed_by test n u h) refl
 one_typed test n (u ∷ v ∷ us) h = absurd cc
 
+-- so has one that may be missing
 optional_typed : (test : ExprType → Bool) → test no_type ≡ false → (us : List ExprType) → optional test us ≡ true → all_typed us ≡ true
 optional_typed test n [] h = refl
 optional_typed test n (u ∷ us) h = one_typed test n (u ∷ us) h
 
+-- so have the two ends of a range
 range_typed : (test : ExprType → Bool) → test no_type ≡ false → (us : List ExprType) → range test us ≡ true → all_typed us ≡ true
 range_typed test n [] h = absurd cc
 range_typed test n (u ∷ []) h = absurd cc
@@ -60,6 +63,7 @@ all_passing_typed test n [] h = refl
 all_passing_typed test n (u ∷ us) h = both_true (has_type u) (all_typed us) (typed_by test n u (first_of_both (test u) (list_all test us) h))
     (all_passing_typed test n us (second_of_both (test u) (list_all test us) h))
 
+-- so have the elements of a list
 elements_typed : (us : List ExprType) → elements us ≡ true → all_typed us ≡ true
 elements_typed [] h = absurd cc
 elements_typed (u ∷ us) h = all_passing_typed (is_scalar t.Int) refl (u ∷ us) h

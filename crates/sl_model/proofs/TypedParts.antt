@@ -49,18 +49,20 @@ pub inverted_number : (g : Scope) (at : Place) (e : Expr) → has_type (type_of 
 unfolding type_of
 inverted_number g at e h = only_holds (is_number (type_of g e)) (scalar_type t.Bool) h
 
--- both operands of `&&` are numbers, and those of `||`
+-- two operands of which both are asked to be numbers are
 pub both_numbers : (u v : ExprType) → has_type (only (is_number u && is_number v) (scalar_type t.Bool)) ≡ true
     → (is_number u ≡ true) × (is_number v ≡ true)
 both_numbers u v h =
     let both = only_holds (is_number u && is_number v) (scalar_type t.Bool) h in
     (first_of_both (is_number u) (is_number v) both, second_of_both (is_number u) (is_number v) both)
 
+-- both operands of `&&` are numbers
 pub numbers_of_and : (g : Scope) (at : Place) (d e : Expr) → has_type (type_of g (logical_and at d e)) ≡ true
     → (is_number (type_of g d) ≡ true) × (is_number (type_of g e) ≡ true)
 unfolding type_of
 numbers_of_and g at d e h = both_numbers (type_of g d) (type_of g e) h
 
+-- both operands of `||` are
 pub numbers_of_or : (g : Scope) (at : Place) (d e : Expr) → has_type (type_of g (logical_or at d e)) ≡ true
     → (is_number (type_of g d) ≡ true) × (is_number (type_of g e) ≡ true)
 unfolding type_of
@@ -129,28 +131,32 @@ pub function_call : (g : Scope) (n : ℕ) (at : Place) (ops : Operands) → has_
 unfolding type_of
 function_call g n at ops h = h
 
--- `.first` and `.second` stand on what has a type
+-- `.first` stands on what has a type
 pub first_stands : (g : Scope) (at : Place) (e : Expr) → has_type (type_of g (first at e)) ≡ true → has_type (type_of g e) ≡ true
 unfolding type_of
 first_stands g at e h = typed_by (λ u. has_type (type_of_first u)) refl (type_of g e) h
 
+-- `.second` does
 pub second_stands : (g : Scope) (at : Place) (e : Expr) → has_type (type_of g (second at e)) ≡ true → has_type (type_of g e) ≡ true
 unfolding type_of
 second_stands g at e h = typed_by (λ u. has_type (type_of_second u)) refl (type_of g e) h
 
--- a variable that has a type where it is used is there
+-- an iterator that has a type where it is used is there
 pub iterator_there : (g : Scope) (x : ℕ) → has_type (type_of g (iterator x)) ≡ true → has_type (variable_type g.iterators x) ≡ true
 unfolding type_of
 iterator_there g x h = typed_by is_iterator refl (variable_type g.iterators x) (only_holds (is_iterator (variable_type g.iterators x)) _ h)
 
+-- a container is
 pub container_there : (g : Scope) (x : ℕ) → has_type (type_of g (container x)) ≡ true → has_type (variable_type g.containers x) ≡ true
 unfolding type_of
 container_there g x h = h
 
+-- a scalar that is handed over is
 pub handed_there : (g : Scope) (x : ℕ) → has_type (type_of g (handed_scalar x)) ≡ true → has_type (variable_type g.scalars x) ≡ true
 unfolding type_of
 handed_there g x h = typed_by (λ u. has_type (handed u)) refl (variable_type g.scalars x) h
 
+-- a scalar that is read or written is
 pub scalar_there : (g : Scope) (x : ℕ) (at : Place) → has_type (type_of_left g (scalar x at)) ≡ true → has_type (variable_type g.scalars x) ≡ true
 unfolding type_of_left
 scalar_there g x at h = h
@@ -161,6 +167,7 @@ no_use parts.Whole = refl
 no_use parts.First = refl
 no_use parts.Second = refl
 
+-- a reference is
 pub reference_there : (g : Scope) (x : ℕ) (at : Place) (name : ℕ) (part : ElementPart) → has_type (type_of_left g (reference x at name part)) ≡ true
     → has_type (variable_type g.iterators x) ≡ true
 unfolding type_of_left

@@ -27,17 +27,20 @@ use Rattle.sl_model.proofs.TypedNumbers.{IsNode}
 use Rattle.sl_model.proofs.TypedExpressions.{IsFine, AreFine, no_type_goes, and_false, both_fine, called_fine, expression_is_fine, left_is_fine}
 use Rattle.sl_model.proofs.TypedExpressions.{passing_is_fine, operands_are_fine}
 
+-- the nodes of a typed condition are fine
 cond_is_fine : (g : Scope) (k : Cond) → is_typed_cond g k ≡ true → AreFine g.functions (nodes_in_cond k)
 cond_is_fine g (read xs) h = tt
 cond_is_fine g (not_read xs) h = tt
 cond_is_fine g (test e) h = passing_is_fine g e is_number refl h
 cond_is_fine g always h = tt
 
+-- those of an item of a print are
 item_is_fine : (g : Scope) (item : Printed) → is_typed_item g item ≡ true → AreFine g.functions (nodes_in_printed item)
 item_is_fine g (text bytes) h = tt
 item_is_fine g endline h = tt
 item_is_fine g (number e) h = passing_is_fine g e is_number refl h
 
+-- those of a print are
 items_are_fine : (g : Scope) (items : List Printed) → list_all (is_typed_item g) items ≡ true → AreFine g.functions (flat_map nodes_in_printed items)
 items_are_fine g [] h = tt
 items_are_fine g (item ∷ items) h = both_fine g.functions (nodes_in_printed item) (flat_map nodes_in_printed items)
@@ -50,6 +53,7 @@ no_type_taken (scalar_type s) = refl
 no_type_taken (element_type w) = and_false w
 no_type_taken u = refl
 
+-- those of an effect are
 effect_is_fine : (g : Scope) (w : Effect) → is_typed_effect g w ≡ true → AreFine g.functions (nodes_in_effect w)
 effect_is_fine g (reads xs) h = tt
 effect_is_fine g (prints items) h = items_are_fine g items h
@@ -64,10 +68,12 @@ effect_is_fine g (updates op s r at l e) h =
     (passing_is_fine g e (is_scalar s) refl (second_of_both (is_written_left g r l && works_in r s) (is_scalar s (type_of g e)) h))
 effect_is_fine g (moves_to x e) h = expression_is_fine g e (second_iterator_typed (variable_type g.iterators x) (type_of g e) h)
 
+-- those of the last part of a `for` are
 last_is_fine : (g : Scope) (last : Option Effect) → is_typed_last g last ≡ true → AreFine g.functions (nodes_in_last last)
 last_is_fine g None h = tt
 last_is_fine g (Some w) h = effect_is_fine g w h
 
+-- those of a declaration are
 declaration_is_fine : (g : Scope) (d : Declaration) → is_typed_declaration g d ≡ true → AreFine g.functions (nodes_in_declaration d)
 unfolding nodes_in_left
 declaration_is_fine g (unset_scalar s) h = (tt, tt)
@@ -80,6 +86,7 @@ declaration_is_fine g (makes form c ops) h =
     let fine = called_fine g c ops known (operands_are_fine g ops known.0) in
     (fine.0, both_fine g.functions (nodes_in_operands ops) _ fine.1 (tt, tt))
 
+-- those of the first part of a `for` are
 first_is_fine : (g : Scope) (head : First) → is_typed_first g head ≡ true → AreFine g.functions (nodes_in_first head)
 first_is_fine g no_first h = tt
 first_is_fine g (declares_first (set_scalar s e)) h = declaration_is_fine g (set_scalar s e) h
@@ -87,13 +94,14 @@ first_is_fine g (declares_first (set_iterator e)) h = declaration_is_fine g (set
 first_is_fine g (declares_first d) h = absurd cc
 first_is_fine g (does_first w) h = effect_is_fine g w h
 
+-- those of a returned value are
 return_is_fine : (g : Scope) (k : Option ParameterKind) (value : Option Expr) → is_typed_return g k value ≡ true
     → AreFine g.functions (nodes_in_value value)
 return_is_fine g k None h = tt
 return_is_fine g None (Some e) h = absurd cc
 return_is_fine g (Some k) (Some e) h = passing_is_fine g e (goes_to k) (no_type_goes k) h
 
--- the functions of a text stay known
+-- the functions of a text stay known behind a declaration
 functions_behind : (d : Declaration) (g : Scope) → (behind d g).functions ≡ g.functions
 functions_behind (unset_scalar s) g = refl
 functions_behind (set_scalar s e) g = refl
@@ -101,16 +109,19 @@ functions_behind (set_iterator e) g = refl
 functions_behind (binds_reference c ops) g = refl
 functions_behind (makes form c ops) g = refl
 
+-- they do behind the first part of a `for`
 functions_behind_first : (head : First) (g : Scope) → (behind_first head g).functions ≡ g.functions
 functions_behind_first no_first g = refl
 functions_behind_first (declares_first d) g = functions_behind d g
 functions_behind_first (does_first w) g = refl
 
+-- they do in a range-for
 functions_in_range : (how : Taken) (u : ExprType) (g : Scope) → (in_range how u g).functions ≡ g.functions
 functions_in_range taken.Value (container_type access x) g = refl
 functions_in_range taken.Reference (container_type access x) g = refl
 functions_in_range how u g = refl
 
+-- they do where parameters come into scope
 functions_with_parameters : (ks : List ParameterKind) (g : Scope) → (with_parameters ks g).functions ≡ g.functions
 functions_with_parameters [] g = refl
 functions_with_parameters (parameters.Value s ∷ ks) g = functions_with_parameters ks (with_parameter (parameters.Value s) g)

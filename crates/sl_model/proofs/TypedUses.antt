@@ -33,18 +33,20 @@ abbrev pub uses_in_read : List ℕ → List Variable
 uses_in_read [] = []
 uses_in_read (x ∷ xs) = the_scalar x ∷ uses_in_read xs
 
--- the variables that a part of a statement uses
+-- the variables that a condition uses
 abbrev pub uses_in_cond : Cond → List Variable
 uses_in_cond (read xs) = uses_in_read xs
 uses_in_cond (not_read xs) = uses_in_read xs
 uses_in_cond (test e) = uses_in e
 uses_in_cond always = []
 
+-- those that a print uses
 abbrev pub uses_in_items : List Printed → List Variable
 uses_in_items [] = []
 uses_in_items (number e ∷ items) = uses_in e ++ uses_in_items items
 uses_in_items (item ∷ items) = uses_in_items items
 
+-- those that an effect uses
 abbrev pub uses_in_effect : Effect → List Variable
 uses_in_effect (reads xs) = uses_in_read xs
 uses_in_effect (prints items) = uses_in_items items
@@ -53,10 +55,12 @@ uses_in_effect (assigns l e) = uses_in_left l ++ uses_in e
 uses_in_effect (updates op s r at l e) = uses_in_left l ++ uses_in e
 uses_in_effect (moves_to x e) = the_iterator x ∷ uses_in e
 
+-- those that the last part of a `for` uses
 abbrev pub uses_in_last : Option Effect → List Variable
 uses_in_last None = []
 uses_in_last (Some w) = uses_in_effect w
 
+-- those that a declaration uses
 abbrev pub uses_in_declaration : Declaration → List Variable
 uses_in_declaration (unset_scalar s) = []
 uses_in_declaration (set_scalar s e) = uses_in e
@@ -64,11 +68,13 @@ uses_in_declaration (set_iterator e) = uses_in e
 uses_in_declaration (binds_reference c ops) = uses_in_left (element c ops)
 uses_in_declaration (makes form c ops) = uses_in_operands ops
 
+-- those that the first part of a `for` uses
 abbrev pub uses_in_first : First → List Variable
 uses_in_first no_first = []
 uses_in_first (declares_first d) = uses_in_declaration d
 uses_in_first (does_first w) = uses_in_effect w
 
+-- those that a returned value uses
 abbrev pub uses_in_value : Option Expr → List Variable
 uses_in_value None = []
 uses_in_value (Some e) = uses_in e
@@ -98,6 +104,7 @@ passing_below : (g : Scope) (e : Expr) (check : ExprType → Bool) → check no_
     → AreBelow (uses_in e)
 passing_below g e check n w h = expression_below g e w (typed_by check n (type_of g e) h)
 
+-- the scalars of a read are below the limit
 read_below : (g : Scope) (xs : List ℕ) → is_within g ≡ true → are_ints g xs ≡ true → AreBelow (uses_in_read xs)
 read_below g [] w h = tt
 read_below g (x ∷ xs) w h =
@@ -106,12 +113,14 @@ read_below g (x ∷ xs) w h =
       read_below g xs w (second_of_both (is_scalar t.Int (variable_type g.scalars x)) (are_ints g xs) h),
     )
 
+-- the variables of a typed condition are below the limits
 cond_below : (g : Scope) (k : Cond) → is_within g ≡ true → is_typed_cond g k ≡ true → AreBelow (uses_in_cond k)
 cond_below g (read xs) w h = read_below g xs w h
 cond_below g (not_read xs) w h = read_below g xs w h
 cond_below g (test e) w h = passing_below g e is_number refl w h
 cond_below g always w h = tt
 
+-- those of a print are
 items_below : (g : Scope) (items : List Printed) → is_within g ≡ true → list_all (is_typed_item g) items ≡ true → AreBelow (uses_in_items items)
 items_below g [] w h = tt
 items_below g (number e ∷ items) w h = both_below (uses_in e) (uses_in_items items)
@@ -119,6 +128,7 @@ items_below g (number e ∷ items) w h = both_below (uses_in e) (uses_in_items i
     (items_below g items w (second_of_both (is_number (type_of g e)) (list_all (is_typed_item g) items) h))
 items_below g (item ∷ items) w h = items_below g items w h
 
+-- those of an effect are
 effect_below : (g : Scope) (v : Effect) → is_within g ≡ true → is_typed_effect g v ≡ true → AreBelow (uses_in_effect v)
 effect_below g (reads xs) w h = read_below g xs w h
 effect_below g (prints items) w h = items_below g items w h
@@ -136,10 +146,12 @@ effect_below g (moves_to x e) w h = (
   expression_below g e w (second_iterator_typed (variable_type g.iterators x) (type_of g e) h),
 )
 
+-- those of the last part of a `for` are
 last_below : (g : Scope) (last : Option Effect) → is_within g ≡ true → is_typed_last g last ≡ true → AreBelow (uses_in_last last)
 last_below g None w h = tt
 last_below g (Some v) w h = effect_below g v w h
 
+-- those of a declaration are
 declaration_below : (g : Scope) (d : Declaration) → is_within g ≡ true → is_typed_declaration g d ≡ true → AreBelow (uses_in_declaration d)
 declaration_below g (unset_scalar s) w h = tt
 declaration_below g (set_scalar s e) w h = passing_below g e (is_scalar s) refl w h
@@ -148,6 +160,7 @@ declaration_below g (binds_reference c ops) w h = left_below g (element c ops) w
 declaration_below g (makes form c ops) w h =
     let known = making_known form c.callee c.object (types_of g ops) h in operands_below g ops w known.0
 
+-- those of the first part of a `for` are
 first_below : (g : Scope) (head : First) → is_within g ≡ true → is_typed_first g head ≡ true → AreBelow (uses_in_first head)
 first_below g no_first w h = tt
 first_below g (declares_first (set_scalar s e)) w h = declaration_below g (set_scalar s e) w h
@@ -155,6 +168,7 @@ first_below g (declares_first (set_iterator e)) w h = declaration_below g (set_i
 first_below g (declares_first d) w h = absurd cc
 first_below g (does_first v) w h = effect_below g v w h
 
+-- those of a returned value are
 return_below : (g : Scope) (k : Option ParameterKind) (value : Option Expr) → is_within g ≡ true → is_typed_return g k value ≡ true
     → AreBelow (uses_in_value value)
 return_below g k None w h = tt

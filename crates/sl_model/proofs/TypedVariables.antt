@@ -21,8 +21,8 @@ use Rattle.sl_model.proofs.TypedParts.{iterator_there, container_there, handed_t
 use Rattle.sl_model.proofs.TypedNumbers.{scalar_is_below, container_is_below, iterator_is_below}
 use Rattle.sl_model.proofs.TypedExpressions.{comparable_first, comparable_second, function_known}
 
--- the variables that an expression uses
 abbrev mutual
+  -- the variables that an expression uses
   pub uses_in : Expr → List Variable
   uses_in (literal s z) = []
   uses_in (held l) = uses_in_left l

@@ -1,9 +1,9 @@
 -- The typed texts that everything behind typing is about: each number names what is there, and each node has what it needs.
 --
 -- Restates ISO/IEC 14882:2017 as the parts do, [basic.start.main], and [implimits] by numbers of its own.
--- Chosen here: a text is typed as a tree alone, so it may have functions that no source text has, as copies that share sites and loops, calls of later
--- functions, and parameters for elements alone. `w = v` is right where v is const. Of what a source text may not have, names aren't looked at, since
--- numbers stand for them, and neither is whether a reference was written const. Literals may have no sign, and no number is past its type.
+-- Chosen here: a text is judged by its tree alone. So it may have what no source text has: functions that are copies of one and share its sites and
+-- loops, calls of functions that stand later, and parameters for elements alone. `w = v` is right where v is const. Not asked is what the tree doesn't
+-- say: which names are declared twice or are the library's, and whether a reference was written const.
 use Rattle.std.specs.Prelude.{◌≡◌, nat_le, Bool, true, ◌&&◌, length, flat_map, slice_get}
 use Rattle.std.specs.List.{list_all}
 use Rattle.sl_base.specs.declared.limits.TheConstants.{FUNCTIONS, SITES}

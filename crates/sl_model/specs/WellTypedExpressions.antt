@@ -52,12 +52,13 @@ abbrev pub handed : ExprType → ExprType
 handed (scalar_type s) = handed_type s
 handed u = no_type
 
--- the types of `.first` and `.second` of a pair; an insertion is made on a container that isn't const
+-- the type of `.first` of a pair; an insertion is made on a container that isn't const
 abbrev pub type_of_first : ExprType → ExprType
 type_of_first (iterator_and_bool x) = iterator_type false x
 type_of_first (two_iterators b x) = iterator_type b x
 type_of_first u = no_type
 
+-- that of `.second`
 abbrev pub type_of_second : ExprType → ExprType
 type_of_second (iterator_and_bool x) = scalar_type t.Bool
 type_of_second (two_iterators b x) = iterator_type b x

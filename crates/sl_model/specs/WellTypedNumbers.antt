@@ -158,11 +158,12 @@ operator_word operators.SubtractAssign = codes "-="
 operator_word operators.Difference = codes "-"
 operator_word (operators.Compare o) = comparison_word o
 
--- the name of a row, if it is there, and whether it has needs
+-- the name of the call that a row is of, if it is there
 abbrev pub row_word : Option Row → List ℕ
 row_word None = []
 row_word (Some row) = call_text row.call
 
+-- a row, if it is there, has needs
 abbrev pub row_asks : Option Row → Bool
 row_asks None = false
 row_asks (Some row) = elim row.needs as (λ _. Bool) [ [] ↦ false | need ∷ needs ↦ true ]

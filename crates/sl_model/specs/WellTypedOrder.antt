@@ -57,11 +57,12 @@ bound_in (container x) = the_container x ∷ []
 bound_in (handed_scalar x) = the_scalar x ∷ []
 bound_in e = []
 
--- the container that an operand is, and the iterator variable
+-- the container that an operand is
 abbrev pub container_in : Expr → List Variable
 container_in (container x) = the_container x ∷ []
 container_in e = []
 
+-- the iterator variable that an operand is
 abbrev pub iterator_in : Expr → List Variable
 iterator_in (iterator x) = the_iterator x ∷ []
 iterator_in e = []

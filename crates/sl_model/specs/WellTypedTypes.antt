@@ -54,13 +54,15 @@ is_within g = nat_le (length g.scalars) SCALARS && nat_le (length g.containers) 
 abbrev pub variable_type : List ExprType → ℕ → ExprType
 variable_type us x = slice_index_or us x no_type
 
--- a scalar, a container, and an iterator or reference comes into scope
+-- a scalar comes into scope
 abbrev pub with_scalar : ExprType → Scope → Scope
 with_scalar u g = record g { scalars = g.scalars ++ u ∷ [] }
 
+-- a container does
 abbrev pub with_container : ExprType → Scope → Scope
 with_container u g = record g { containers = g.containers ++ u ∷ [] }
 
+-- an iterator does, or a reference
 abbrev pub with_iterator : ExprType → Scope → Scope
 with_iterator u g = record g { iterators = g.iterators ++ u ∷ [] }
 

@@ -81,10 +81,11 @@ not_well p part h w =
 abbrev pub at : ℕ → ℕ → Place
 at l c = record { line = l; col = c }
 
--- a call of a row on a container, and of one that is a site
+-- a call of a row on a container
 abbrev pub on : ℕ → Place → ℕ → Head
 on n at x = record { callee = callees.Row n; place = at; site = None; object = Some x; names = [] }
 
+-- one that is a site
 abbrev pub on_site : ℕ → Place → ℕ → ℕ → Head
 on_site n at site x = record { callee = callees.Row n; place = at; site = Some site; object = Some x; names = [] }
 
@@ -108,10 +109,11 @@ int n = literal t.Int (pos n)
 abbrev pub value : ℕ → Expr
 value x = held (scalar x (at 1 1))
 
--- a call of the library that gives a value, and one that gives an element
+-- a call of the library that gives a value
 abbrev pub calls : Head → List Expr → Expr
 calls h es = call h (operands_from es)
 
+-- one that gives an element
 abbrev pub element_of : Head → List Expr → Expr
 element_of h es = held (element h (operands_from es))
 
@@ -139,10 +141,11 @@ begun at v = declares (set_iterator (calls (on sequence.VECTOR_BEGIN at v) []))
 abbrev pub pushed : Place → ℕ → ℕ → Expr → Stmt
 pushed at site v e = done (calls (on_site sequence.VECTOR_PUSH_BACK at site v) (e ∷ []))
 
--- a block, and one that declares containers
+-- a block
 abbrev pub body : List Stmt → Stmt
 body all = block None (stmts_from all)
 
+-- one that declares containers, with the site of its brace
 abbrev pub body_at : ℕ → List Stmt → Stmt
 body_at site all = block (Some site) (stmts_from all)
 
