@@ -43,7 +43,7 @@ pub mod LongerCalls
 -- ## Worked examples
 pub mod Examples
 -- ## Well typed texts
-pub mod TypedLists
+pub mod Passing
 pub mod TypedNumbers
 pub mod TypedOperands
 pub mod TypedCalls

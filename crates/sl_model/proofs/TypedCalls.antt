@@ -21,14 +21,16 @@ use Rattle.sl_model.specs.WellTypedTypes.{is_iterator, is_iterator_of, is_writin
 use Rattle.sl_model.specs.WellTypedTypes.{is_container_of, is_changed_container, is_sequence}
 use Rattle.sl_model.specs.WellTypedCalls.{is_int_iterator, is_bidirectional}
 use Rattle.std.proofs.lemmas.List.{take_all}
-use Rattle.sl_model.specs.WellTypedCalls.{one, optional, range, elements, fits_letter, width, fits, operator_type, call_type, row_type, member_type, algorithm_type, appending_type, constructs, row_at}
+use Rattle.sl_model.specs.WellTypedCalls.{one, optional, range, elements, fits_letter, width, fits, operator_type, call_type, row_type, member_type}
+use Rattle.sl_model.specs.WellTypedCalls.{algorithm_type, appending_type, constructs, row_at}
 use Rattle.sl_model.specs.WellTypedCalls.{is_constructor, may_be_called, is_algorithm, is_output, appending, result_type, is_equality, is_random}
 use Rattle.sl_model.specs.WellTypedStatements.{is_making}
-use Rattle.sl_model.proofs.TypedLists.{first_of_both, second_of_both, both_true, first_of_neither, second_of_neither}
+use Rattle.sl_model.proofs.Passing.{first_of_both, second_of_both, both_true, first_of_neither, second_of_neither}
 use Rattle.sl_model.proofs.TypedOperands.{typed_by, only_holds, only_rest, all_typed, fitting_typed, second_iterator_typed}
 
 -- the second operand of an operator has a type where the first is an iterator and the call has one
-two_typed : (b : Bool) (x : Form) (test : ExprType → Bool) → test no_type ≡ false → (c : Bool) (u w : ExprType) → has_type (only (c && test u) w) ≡ true
+two_typed : (b : Bool) (x : Form) (test : ExprType → Bool) → test no_type ≡ false → (c : Bool) (u w : ExprType)
+    → has_type (only (c && test u) w) ≡ true
     → all_typed (iterator_type b x ∷ u ∷ []) ≡ true
 two_typed b x test n c u w h =
     both_true (has_type u) true (typed_by test n u (second_of_both c (test u) (only_holds (c && test u) w h))) refl
@@ -39,7 +41,8 @@ first_iterator_typed no_type v h = absurd cc
 first_iterator_typed u v h = refl
 
 -- two iterators that are compared have types
-compared_typed : (o : Comparison) (u v : ExprType) → has_type (operator_type (operators.Compare o) (u ∷ v ∷ [])) ≡ true → all_typed (u ∷ v ∷ []) ≡ true
+compared_typed : (o : Comparison) (u v : ExprType) → has_type (operator_type (operators.Compare o) (u ∷ v ∷ [])) ≡ true
+    → all_typed (u ∷ v ∷ []) ≡ true
 compared_typed o u v h =
     let same = first_of_both (same_iterators u v) (if is_equality o then true else is_random u)
     (only_holds (same_iterators u v && (if is_equality o then true else is_random u)) (scalar_type t.Bool) h) in
@@ -52,7 +55,8 @@ operator_operands_typed operators.ArrowFirst (iterator_type b x ∷ []) h = refl
 operator_operands_typed operators.ArrowSecond (iterator_type b x ∷ []) h = refl
 operator_operands_typed operators.Increment (iterator_type b x ∷ []) h = refl
 operator_operands_typed operators.Decrement (iterator_type b x ∷ []) h = refl
-operator_operands_typed operators.Add (iterator_type b x ∷ u ∷ []) h = two_typed b x (is_scalar t.Diff) refl (is_random_access x) u (iterator_type b x) h
+operator_operands_typed operators.Add (iterator_type b x ∷ u ∷ []) h =
+    two_typed b x (is_scalar t.Diff) refl (is_random_access x) u (iterator_type b x) h
 operator_operands_typed operators.Subtract (iterator_type b x ∷ u ∷ []) h =
     two_typed b x (is_scalar t.Diff) refl (is_random_access x) u (iterator_type b x) h
 operator_operands_typed operators.AddAssign (iterator_type b x ∷ u ∷ []) h = two_typed b x (is_scalar t.Diff) refl (is_random_access x) u empty_type h

@@ -17,11 +17,13 @@ use Rattle.sl_model.specs.WellTypedExpressions.{type_of, type_of_left, types_of}
 use Rattle.sl_model.specs.WellTypedNodes.{Node, a_call, an_own_call}
 use Rattle.sl_model.specs.WellTypedNodes.{nodes_in, nodes_in_left, nodes_in_operands}
 use Rattle.sl_model.specs.WellTypedOrder.{listed}
-use Rattle.sl_model.proofs.TypedLists.{first_of_both, second_of_both, both_true}
+use Rattle.sl_model.proofs.Passing.{first_of_both, second_of_both, both_true}
 use Rattle.sl_model.proofs.TypedOperands.{typed_by, only_holds, all_typed}
 use Rattle.sl_model.proofs.TypedCalls.{IsThere, Known, call_known}
-use Rattle.sl_model.proofs.TypedParts.{held_typed, converted_number, negated_number, inverted_number, numbers_of_and, numbers_of_or, calculated_numbers}
-use Rattle.sl_model.proofs.TypedParts.{compared_numbers, stepped_number, moving_call, value_call, element_call, function_call, first_stands, second_stands}
+use Rattle.sl_model.proofs.TypedParts.{held_typed, converted_number, negated_number, inverted_number, numbers_of_and, numbers_of_or}
+use Rattle.sl_model.proofs.TypedParts.{calculated_numbers}
+use Rattle.sl_model.proofs.TypedParts.{compared_numbers, stepped_number, moving_call, value_call, element_call, function_call, first_stands}
+use Rattle.sl_model.proofs.TypedParts.{second_stands}
 
 -- a function is there, and has n parameters
 pub record IsOwn (functions : List Function) (number n : ℕ) : Type 0 where
@@ -72,7 +74,8 @@ pub function_known : (fs : List Function) (number : ℕ) (b : Bool) (found : Opt
     → has_type (function_type b found us) ≡ true → (all_typed us ≡ true) × IsOwn fs number (length us)
 function_known fs number b None us e h = absurd cc
 function_known fs number b (Some f) us e h =
-    let known = going_known f.parameters us (second_of_both b (go_to f.parameters us) (only_holds (b && go_to f.parameters us) (type_given f.result) h)) in
+    let known = going_known f.parameters us (second_of_both b (go_to f.parameters us) (only_holds (b
+    && go_to f.parameters us) (type_given f.result) h)) in
     (known.0, record { function = f; there = e; count = known.1 })
 
 -- nothing is true beside what isn't
@@ -103,20 +106,22 @@ mutual
   unfolding nodes_in nodes_in_left nodes_in_operands types_of
 
   -- the nodes of an expression that has a type are fine
-
   pub expression_is_fine : (g : Scope) (e : Expr) → has_type (type_of g e) ≡ true → AreFine g.functions (nodes_in e)
   expression_is_fine g (literal s z) h = (tt, tt)
   expression_is_fine g (held l) h = left_is_fine g l (held_typed g l h)
   expression_is_fine g (iterator x) h = tt
   expression_is_fine g (convert s e) h = expression_is_fine g e (typed_by is_number refl (type_of g e) (converted_number g s e h))
-  expression_is_fine g (negate s at e) h = let parts = negated_number g s at e h in expression_is_fine g e (typed_by (is_scalar s) refl (type_of g e) parts.1)
+  expression_is_fine g (negate s at e) h = let parts = negated_number g s at e h in
+      expression_is_fine g e (typed_by (is_scalar s) refl (type_of g e) parts.1)
   expression_is_fine g (logical_not at e) h = expression_is_fine g e (typed_by is_number refl (type_of g e) (inverted_number g at e h))
   expression_is_fine g (logical_and at d e) h =
       let parts = numbers_of_and g at d e h in
-      both_fine g.functions (nodes_in d) (nodes_in e) (expression_is_fine g d (typed_by is_number refl (type_of g d) parts.0)) (expression_is_fine g e (typed_by is_number refl (type_of g e) parts.1))
+      both_fine g.functions (nodes_in d) (nodes_in e) (expression_is_fine g d (typed_by is_number refl (type_of g d) parts.0))
+      (expression_is_fine g e (typed_by is_number refl (type_of g e) parts.1))
   expression_is_fine g (logical_or at d e) h =
       let parts = numbers_of_or g at d e h in
-      both_fine g.functions (nodes_in d) (nodes_in e) (expression_is_fine g d (typed_by is_number refl (type_of g d) parts.0)) (expression_is_fine g e (typed_by is_number refl (type_of g e) parts.1))
+      both_fine g.functions (nodes_in d) (nodes_in e) (expression_is_fine g d (typed_by is_number refl (type_of g d) parts.0))
+      (expression_is_fine g e (typed_by is_number refl (type_of g e) parts.1))
   expression_is_fine g (arithmetic op s at d e) h =
       let parts = calculated_numbers g op s at d e h in (
         tt,

@@ -11,7 +11,7 @@ use Rattle.sl_model.specs.WellTypedNumbers.{site_in, loop_in, go_up, are_numbers
 use Rattle.sl_model.specs.WellTypedNumbers.{has_due_site, tells_names}
 use Rattle.sl_model.specs.WellTypedOrder.{binds_apart, is_ordered}
 use Rattle.sl_model.specs.WellTyped.{has_numbers, has_sites, has_no_alias, has_order, has_names, WellTyped}
-use Rattle.sl_model.proofs.TypedLists.{first_of_both, second_of_both, passes_at, given_passes, flat_map_passes}
+use Rattle.sl_model.proofs.Passing.{first_of_both, second_of_both, passes_at, given_passes, flat_map_passes}
 
 -- the sites and the loops of a function of a well typed text are numbered
 numbered : (p : Typed) → WellTyped p → (n : ℕ) (h : Function) → slice_get p.functions n ≡ Some h → is_numbered p h ≡ true

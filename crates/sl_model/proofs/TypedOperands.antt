@@ -11,7 +11,7 @@ use Rattle.sl_model.specs.WellTypedTypes.{ExprType, no_type, iterator_type}
 use Rattle.sl_model.specs.WellTypedTypes.{has_type, only, is_scalar, is_iterator}
 use Rattle.sl_model.specs.WellTypedTypes.{is_iterator_of, is_writing_iterator, same_iterators, is_container_of, is_changed_container, is_sequence}
 use Rattle.sl_model.specs.WellTypedCalls.{one, optional, range, elements, is_int_iterator, is_bidirectional, is_random, fits_letter, width, fits}
-use Rattle.sl_model.proofs.TypedLists.{first_of_both, second_of_both, both_true}
+use Rattle.sl_model.proofs.Passing.{first_of_both, second_of_both, both_true}
 
 -- what passes a test that `no_type` doesn't pass has a type
 pub typed_by : (test : ExprType → Bool) → test no_type ≡ false → (u : ExprType) → test u ≡ true → has_type u ≡ true

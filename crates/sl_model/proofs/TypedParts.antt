@@ -12,13 +12,14 @@ use Rattle.sl_syntax.specs.declared.typed.head.Head.{Head}
 use Rattle.sl_syntax.specs.declared.typed.step.Fix.{Fix}
 use Rattle.sl_syntax.specs.declared.typed.step.Step.{Step}
 use Rattle.sl_syntax.specs.Typed.{Expr, literal, held, iterator, convert, negate, logical_not, logical_and, logical_or, arithmetic, comparison}
-use Rattle.sl_syntax.specs.Typed.{increment, move, call, own_call, first, second, container, handed_scalar, Left, scalar, reference, element, Operands}
+use Rattle.sl_syntax.specs.Typed.{increment, move, call, own_call, first, second, container, handed_scalar, Left, scalar, reference, element}
+use Rattle.sl_syntax.specs.Typed.{Operands}
 use Rattle.sl_model.specs.WellTypedTypes.{ExprType, no_type, scalar_type, Scope, variable_type, has_type, only, is_scalar, is_number, is_written}
 use Rattle.sl_model.specs.WellTypedTypes.{is_arithmetic, are_comparable, is_iterator}
 use Rattle.sl_model.specs.WellTypedCalls.{call_type, is_moving}
 use Rattle.sl_model.specs.WellTypedExpressions.{is_literal, only_value, only_element, type_of_first, type_of_second, type_of_use, handed}
 use Rattle.sl_model.specs.WellTypedExpressions.{function_type, is_arrow, is_variable, type_of, type_of_left, types_of}
-use Rattle.sl_model.proofs.TypedLists.{first_of_both, second_of_both}
+use Rattle.sl_model.proofs.Passing.{first_of_both, second_of_both}
 use Rattle.sl_model.proofs.TypedOperands.{typed_by, only_holds, only_rest}
 
 -- a literal is a number of its type
@@ -87,7 +88,8 @@ unfolding type_of
 compared_numbers g op at d e h = only_holds (are_comparable (type_of g d) (type_of g e)) (scalar_type t.Bool) h
 
 -- `++` and `--` stand at a number of their type, which isn't bool, that may be written
-pub stepped_number : (g : Scope) (step : Step) (fix : Fix) (s : Scalar) (at : Place) (l : Left) → has_type (type_of g (increment step fix s at l)) ≡ true
+pub stepped_number : (g : Scope) (step : Step) (fix : Fix) (s : Scalar) (at : Place) (l : Left)
+    → has_type (type_of g (increment step fix s at l)) ≡ true
     → (is_arithmetic s ≡ true) × (is_scalar s (type_of_left g l) ≡ true) × (is_written (type_of_left g l) ≡ true)
 unfolding type_of
 stepped_number g step fix s at l h =

@@ -20,7 +20,7 @@ use Rattle.sl_model.specs.WellTypedStatements.{is_typed_last, is_typed_declarati
 use Rattle.sl_model.specs.WellTypedStatements.{in_range, is_typed_return, is_typed_stmt, are_typed_stmts, with_parameter, with_parameters}
 use Rattle.sl_model.specs.WellTypedStatements.{no_variables, is_block, is_typed_function}
 use Rattle.sl_model.specs.WellTyped.{has_types, WellTyped}
-use Rattle.sl_model.proofs.TypedLists.{first_of_both, second_of_both, three_parts, five_parts, passes_at}
+use Rattle.sl_model.proofs.Passing.{first_of_both, second_of_both, three_parts, five_parts, passes_at}
 use Rattle.sl_model.proofs.TypedOperands.{typed_by, second_iterator_typed}
 use Rattle.sl_model.proofs.TypedCalls.{making_known}
 use Rattle.sl_model.proofs.TypedNumbers.{IsNode}
@@ -62,9 +62,10 @@ effect_is_fine g (assigns l e) h = both_fine g.functions (nodes_in_left l) (node
     (left_is_fine g l (typed_by (λ u. takes u (type_of g e)) refl (type_of_left g l) h))
     (passing_is_fine g e (takes (type_of_left g l)) (no_type_taken (type_of_left g l)) h)
 effect_is_fine g (updates op s r at l e) h =
-    let left = first_of_both (is_written_left g r l) (works_in r s) (first_of_both (is_written_left g r l && works_in r s) (is_scalar s (type_of g e)) h) in
-    both_fine g.functions (nodes_in_left l) (nodes_in e)
-    (left_is_fine g l (typed_by (is_scalar r) refl (type_of_left g l) (first_of_both (is_scalar r (type_of_left g l)) (is_written (type_of_left g l)) left)))
+    let both = first_of_both (is_written_left g r l && works_in r s) (is_scalar s (type_of g e)) h in
+    let left = first_of_both (is_written_left g r l) (works_in r s) both in
+    let number = first_of_both (is_scalar r (type_of_left g l)) (is_written (type_of_left g l)) left in
+    both_fine g.functions (nodes_in_left l) (nodes_in e) (left_is_fine g l (typed_by (is_scalar r) refl (type_of_left g l) number))
     (passing_is_fine g e (is_scalar s) refl (second_of_both (is_written_left g r l && works_in r s) (is_scalar s (type_of g e)) h))
 effect_is_fine g (moves_to x e) h = expression_is_fine g e (second_iterator_typed (variable_type g.iterators x) (type_of g e) h)
 
@@ -160,7 +161,8 @@ mutual
   )
   statement_is_fine g k inside (for n head condition last b) h =
       let r = behind_first head g in let known = functions_behind_first head g in
-      let parts = five_parts (is_typed_first g head) (is_within r) (is_typed_cond r condition) (is_typed_last r last) (is_typed_stmt r k true b) h in (
+      let parts = five_parts (is_typed_first g head) (is_within r) (is_typed_cond r condition) (is_typed_last r last)
+      (is_typed_stmt r k true b) h in (
         tt,
         both_fine g.functions (nodes_in_first head) (nodes_in_cond condition ++ (nodes_in_last last ++ nodes_in_stmt b))
             (first_is_fine g head parts.0)

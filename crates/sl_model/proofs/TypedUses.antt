@@ -19,7 +19,7 @@ use Rattle.sl_model.specs.WellTypedStatements.{is_typed_effect, is_typed_last, i
 use Rattle.sl_model.specs.WellTypedStatements.{may_go_over, in_range, is_typed_return, is_typed_stmt, are_typed_stmts, with_parameters, no_variables}
 use Rattle.sl_model.specs.WellTypedStatements.{is_block}
 use Rattle.sl_model.specs.WellTyped.{WellTyped}
-use Rattle.sl_model.proofs.TypedLists.{first_of_both, second_of_both, three_parts, five_parts}
+use Rattle.sl_model.proofs.Passing.{first_of_both, second_of_both, three_parts, five_parts}
 use Rattle.sl_model.proofs.TypedOperands.{typed_by, second_iterator_typed}
 use Rattle.sl_model.proofs.TypedCalls.{making_known, first_iterator_typed}
 use Rattle.sl_model.proofs.TypedNumbers.{scalar_is_below, container_is_below, iterator_is_below}
@@ -137,9 +137,10 @@ effect_below g (assigns l e) w h = both_below (uses_in_left l) (uses_in e)
     (left_below g l w (typed_by (λ u. takes u (type_of g e)) refl (type_of_left g l) h))
     (passing_below g e (takes (type_of_left g l)) (no_type_taken (type_of_left g l)) w h)
 effect_below g (updates op s r at l e) w h =
-    let left = first_of_both (is_written_left g r l) (works_in r s) (first_of_both (is_written_left g r l && works_in r s) (is_scalar s (type_of g e)) h) in
-    both_below (uses_in_left l) (uses_in e)
-    (left_below g l w (typed_by (is_scalar r) refl (type_of_left g l) (first_of_both (is_scalar r (type_of_left g l)) (is_written (type_of_left g l)) left)))
+    let both = first_of_both (is_written_left g r l && works_in r s) (is_scalar s (type_of g e)) h in
+    let left = first_of_both (is_written_left g r l) (works_in r s) both in
+    let number = first_of_both (is_scalar r (type_of_left g l)) (is_written (type_of_left g l)) left in
+    both_below (uses_in_left l) (uses_in e) (left_below g l w (typed_by (is_scalar r) refl (type_of_left g l) number))
     (passing_below g e (is_scalar s) refl w (second_of_both (is_written_left g r l && works_in r s) (is_scalar s (type_of g e)) h))
 effect_below g (moves_to x e) w h = (
   iterator_is_below g x w (first_iterator_typed (variable_type g.iterators x) (type_of g e) h),

@@ -12,11 +12,13 @@ use Rattle.sl_model.specs.WellTypedTypes.{ExprType, Scope, is_within, variable_t
 use Rattle.sl_model.specs.WellTypedCalls.{call_type, row_type, member_type, row_at}
 use Rattle.sl_model.specs.WellTypedExpressions.{type_of, type_of_left, types_of}
 use Rattle.sl_model.specs.WellTypedOrder.{Variable, the_scalar, the_container, the_iterator, object_in}
-use Rattle.sl_model.proofs.TypedLists.{first_of_both, second_of_both}
+use Rattle.sl_model.proofs.Passing.{first_of_both, second_of_both}
 use Rattle.sl_model.proofs.TypedOperands.{typed_by, all_typed}
 use Rattle.sl_model.proofs.TypedCalls.{call_known}
-use Rattle.sl_model.proofs.TypedParts.{held_typed, converted_number, negated_number, inverted_number, numbers_of_and, numbers_of_or, calculated_numbers}
-use Rattle.sl_model.proofs.TypedParts.{compared_numbers, stepped_number, moving_call, value_call, element_call, function_call, first_stands, second_stands}
+use Rattle.sl_model.proofs.TypedParts.{held_typed, converted_number, negated_number, inverted_number, numbers_of_and, numbers_of_or}
+use Rattle.sl_model.proofs.TypedParts.{calculated_numbers}
+use Rattle.sl_model.proofs.TypedParts.{compared_numbers, stepped_number, moving_call, value_call, element_call, function_call, first_stands}
+use Rattle.sl_model.proofs.TypedParts.{second_stands}
 use Rattle.sl_model.proofs.TypedParts.{iterator_there, container_there, handed_there, scalar_there, reference_there}
 use Rattle.sl_model.proofs.TypedNumbers.{scalar_is_below, container_is_below, iterator_is_below}
 use Rattle.sl_model.proofs.TypedExpressions.{comparable_first, comparable_second, function_known}

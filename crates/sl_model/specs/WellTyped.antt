@@ -2,8 +2,8 @@
 --
 -- Restates ISO/IEC 14882:2017 as the parts do, [basic.start.main], and [implimits] by numbers of its own.
 -- Chosen here: a text is judged by its tree alone. So it may have what no source text has: functions that are copies of one and share its sites and
--- loops, calls of functions that stand later, and parameters for elements alone. `w = v` is right where v is const. Not asked is what the tree doesn't
--- say: which names are declared twice or are the library's, and whether a reference was written const.
+-- loops, calls of functions that stand later, and parameters for elements alone. `w = v` is right where v is const. Not asked is what the tree
+-- doesn't say: which names are declared twice or are the library's, and whether a reference was written const.
 use Rattle.std.specs.Prelude.{◌≡◌, nat_le, Bool, true, ◌&&◌, length, flat_map, slice_get}
 use Rattle.std.specs.List.{list_all}
 use Rattle.sl_base.specs.declared.limits.TheConstants.{FUNCTIONS, SITES}

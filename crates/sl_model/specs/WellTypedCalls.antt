@@ -1,7 +1,7 @@
 -- What a call of the library gives, by the types of its operands. A call whose operands don't fit has no type.
 --
--- Restates the tables of ISO/IEC 14882:2017, [container.requirements], [sequence.reqmts], [associative.reqmts], [unord.req], [list.ops], [algorithms],
--- [iterator.operations] and [iterator.requirements] as far as types, constness and the kinds of iterators go.
+-- Restates the tables of ISO/IEC 14882:2017, [container.requirements], [sequence.reqmts], [associative.reqmts], [unord.req], [list.ops],
+-- [algorithms], [iterator.operations] and [iterator.requirements] as far as types, constness and the kinds of iterators go.
 -- Chosen here: a range has two ends of one type. Which letters a call has and what it gives stands in the table of the library. `it += n` and
 -- `std::advance(it, n)` give nothing, since they stand as effects alone. The call of `back_inserter` is no call of the tree: an algorithm that
 -- appends has the container in place of its output.

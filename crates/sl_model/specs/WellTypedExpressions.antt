@@ -3,8 +3,8 @@
 -- Restates ISO/IEC 14882:2017, [expr] and its sections as far as types go, [conv] (each conversion is a node, so operands have the type that is
 -- needed), [expr.call], [over.match.viable], [dcl.init.ref] (what may be handed to a reference), [dcl.type.cv] and [basic.start.main] (`main` isn't
 -- called).
--- Chosen here: numbers are compared and calculated with in a type that isn't bool, `->` stands on an iterator variable, and `.first` and `.second` on a
--- call that gives a pair. A parameter for elements alone is handed on to such a parameter alone.
+-- Chosen here: numbers are compared and calculated with in a type that isn't bool, `->` stands on an iterator variable, and `.first` and `.second`
+-- on a call that gives a pair. A parameter for elements alone is handed on to such a parameter alone.
 use Rattle.std.specs.Prelude.{ℕ, ◌==◌, Bool, true, false, not, ◌&&◌, ◌||◌, List, [], ◌∷◌, ℤ, pos, int_le, Option, Some, None, slice_get}
 use Rattle.sl_base.specs.declared.limits.TheConstants.{LARGEST_NUMBER}
 use Rattle.sl_base.specs.declared.scalar.Scalar.{Scalar}

@@ -1,11 +1,11 @@
--- Typed texts whose numbers name what is there, and that say the same at one place.
+-- Typed texts whose numbers name what is there, and in which one place stands for one call.
 --
--- Chosen here: what is numbered, and in which order. The numbers of sites go up by one along a function, in the order of the text, and so do those of
--- loops; two functions may share theirs, where both were made of one. A call is a site where it can invalidate an iterator by its form, and where it
--- appends. The constants are 0, 1, and each literal with its two neighbours, and there may be more. Two nodes that have needs and stand at one place
--- are calls of one name, with the same names of arguments.
+-- No standard says any of it; all of it is chosen here. The numbers of sites go up by one along a function, in the order of the text, and so do those
+-- of loops; two functions may share theirs, where both are copies of one. A call is a site where its class in its form can invalidate something, and
+-- where it appends. Among the constants are 0, 1, and each literal with its two neighbours. Two nodes that have needs and stand at one place are
+-- calls of one name, with the same names of arguments: copies have such nodes.
 use Rattle.std.specs.Prelude.{ℕ, ◌+◌, ◌==◌, nat_lt, Bool, true, false, not, ◌&&◌, ◌||◌, List, [], ◌∷◌, ◌++◌, length, map, filter_map}
-use Rattle.std.specs.Prelude.{ℤ, pos, ◌+ℤ◌, ◌-ℤ◌, int_lt, int_le, Option, Some, None, is_some, codes}
+use Rattle.std.specs.Prelude.{ℤ, pos, ◌+ℤ◌, ◌-ℤ◌, int_lt, int_le, Option, Some, None, is_some, codes, if◌then◌else◌}
 use Rattle.std.specs.List.{list_all, list_any}
 use Rattle.std.specs.Str.{bytes_eq}
 use denote.Enum.Bare.{sameb}
@@ -174,19 +174,22 @@ pub record Asked : Type 0 where
   pub word : List ℕ
   pub names : List (Option ℕ)
 
--- a call with needs, or none
-abbrev pub asked_if : Bool → Head → List ℕ → List Asked
-asked_if true h word = record { place = h.place; word = word; names = h.names } ∷ []
-asked_if false h word = []
+-- a call of the library has needs; every operator has
+abbrev pub has_needs : Callee → Bool
+has_needs (callees.Row n) = row_asks (row_at n)
+has_needs (callees.Appends n) = row_asks (row_at n)
+has_needs callee = true
 
--- what a call of the library asks; every operator has needs
+-- the name of a call of the library
+abbrev pub callee_word : Callee → List ℕ
+callee_word (callees.Row n) = row_word (row_at n)
+callee_word (callees.Appends n) = row_word (row_at n)
+callee_word (callees.Operator o) = operator_word o
+callee_word (callees.Hidden o) = codes "for"
+
+-- what a call of the library asks, if it has needs
 abbrev pub asked_by_call : Head → List Asked
-asked_by_call h = elim h.callee as (λ _. List Asked) [
-  | callees.Row n ↦ asked_if (row_asks (row_at n)) h (row_word (row_at n))
-  | callees.Appends n ↦ asked_if (row_asks (row_at n)) h (row_word (row_at n))
-  | callees.Operator o ↦ asked_if true h (operator_word o)
-  | callees.Hidden o ↦ asked_if true h (codes "for")
-]
+asked_by_call h = if has_needs h.callee then record { place = h.place; word = callee_word h.callee; names = h.names } ∷ [] else []
 
 -- what a node asks: a use of a reference has it for argument 1, and a range-for its container for arguments 1 and 2
 abbrev pub asked_by : Node → List Asked

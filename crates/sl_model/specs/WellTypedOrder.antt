@@ -153,9 +153,14 @@ abbrev pub row_writes : Option Row → Bool
 row_writes None = false
 row_writes (Some row) = is_algorithm row && list_any is_written_letter row.letters
 
+-- a call of the library is an element write
+abbrev pub callee_writes : Callee → Bool
+callee_writes (callees.Row n) = row_writes (row_at n)
+callee_writes callee = false
+
 -- a node is an element write
 abbrev pub is_write : Node → Bool
-is_write (a_call h ops) = elim h.callee as (λ _. Bool) [ callees.Row n ↦ row_writes (row_at n) | callee ↦ false ]
+is_write (a_call h ops) = callee_writes h.callee
 is_write node = false
 
 -- an expression holds an element write

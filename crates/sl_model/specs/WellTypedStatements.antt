@@ -19,12 +19,12 @@ use Rattle.sl_syntax.specs.declared.typed.callee.Callee.{Callee}
 use Rattle.sl_syntax.specs.declared.typed.callee.Callee.TheVariants as callees
 use Rattle.sl_syntax.specs.declared.typed.element.Taken.{Taken}
 use Rattle.sl_syntax.specs.declared.typed.element.Taken.TheVariants as taken
-use Rattle.sl_syntax.specs.declared.typed.head.Head.{Head}
 use Rattle.sl_syntax.specs.declared.typed.operator.Operator.TheVariants as operators
 use Rattle.sl_syntax.specs.declared.typed.parameter.ParameterKind.{ParameterKind}
 use Rattle.sl_syntax.specs.declared.typed.parameter.ParameterKind.TheVariants as parameters
 use Rattle.sl_syntax.specs.declared.typed.step.Fix.TheVariants as fixes
-use Rattle.sl_syntax.specs.Typed.{Expr, held, increment, call, Left, scalar, reference, element, Operands, none, with, Cond, read, not_read, test, always}
+use Rattle.sl_syntax.specs.Typed.{Expr, held, increment, call, Left, scalar, reference, element, Operands, none, with, Cond, read, not_read, test}
+use Rattle.sl_syntax.specs.Typed.{always}
 use Rattle.sl_syntax.specs.Typed.{Printed, text, endline, number, Effect, reads, prints, evaluates, assigns, updates, moves_to, Declaration}
 use Rattle.sl_syntax.specs.Typed.{unset_scalar, set_scalar, set_iterator, binds_reference, makes, First, no_first, declares_first, does_first, Stmt}
 use Rattle.sl_syntax.specs.Typed.{block, declares, choice, choice_else, while, for, range_for, break, continue, gives_back, does, Stmts, no_more}
@@ -36,21 +36,17 @@ use Rattle.sl_model.specs.WellTypedTypes.{is_iterator, is_iterator_of, same_iter
 use Rattle.sl_model.specs.WellTypedCalls.{row_at, constructs}
 use Rattle.sl_model.specs.WellTypedExpressions.{goes_to, type_given, type_of, type_of_left, types_of}
 
--- what is called on this container is one of its own elements, or a `*` of an iterator of its form
-abbrev pub calls_element : Scope → ℕ → Form → Head → Operands → Bool
-calls_element g x form h ops = elim h.object as (λ _. Bool) [
-  | Some y ↦ x == y
-  | None ↦ elim h.callee as (λ _. Bool) [
-    | callees.Operator operators.Dereference ↦ list_all (is_iterator_of form) (types_of g ops)
-    | callee ↦ false
-  ]
-]
+-- what a call gives may be an element of the container with this number and form: it is called on that, or is a `*` of an iterator of the form
+abbrev pub gives_element : ℕ → Form → Callee → Option ℕ → List ExprType → Bool
+gives_element x form callee (Some y) us = x == y
+gives_element x form (callees.Operator operators.Dereference) None us = list_all (is_iterator_of form) us
+gives_element x form callee None us = false
 
--- a left side may be an element of the container with this number and form
+-- a left side may be such an element; each reference may be one
 abbrev pub may_be_element : Scope → ℕ → Form → Left → Bool
 may_be_element g x form (scalar y at) = false
 may_be_element g x form (reference y at name part) = true
-may_be_element g x form (element h ops) = calls_element g x form h ops
+may_be_element g x form (element h ops) = gives_element x form h.callee h.object (types_of g ops)
 
 -- an expression is that left side, or has `++` or `--` before it
 abbrev pub may_give_element : Scope → ℕ → Form → Expr → Bool

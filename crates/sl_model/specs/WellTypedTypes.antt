@@ -140,7 +140,8 @@ is_arithmetic s = not (same_scalar t.Bool s)
 
 -- two numbers of one type, in which they are compared
 abbrev pub are_comparable : ExprType → ExprType → Bool
-are_comparable u v = (is_scalar t.Int u && is_scalar t.Int v) || (is_scalar t.Size u && is_scalar t.Size v) || (is_scalar t.Diff u && is_scalar t.Diff v)
+are_comparable u v = (is_scalar t.Int u && is_scalar t.Int v) || (is_scalar t.Size u && is_scalar t.Size v) || (is_scalar t.Diff u
+    && is_scalar t.Diff v)
 
 -- a number of the first type is calculated with in the second: `x += y` works as `x + y`
 abbrev pub works_in : Scalar → Scalar → Bool

@@ -257,7 +257,8 @@ copies_is_well = well copies refl
 abbrev algorithms : Typed
 algorithms = alone (v.Container ∷ v.Container ∷ v.Iterator ∷ []) (body_at 1 (
     made f.Vector sequence.VECTOR_CONSTRUCTOR_LIST (at 2 3) (int 3 ∷ int 1 ∷ int 2 ∷ []) ∷ vector (at 3 3) ∷
-    done (calls (off algorithm.STD_SORT (at 4 3)) (calls (on sequence.VECTOR_BEGIN (at 4 15) 0) [] ∷ calls (on sequence.VECTOR_END (at 4 26) 0) [] ∷ [])) ∷
+    done (calls (off algorithm.STD_SORT (at 4 3)) (calls (on sequence.VECTOR_BEGIN (at 4 15) 0) [] ∷
+    calls (on sequence.VECTOR_END (at 4 26) 0) [] ∷ [])) ∷
     done (calls (appends algorithm.STD_COPY (at 5 3) 0)
     (calls (on sequence.VECTOR_BEGIN (at 5 15) 0) [] ∷ calls (on sequence.VECTOR_END (at 5 26) 0) [] ∷ container 1 ∷ [])) ∷
     declares (set_iterator (calls (off algorithm.STD_LOWER_BOUND (at 6 13))
@@ -354,8 +355,10 @@ abbrev orders : Typed
 orders = alone (v.Scalar ∷ v.Scalar ∷ v.Container ∷ v.Scalar ∷ []) (body_at 0 (
     declares (set_scalar t.Int (int 1)) ∷ declares (set_scalar t.Int (int 2)) ∷
     made f.Vector sequence.VECTOR_CONSTRUCTOR_LIST (at 4 3) (
-    increment steps.Up fixes.Prefix t.Int (at 4 25) (scalar 0 (at 4 27)) ∷ increment steps.Up fixes.Prefix t.Int (at 4 30) (scalar 0 (at 4 32)) ∷ []) ∷
-    declares (set_scalar t.Int (arithmetic o.Add t.Int (at 5 13) (value 1) (increment steps.Up fixes.Prefix t.Int (at 5 15) (scalar 0 (at 5 17))))) ∷ []))
+    increment steps.Up fixes.Prefix t.Int (at 4 25) (scalar 0 (at 4 27)) ∷ increment steps.Up fixes.Prefix t.Int (at 4 30) (scalar 0 (at 4 32)) ∷
+    []) ∷
+    declares (set_scalar t.Int (arithmetic o.Add t.Int (at 5 13) (value 1) (increment steps.Up fixes.Prefix t.Int (at 5 15) (scalar 0
+    (at 5 17))))) ∷ []))
     1
 
 orders_is_well : WellTyped orders

@@ -25,7 +25,8 @@ use Rattle.sl_model.proofs.Examples.Trees.{begun, pushed, body, body_at, functio
 -- int main() {
 -- }
 abbrev const_changed : Typed
-const_changed = whole (function (k.Container a.Const f.Vector ∷ []) None (v.Container ∷ []) (body (pushed (at 2 5) 0 0 (int 1) ∷ [])) ∷ main_of [] (body []) ∷ []) 1 1 0
+const_changed = whole (function (k.Container a.Const f.Vector ∷ []) None (v.Container ∷ []) (body (pushed (at 2 5) 0 0 (int 1) ∷ [])) ∷
+    main_of [] (body []) ∷ []) 1 1 0
 
 const_changed_is_not : broken const_changed ≡ Types ∷ []
 unfolding broken
@@ -50,7 +51,8 @@ const_element_written_is_not = refl
 -- int main() {
 -- }
 abbrev const_iterator_written : Typed
-const_iterator_written = whole (function (k.Iterator true f.Vector ∷ []) None (v.Iterator ∷ []) (body (does (assigns (star (at 2 3) 0) (int 1)) ∷ [])) ∷
+const_iterator_written = whole (function (k.Iterator true f.Vector ∷ []) None (v.Iterator ∷ []) (body (does (assigns (star (at 2 3) 0) (int 1)) ∷
+    [])) ∷
     main_of [] (body []) ∷ []) 1 0 0
 
 const_iterator_written_is_not : broken const_iterator_written ≡ Types ∷ []
@@ -132,7 +134,8 @@ key_written_is_not = refl
 -- }
 abbrev set_element_stepped : Typed
 set_element_stepped = whole (main_of (v.Container ∷ v.Reference ∷ []) (body_at 0 (made f.Set associative.SET_CONSTRUCTOR_LIST (at 2 3) (int 1 ∷ []) ∷
-    range_for 0 taken.Reference 0 (at 3 3) 0 (done (increment steps.Up fixes.Prefix t.Int (at 3 21) (reference 2 (at 3 23) 1 parts.Whole))) ∷ [])) ∷ [])
+    range_for 0 taken.Reference 0 (at 3 3) 0 (done (increment steps.Up fixes.Prefix t.Int (at 3 21) (reference 2 (at 3 23) 1 parts.Whole))) ∷
+    [])) ∷ [])
     0 1 1
 
 set_element_stepped_is_not : broken set_element_stepped ≡ Types ∷ []
@@ -170,7 +173,8 @@ part_of_int_is_not = refl
 --   *r;
 -- }
 abbrev reference_as_iterator : Typed
-reference_as_iterator = behind_vector (v.Reference ∷ []) 0 (declares (binds_reference (on sequence.VECTOR_FRONT (at 3 14) 0) none) ∷ done (held (star (at 4 3) 0)) ∷ [])
+reference_as_iterator = behind_vector (v.Reference ∷ []) 0 (declares (binds_reference (on sequence.VECTOR_FRONT (at 3 14) 0) none) ∷
+    done (held (star (at 4 3) 0)) ∷ [])
 
 reference_as_iterator_is_not : broken reference_as_iterator ≡ Types ∷ []
 unfolding broken
@@ -182,7 +186,8 @@ reference_as_iterator_is_not = refl
 --   int x = it;                 as a use of a reference
 -- }
 abbrev iterator_as_reference : Typed
-iterator_as_reference = behind_vector (v.Iterator ∷ v.Scalar ∷ []) 0 (begun (at 3 15) 0 ∷ declares (set_scalar t.Int (held (reference 0 (at 4 11) 1 parts.Whole))) ∷ [])
+iterator_as_reference = behind_vector (v.Iterator ∷ v.Scalar ∷ []) 0 (begun (at 3 15) 0 ∷
+    declares (set_scalar t.Int (held (reference 0 (at 4 11) 1 parts.Whole))) ∷ [])
 
 iterator_as_reference_is_not : broken iterator_as_reference ≡ Types ∷ []
 unfolding broken
@@ -208,7 +213,8 @@ hash_step_back_is_not = refl
 -- }
 abbrev list_sum : Typed
 list_sum = alone (v.Container ∷ v.Iterator ∷ []) (body_at 0 (made f.List sequence.LIST_CONSTRUCTOR (at 2 3) [] ∷
-    declares (set_iterator (calls (operator operators.Add (at 3 23)) (calls (on sequence.LIST_BEGIN (at 3 15) 0) [] ∷ convert t.Diff (int 1) ∷ []))) ∷ []))
+    declares (set_iterator (calls (operator operators.Add (at 3 23)) (calls (on sequence.LIST_BEGIN (at 3 15) 0) [] ∷ convert t.Diff (int 1) ∷
+    []))) ∷ []))
     1
 
 list_sum_is_not : broken list_sum ≡ Types ∷ []
@@ -221,7 +227,8 @@ list_sum_is_not = refl
 -- }
 abbrev list_sorted : Typed
 list_sorted = alone (v.Container ∷ []) (body_at 0 (made f.List sequence.LIST_CONSTRUCTOR (at 2 3) [] ∷
-    done (calls (off algorithm.STD_SORT (at 3 3)) (calls (on sequence.LIST_BEGIN (at 3 15) 0) [] ∷ calls (on sequence.LIST_END (at 3 26) 0) [] ∷ [])) ∷ []))
+    done (calls (off algorithm.STD_SORT (at 3 3)) (calls (on sequence.LIST_BEGIN (at 3 15) 0) [] ∷ calls (on sequence.LIST_END (at 3 26) 0) [] ∷
+    [])) ∷ []))
     1
 
 list_sorted_is_not : broken list_sorted ≡ Types ∷ []
@@ -235,7 +242,8 @@ list_sorted_is_not = refl
 -- int main() {
 -- }
 abbrev elements_asked : Typed
-elements_asked = whole (function (k.Container a.Elements f.Vector ∷ []) None (v.Container ∷ []) (body (done (calls (on sequence.VECTOR_SIZE (at 2 5) 0) []) ∷ [])) ∷
+elements_asked = whole (function (k.Container a.Elements f.Vector ∷ []) None (v.Container ∷
+    []) (body (done (calls (on sequence.VECTOR_SIZE (at 2 5) 0) []) ∷ [])) ∷
     main_of [] (body []) ∷ []) 1 0 0
 
 elements_asked_is_not : broken elements_asked ≡ Types ∷ []

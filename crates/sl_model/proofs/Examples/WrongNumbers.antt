@@ -74,8 +74,10 @@ no_main_is_not = refl
 --   f(v, v);
 -- }
 abbrev one_vector_twice : Typed
-one_vector_twice = whole (function (k.Container a.Const f.Vector ∷ k.Container a.Const f.Vector ∷ []) None (v.Container ∷ v.Container ∷ []) (body []) ∷
-    main_of (v.Container ∷ []) (body_at 0 (vector (at 4 3) ∷ done (own_call 0 (at 5 3) (with (container 0) (with (container 0) none))) ∷ [])) ∷ []) 1 1 0
+one_vector_twice = whole (function (k.Container a.Const f.Vector ∷ k.Container a.Const f.Vector ∷ []) None (v.Container ∷ v.Container ∷
+    []) (body []) ∷
+    main_of (v.Container ∷ []) (body_at 0 (vector (at 4 3) ∷ done (own_call 0 (at 5 3) (with (container 0) (with (container 0) none))) ∷ [])) ∷
+    []) 1 1 0
 
 one_vector_twice_is_not : broken one_vector_twice ≡ Alias ∷ []
 unfolding broken
@@ -89,7 +91,8 @@ one_vector_twice_is_not = refl
 -- }
 abbrev one_scalar_twice : Typed
 one_scalar_twice = whole (function (k.Reference t.Int ∷ k.Reference t.Int ∷ []) None (v.Scalar ∷ v.Scalar ∷ []) (body []) ∷
-    main_of (v.Scalar ∷ []) (body (declares (unset_scalar t.Int) ∷ done (own_call 0 (at 5 3) (with (handed_scalar 0) (with (handed_scalar 0) none))) ∷ [])) ∷
+    main_of (v.Scalar ∷ []) (body (declares (unset_scalar t.Int) ∷
+    done (own_call 0 (at 5 3) (with (handed_scalar 0) (with (handed_scalar 0) none))) ∷ [])) ∷
     []) 1 0 0
 
 one_scalar_twice_is_not : broken one_scalar_twice ≡ Alias ∷ []
@@ -102,7 +105,8 @@ one_scalar_twice_is_not = refl
 -- }
 abbrev changed_beside_name : Typed
 changed_beside_name = alone (v.Scalar ∷ v.Scalar ∷ []) (body (declares (set_scalar t.Int (int 1)) ∷
-    declares (set_scalar t.Int (arithmetic o.Add t.Int (at 3 13) (value 0) (increment steps.Up fixes.Prefix t.Int (at 3 15) (scalar 0 (at 3 17))))) ∷ [])) 0
+    declares (set_scalar t.Int (arithmetic o.Add t.Int (at 3 13) (value 0) (increment steps.Up fixes.Prefix t.Int (at 3 15) (scalar 0
+    (at 3 17))))) ∷ [])) 0
 
 changed_beside_name_is_not : broken changed_beside_name ≡ Order ∷ []
 unfolding broken
@@ -132,7 +136,8 @@ changed_beside_call_is_not = refl
 --   g(f(v), v);
 -- }
 abbrev called_beside_vector : Typed
-called_beside_vector = whole (function (k.Container a.Whole f.Vector ∷ []) (Some (k.Value t.Int)) (v.Container ∷ []) (body (gives_back (Some (int 1)) ∷ [])) ∷
+called_beside_vector = whole (function (k.Container a.Whole f.Vector ∷ []) (Some (k.Value t.Int)) (v.Container ∷
+    []) (body (gives_back (Some (int 1)) ∷ [])) ∷
     function (k.Value t.Int ∷ k.Container a.Const f.Vector ∷ []) None (v.Scalar ∷ v.Container ∷ []) (body []) ∷
     main_of (v.Container ∷ []) (body_at 0 (vector (at 7 3) ∷
     done (own_call 1 (at 8 3) (operands_from (own_call 0 (at 8 5) (with (container 0) none) ∷ container 0 ∷ []))) ∷ [])) ∷ []) 2 1 0
@@ -266,7 +271,8 @@ site_past_last_is_not = refl
 --   while (true) break;         loop 0
 -- }
 abbrev loops_alike : Typed
-loops_alike = whole (main_of [] (body (while 0 (test (literal t.Bool (pos 1))) break ∷ while 0 (test (literal t.Bool (pos 1))) break ∷ [])) ∷ []) 0 0 2
+loops_alike = whole (main_of [] (body (while 0 (test (literal t.Bool (pos 1))) break ∷ while 0 (test (literal t.Bool (pos 1))) break ∷ [])) ∷
+    []) 0 0 2
 
 loops_alike_is_not : broken loops_alike ≡ Numbers ∷ []
 unfolding broken
@@ -287,7 +293,8 @@ loop_past_last_is_not = refl
 --   for (int x : v) x;          with a third name, where there are two
 -- }
 abbrev name_past_last : Typed
-name_past_last = whole (main_of (v.Container ∷ v.Scalar ∷ []) (body_at 0 (vector (at 2 3) ∷ range_for 0 taken.Value 0 (at 3 3) 2 (done (value 0)) ∷ [])) ∷ []) 0 1 1
+name_past_last = whole (main_of (v.Container ∷ v.Scalar ∷ []) (body_at 0 (vector (at 2 3) ∷
+    range_for 0 taken.Value 0 (at 3 3) 2 (done (value 0)) ∷ [])) ∷ []) 0 1 1
 
 name_past_last_is_not : broken name_past_last ≡ Names ∷ []
 unfolding broken
@@ -359,13 +366,14 @@ one_left_out_is_not = refl
 -- int main() {
 -- }
 abbrev two_names_at_one_place : Typed
-two_names_at_one_place = let star_of = λ (name : ℕ). function (k.Iterator false f.Vector ∷ []) None (v.Iterator ∷ []) (body (done (held (element (record {
-  callee = callees.Operator operators.Dereference;
-  place = at 2 3;
-  site = None;
-  object = None;
-  names = None ∷ Some name ∷ [];
-}) (with (iterator 0) none))) ∷ [])) in
+two_names_at_one_place = let star_of = λ (name : ℕ). function (k.Iterator false f.Vector ∷ []) None (v.Iterator ∷
+    []) (body (done (held (element (record {
+      callee = callees.Operator operators.Dereference;
+      place = at 2 3;
+      site = None;
+      object = None;
+      names = None ∷ Some name ∷ [];
+    }) (with (iterator 0) none))) ∷ [])) in
     whole (star_of 0 ∷ star_of 1 ∷ main_of [] (body []) ∷ []) 2 0 0
 
 two_names_at_one_place_is_not : broken two_names_at_one_place ≡ Asker ∷ []
@@ -378,7 +386,8 @@ two_names_at_one_place_is_not = refl
 --   v.back();                   at the same place
 -- }
 abbrev two_calls_at_one_place : Typed
-two_calls_at_one_place = behind_vector [] 0 (done (element_of (on sequence.VECTOR_FRONT (at 3 5) 0) []) ∷ done (element_of (on sequence.VECTOR_BACK (at 3 5) 0) []) ∷ [])
+two_calls_at_one_place = behind_vector [] 0 (done (element_of (on sequence.VECTOR_FRONT (at 3 5) 0) []) ∷
+    done (element_of (on sequence.VECTOR_BACK (at 3 5) 0) []) ∷ [])
 
 two_calls_at_one_place_is_not : broken two_calls_at_one_place ≡ Asker ∷ []
 unfolding broken

@@ -166,7 +166,8 @@ many_scalars_is_not = refl
 -- int main() {
 -- }
 abbrev many_parameters : Typed
-many_parameters = whole (function (replicate 17 (k.Container a.Whole f.Vector)) None (replicate 17 v.Container) (body []) ∷ main_of [] (body []) ∷ []) 1 0 0
+many_parameters = whole (function (replicate 17 (k.Container a.Whole f.Vector)) None (replicate 17 v.Container) (body []) ∷
+    main_of [] (body []) ∷ []) 1 0 0
 
 many_parameters_is_not : broken many_parameters ≡ Types ∷ []
 unfolding broken

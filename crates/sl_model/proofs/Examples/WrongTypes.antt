@@ -37,7 +37,8 @@ unconverted_element_is_not = refl
 --   int x = v[0];               without the conversion
 -- }
 abbrev unconverted_index : Typed
-unconverted_index = behind_vector (v.Scalar ∷ []) 0 (declares (set_scalar t.Int (element_of (on sequence.VECTOR_SUBSCRIPT (at 3 12) 0) (int 0 ∷ []))) ∷ [])
+unconverted_index = behind_vector (v.Scalar ∷ []) 0 (declares (set_scalar t.Int (element_of (on sequence.VECTOR_SUBSCRIPT (at 3 12) 0) (int 0 ∷
+    []))) ∷ [])
 
 unconverted_index_is_not : broken unconverted_index ≡ Types ∷ []
 unfolding broken
