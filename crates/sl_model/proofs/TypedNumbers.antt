@@ -8,9 +8,9 @@ use Rattle.sl_syntax.specs.Typed.{Function, Typed}
 use Rattle.sl_model.specs.WellTypedTypes.{ExprType, Scope, has_type, is_within, variable_type}
 use Rattle.sl_model.specs.WellTypedNodes.{Node, nodes_in_stmt, nodes_of}
 use Rattle.sl_model.specs.WellTypedNumbers.{site_in, loop_in, go_up, are_numbers_of, is_numbered}
-use Rattle.sl_model.specs.WellTypedNumbers.{has_due_site, tells_names}
+use Rattle.sl_model.specs.WellTypedNumbers.{has_due_site, tells_names, are_constants, literal_is_held, asked_by, agree, agrees_with_all}
 use Rattle.sl_model.specs.WellTypedOrder.{binds_apart, is_ordered}
-use Rattle.sl_model.specs.WellTyped.{has_numbers, has_sites, has_no_alias, has_order, has_names, WellTyped}
+use Rattle.sl_model.specs.WellTyped.{has_numbers, has_sites, has_no_alias, has_order, has_names, has_constants, has_one_asker, WellTyped}
 use Rattle.sl_model.proofs.Passing.{first_of_both, second_of_both, passes_at, given_passes, flat_map_passes}
 
 -- the sites and the loops of a function of a well typed text are numbered
@@ -57,6 +57,20 @@ node_is_ordered p w node at = passes_in p node at (is_ordered p.functions) w.ord
 pub names_are_there : (p : Typed) → WellTyped p → (node : Node) → IsNode p node → tells_names (length p.names) node ≡ true
 unfolding has_names
 names_are_there p w node at = passes_in p node at (tells_names (length p.names)) w.names
+
+-- the number of a literal is a constant, and so are its two neighbours
+pub literal_is_constant : (p : Typed) → WellTyped p → (node : Node) → IsNode p node → literal_is_held p.constants node ≡ true
+unfolding has_constants
+literal_is_constant p w node at =
+    let all = second_of_both (are_constants p.constants) (list_all (literal_is_held p.constants) (nodes_of p)) w.constants in
+    passes_in p node at (literal_is_held p.constants) all
+
+-- two nodes that have needs and stand at one place are calls of one name, with the same names of arguments
+pub nodes_agree : (p : Typed) → WellTyped p → (x y : Node) → IsNode p x → IsNode p y → agree (asked_by x) (asked_by y) ≡ true
+unfolding has_one_asker
+nodes_agree p w x y at_x at_y =
+    let with_all = passes_in p x at_x (agrees_with_all (nodes_of p)) w.one_asker in
+    passes_in p y at_y (λ other. agree (asked_by x) (asked_by other)) with_all
 
 -- a site that a node names is one of the text
 pub site_is_there : (p : Typed) → WellTyped p → (node : Node) → IsNode p node → (s : ℕ) → site_in node ≡ Some s → s < length p.sites

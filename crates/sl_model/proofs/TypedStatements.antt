@@ -2,6 +2,7 @@
 use Rattle.std.proofs.Common.{◌≡◌, ℕ, zero, suc, Bool, true, false, ◌&&◌, List, [], ◌∷◌, ◌++◌, Option, Some, None, refl, subst}
 use Rattle.std.specs.Prelude.{slice_get, flat_map}
 use Rattle.std.specs.List.{list_all}
+use Rattle.sl_base.specs.declared.scalar.Scalar.TheVariants as t
 use Rattle.sl_syntax.specs.declared.typed.element.Taken.{Taken}
 use Rattle.sl_syntax.specs.declared.typed.element.Taken.TheVariants as taken
 use Rattle.sl_syntax.specs.declared.typed.parameter.ParameterKind.{ParameterKind}
@@ -18,7 +19,7 @@ use Rattle.sl_model.specs.WellTypedNodes.{nodes_in_effect, nodes_in_last, nodes_
 use Rattle.sl_model.specs.WellTypedStatements.{assigns_others, may_stand_alone, is_written_left, takes, is_typed_cond, is_typed_item, is_typed_effect}
 use Rattle.sl_model.specs.WellTypedStatements.{is_typed_last, is_typed_declaration, behind, is_typed_first, behind_first, may_go_over}
 use Rattle.sl_model.specs.WellTypedStatements.{in_range, is_typed_return, is_typed_stmt, are_typed_stmts, with_parameter, with_parameters}
-use Rattle.sl_model.specs.WellTypedStatements.{no_variables, is_block, is_typed_function}
+use Rattle.sl_model.specs.WellTypedStatements.{no_variables, is_block, is_typed_function, takes_nothing, is_main}
 use Rattle.sl_model.specs.WellTyped.{has_types, WellTyped}
 use Rattle.sl_model.proofs.Passing.{first_of_both, second_of_both, three_parts, five_parts, passes_at}
 use Rattle.sl_model.proofs.TypedOperands.{typed_by, second_iterator_typed}
@@ -216,3 +217,29 @@ pub node_is_fine : (p : Typed) → WellTyped p → (node : Node) → IsNode p no
 node_is_fine p w node at =
     let fine = function_is_fine p at.function (function_is_typed p w at.number at.function at.function_there) in
     fine_at p.functions (nodes_in_stmt at.function.body) at.place node fine at.there
+
+-- `main` is there, has no parameters and gives an int
+pub record HasMain (p : Typed) : Type 0 where
+  pub function : Function
+  pub there : slice_get p.functions p.main ≡ Some function
+  pub parameters : function.parameters ≡ []
+  pub result : is_scalar t.Int (type_given function.result) ≡ true
+
+-- what takes nothing has no parameters
+no_parameters : (ks : List ParameterKind) → takes_nothing ks ≡ true → ks ≡ []
+no_parameters [] h = refl
+no_parameters (k ∷ ks) h = absurd cc
+
+-- what is found as `main` is there
+found_main : (p : Typed) (found : Option Function) → slice_get p.functions p.main ≡ found → is_main found ≡ true → HasMain p
+found_main p None e h = absurd cc
+found_main p (Some f) e h = record {
+  function = f;
+  there = e;
+  parameters = no_parameters f.parameters (first_of_both (takes_nothing f.parameters) (is_scalar t.Int (type_given f.result)) h);
+  result = second_of_both (takes_nothing f.parameters) (is_scalar t.Int (type_given f.result)) h;
+}
+
+-- a well typed text has it
+pub main_is_there : (p : Typed) → WellTyped p → HasMain p
+main_is_there p w = found_main p (slice_get p.functions p.main) refl w.main

@@ -4,7 +4,7 @@
 -- Chosen here: a text is judged by its tree alone. So it may have what no source text has: functions that are copies of one and share its sites and
 -- loops, calls of functions that stand later, and parameters for elements alone. `w = v` is right where v is const. Not asked is what the tree
 -- doesn't say: which names are declared twice or are the library's, and whether a reference was written const.
-use Rattle.std.specs.Prelude.{◌≡◌, nat_le, Bool, true, ◌&&◌, length, flat_map, slice_get}
+use Rattle.std.specs.Prelude.{◌≡◌, nat_le, Bool, true, ◌&&◌, length, slice_get}
 use Rattle.std.specs.List.{list_all}
 use Rattle.sl_base.specs.declared.limits.TheConstants.{FUNCTIONS, SITES}
 use Rattle.sl_specs.specs.Table.{table}
@@ -13,7 +13,8 @@ use Rattle.sl_model.specs.WellTypedExpressions.{type_of, type_of_left, types_of}
 use Rattle.sl_model.specs.WellTypedNodes.{nodes_in, nodes_in_left, nodes_in_operands, nodes_in_stmt, nodes_in_stmts, nodes_of}
 use Rattle.sl_model.specs.WellTypedStatements.{is_typed_stmt, are_typed_stmts, is_typed_function, is_main}
 use Rattle.sl_model.specs.WellTypedOrder.{is_still, binds_apart, is_ordered}
-use Rattle.sl_model.specs.WellTypedNumbers.{has_due_site, is_numbered, tells_names, lists_variables, are_constants, asked_by, all_agree}
+use Rattle.sl_model.specs.WellTypedNumbers.{has_due_site, is_numbered, tells_names, lists_variables, are_constants, literal_is_held}
+use Rattle.sl_model.specs.WellTypedNumbers.{agrees_with_all}
 
 -- there are no more functions and sites than there may be
 abbrev pub has_few : Typed → Bool
@@ -62,12 +63,12 @@ has_variables p = list_all (lists_variables (length p.names)) p.functions
 -- the constants ascend, and hold 0, 1 and each literal with its two neighbours
 unfoldable pub has_constants : Typed → Bool
 unfolding nodes_in nodes_in_left nodes_in_operands nodes_in_stmt nodes_in_stmts
-has_constants p = are_constants (nodes_of p) p.constants
+has_constants p = are_constants p.constants && list_all (literal_is_held p.constants) (nodes_of p)
 
 -- nodes with needs that stand at one place are calls of one name, with the same names of arguments
 unfoldable pub has_one_asker : Typed → Bool
 unfolding table nodes_in nodes_in_left nodes_in_operands nodes_in_stmt nodes_in_stmts
-has_one_asker p = all_agree (flat_map asked_by (nodes_of p))
+has_one_asker p = list_all (agrees_with_all (nodes_of p)) (nodes_of p)
 
 -- a text is well typed
 pub record WellTyped (p : Typed) : Type 0 where

@@ -112,11 +112,6 @@ are_variables n kinds vs = false
 abbrev pub lists_variables : ℕ → Function → Bool
 lists_variables n h = are_variables n (map kind_of h.parameters ++ filter_map kind_in (nodes_in_stmt h.body)) h.variables
 
--- the number that a literal is
-abbrev pub literal_in : Node → Option ℤ
-literal_in (a_literal z) = Some z
-literal_in node = None
-
 -- a number is among these
 abbrev pub holds : List ℤ → ℤ → Bool
 holds zs z = list_any (λ y. int_le y z && int_le z y) zs
@@ -131,9 +126,14 @@ ascend [] = true
 ascend (x ∷ []) = true
 ascend (x ∷ y ∷ rest) = int_lt x y && ascend (y ∷ rest)
 
--- numbers ascend, and hold 0, 1 and what is around the literals among these nodes
-abbrev pub are_constants : List Node → List ℤ → Bool
-are_constants nodes zs = ascend zs && holds zs (pos 0) && holds zs (pos 1) && list_all (holds_around zs) (filter_map literal_in nodes)
+-- a node is no literal whose number or neighbours aren't among these
+abbrev pub literal_is_held : List ℤ → Node → Bool
+literal_is_held zs (a_literal z) = holds_around zs z
+literal_is_held zs node = true
+
+-- numbers ascend, and 0 and 1 are among them
+abbrev pub are_constants : List ℤ → Bool
+are_constants zs = ascend zs && holds zs (pos 0) && holds zs (pos 1)
 
 -- the word of a comparison
 abbrev pub comparison_word : Comparison → List ℕ
@@ -188,15 +188,15 @@ callee_word (callees.Operator o) = operator_word o
 callee_word (callees.Hidden o) = codes "for"
 
 -- what a call of the library asks, if it has needs
-abbrev pub asked_by_call : Head → List Asked
-asked_by_call h = if has_needs h.callee then record { place = h.place; word = callee_word h.callee; names = h.names } ∷ [] else []
+abbrev pub asked_by_call : Head → Option Asked
+asked_by_call h = if has_needs h.callee then Some (record { place = h.place; word = callee_word h.callee; names = h.names }) else None
 
--- what a node asks: a use of a reference has it for argument 1, and a range-for its container for arguments 1 and 2
-abbrev pub asked_by : Node → List Asked
+-- what a node asks, if it has needs: a use of a reference has its name for argument 1, and a range-for that of its container for arguments 1 and 2
+abbrev pub asked_by : Node → Option Asked
 asked_by (a_call h ops) = asked_by_call h
-asked_by (a_use at name) = record { place = at; word = codes "use"; names = None ∷ Some name ∷ [] } ∷ []
-asked_by (a_range at name) = record { place = at; word = codes "for"; names = None ∷ Some name ∷ Some name ∷ [] } ∷ []
-asked_by node = []
+asked_by (a_use at name) = Some (record { place = at; word = codes "use"; names = None ∷ Some name ∷ [] })
+asked_by (a_range at name) = Some (record { place = at; word = codes "for"; names = None ∷ Some name ∷ Some name ∷ [] })
+asked_by node = None
 
 -- one place
 abbrev pub same_place : Place → Place → Bool
@@ -214,11 +214,15 @@ same_names [] ys = list_all (same_name None) ys
 same_names (x ∷ xs) [] = same_name x None && list_all (same_name None) xs
 same_names (x ∷ xs) (y ∷ ys) = same_name x y && same_names xs ys
 
--- at one place the same is asked
+-- what is asked at one place is the same call, with the same names
 abbrev pub agrees : Asked → Asked → Bool
 agrees x y = not (same_place x.place y.place) || (bytes_eq x.word y.word && same_names x.names y.names)
 
--- each two of these agree
-abbrev pub all_agree : List Asked → Bool
-all_agree [] = true
-all_agree (x ∷ xs) = list_all (agrees x) xs && all_agree xs
+-- the same of what two nodes ask
+abbrev pub agree : Option Asked → Option Asked → Bool
+agree (Some x) (Some y) = agrees x y
+agree x y = true
+
+-- a node agrees with each of these
+abbrev pub agrees_with_all : List Node → Node → Bool
+agrees_with_all nodes node = list_all (λ other. agree (asked_by node) (asked_by other)) nodes

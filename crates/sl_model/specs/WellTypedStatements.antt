@@ -240,7 +240,12 @@ abbrev pub is_typed_function : Typed → Function → Bool
 is_typed_function p h = let g = with_parameters h.parameters (no_variables p) in
     is_block h.body && has_type (type_given h.result) && is_within g && is_typed_stmt g h.result false h.body
 
--- `main` takes nothing and gives an int
+-- there are no parameters
+abbrev pub takes_nothing : List ParameterKind → Bool
+takes_nothing [] = true
+takes_nothing (k ∷ ks) = false
+
+-- `main` is there, takes nothing and gives an int
 abbrev pub is_main : Option Function → Bool
 is_main None = false
-is_main (Some h) = elim h.parameters as (λ _. Bool) [ k ∷ ks ↦ false | [] ↦ is_scalar t.Int (type_given h.result) ]
+is_main (Some h) = takes_nothing h.parameters && is_scalar t.Int (type_given h.result)
