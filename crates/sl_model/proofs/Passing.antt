@@ -79,14 +79,14 @@ given_passes test gives (z ∷ zs) (suc i) x y h e g =
 both_lists : {Y : Type 0} (test : Y → Bool) (ys zs : List Y) → list_all test (ys ++ zs) ≡ true → (list_all test ys && list_all test zs) ≡ true
 both_lists test ys zs h = sym (list_all-append test ys zs) ∙ h
 
--- what is in a list that one of another list gives passes the test that all pass that any of these gives
-pub flat_map_passes : {X Y : Type 0} (test : Y → Bool) (gives : X → List Y) (xs : List X) (n : ℕ) (x : X) (i : ℕ) (y : Y)
-    → list_all test (flat_map gives xs) ≡ true → slice_get xs n ≡ Some x → slice_get (gives x) i ≡ Some y → test y ≡ true
-flat_map_passes test gives [] n x i y h e g = absurd cc
-flat_map_passes test gives (z ∷ zs) zero x i y h e g =
+-- a list that one of another list gives passes the test that all pass that any of these gives
+pub flat_map_each : {X Y : Type 0} (test : Y → Bool) (gives : X → List Y) (xs : List X) (n : ℕ) (x : X)
+    → list_all test (flat_map gives xs) ≡ true → slice_get xs n ≡ Some x → list_all test (gives x) ≡ true
+flat_map_each test gives [] n x h e = absurd cc
+flat_map_each test gives (z ∷ zs) zero x h e =
     let same : z ≡ x = cc in
     let own = first_of_both (list_all test (gives z)) (list_all test (flat_map gives zs)) (both_lists test (gives z) (flat_map gives zs) h) in
-    passes_at test (gives x) i y (subst (λ w. list_all test (gives w) ≡ true) same own) g
-flat_map_passes test gives (z ∷ zs) (suc n) x i y h e g =
+    subst (λ w. list_all test (gives w) ≡ true) same own
+flat_map_each test gives (z ∷ zs) (suc n) x h e =
     let others = second_of_both (list_all test (gives z)) (list_all test (flat_map gives zs)) (both_lists test (gives z) (flat_map gives zs) h) in
-    flat_map_passes test gives zs n x i y others e g
+    flat_map_each test gives zs n x others e

@@ -11,7 +11,7 @@ use Rattle.sl_model.specs.WellTypedNumbers.{site_in, loop_in, go_up, are_numbers
 use Rattle.sl_model.specs.WellTypedNumbers.{has_due_site, tells_names, are_constants, literal_is_held, asked_by, agree, agrees_with_all}
 use Rattle.sl_model.specs.WellTypedOrder.{binds_apart, is_ordered}
 use Rattle.sl_model.specs.WellTyped.{has_numbers, has_sites, has_no_alias, has_order, has_names, has_constants, has_one_asker, WellTyped}
-use Rattle.sl_model.proofs.Passing.{first_of_both, second_of_both, passes_at, given_passes, flat_map_passes}
+use Rattle.sl_model.proofs.Passing.{first_of_both, second_of_both, passes_at, given_passes, flat_map_each}
 
 -- the sites and the loops of a function of a well typed text are numbered
 numbered : (p : Typed) → WellTyped p → (n : ℕ) (h : Function) → slice_get p.functions n ≡ Some h → is_numbered p h ≡ true
@@ -33,10 +33,16 @@ pub record IsNode (p : Typed) (node : Node) : Type 0 where
   pub place : ℕ
   pub there : slice_get (nodes_in_stmt function.body) place ≡ Some node
 
--- what all nodes of a text pass is passed by each
-passes_in : (p : Typed) (node : Node) → IsNode p node → (test : Node → Bool) → list_all test (nodes_of p) ≡ true → test node ≡ true
-passes_in p node at test h =
-    flat_map_passes test (λ (f : Function). nodes_in_stmt f.body) p.functions at.number at.function at.place node h at.function_there at.there
+-- what all nodes of a text pass is passed by all of each function
+pub passes_in_function : (p : Typed) (n : ℕ) (h : Function) (test : Node → Bool) → list_all test (nodes_of p) ≡ true
+    → slice_get p.functions n ≡ Some h
+    → list_all test (nodes_in_stmt h.body) ≡ true
+passes_in_function p n h test all e = flat_map_each test (λ (f : Function). nodes_in_stmt f.body) p.functions n h all e
+
+-- it is passed by each node
+pub passes_in : (p : Typed) (node : Node) → IsNode p node → (test : Node → Bool) → list_all test (nodes_of p) ≡ true → test node ≡ true
+passes_in p node at test h = passes_at test (nodes_in_stmt at.function.body) at.place node
+    (passes_in_function p at.number at.function test h at.function_there) at.there
 
 -- a call or a brace is a site exactly where it can invalidate
 pub site_is_due : (p : Typed) → WellTyped p → (node : Node) → IsNode p node → has_due_site node ≡ true

@@ -16,10 +16,10 @@ use Rattle.sl_syntax.specs.declared.typed.step.Fix.TheVariants as fixes
 use Rattle.sl_syntax.specs.declared.typed.step.Step.TheVariants as steps
 use Rattle.sl_syntax.specs.declared.typed.variable.VariableKind.TheVariants as v
 use Rattle.sl_syntax.specs.Typed.{literal, held, iterator, convert, negate, arithmetic, comparison, increment, move, own_call, first}
-use Rattle.sl_syntax.specs.Typed.{second, container, scalar, reference, element, none, with, read, test, text, endline, number, prints}
-use Rattle.sl_syntax.specs.Typed.{evaluates, assigns, updates, unset_scalar, set_scalar, set_iterator, binds_reference, declares_first}
-use Rattle.sl_syntax.specs.Typed.{declares, choice, choice_else, while, for, range_for, break, continue, gives_back, does, Typed}
-use Rattle.sl_syntax.specs.Typed.{operands_from}
+use Rattle.sl_syntax.specs.Typed.{second, container, handed_scalar, scalar, reference, element, none, with, read, test, text, endline}
+use Rattle.sl_syntax.specs.Typed.{number, prints, evaluates, assigns, updates, unset_scalar, set_scalar, set_iterator, binds_reference}
+use Rattle.sl_syntax.specs.Typed.{declares_first, declares, choice, choice_else, while, for, range_for, break, continue, gives_back, does}
+use Rattle.sl_syntax.specs.Typed.{Typed, operands_from}
 use Rattle.sl_model.specs.WellTyped.{WellTyped}
 use Rattle.sl_model.proofs.Examples.Trees.{well, broken, at, on, on_site, off, appends, operator, int, value, calls, element_of, star, done}
 use Rattle.sl_model.proofs.Examples.Trees.{made, vector, begun, pushed, body, body_at, function, main_of, whole, alone, behind_vector}
@@ -364,6 +364,34 @@ orders = alone (v.Scalar ∷ v.Scalar ∷ v.Container ∷ v.Scalar ∷ []) (body
 orders_is_well : WellTyped orders
 unfolding broken
 orders_is_well = well orders refl
+
+-- int f(int& x) {
+--   return x;
+-- }
+-- int g(int x, int y) {
+--   return x;
+-- }
+-- int main() {
+--   std::vector<int> v = {1};
+--   int x = 1;
+--   int y = g(f(x), 2);
+--   std::ptrdiff_t n = std::unique(v.begin(), v.end()) - v.begin();
+-- }
+abbrev orders_of_calls : Typed
+orders_of_calls = whole (
+    function (k.Reference t.Int ∷ []) (Some (k.Value t.Int)) (v.Scalar ∷ []) (body (gives_back (Some (value 0)) ∷ [])) ∷
+    function (k.Value t.Int ∷ k.Value t.Int ∷ []) (Some (k.Value t.Int)) (v.Scalar ∷ v.Scalar ∷ []) (body (gives_back (Some (value 0)) ∷ [])) ∷
+    main_of (v.Container ∷ v.Scalar ∷ v.Scalar ∷ v.Scalar ∷ []) (body_at 0 (
+    made f.Vector sequence.VECTOR_CONSTRUCTOR_LIST (at 8 3) (int 1 ∷ []) ∷ declares (set_scalar t.Int (int 1)) ∷
+    declares (set_scalar t.Int (own_call 1 (at 10 11) (operands_from (own_call 0 (at 10 13) (with (handed_scalar 0) none) ∷ int 2 ∷ [])))) ∷
+    declares (set_scalar t.Diff (calls (operator operators.Difference (at 11 54)) (
+    calls (off algorithm.STD_UNIQUE (at 11 22)) (calls (on sequence.VECTOR_BEGIN (at 11 36) 0) [] ∷
+    calls (on sequence.VECTOR_END (at 11 47) 0) [] ∷ []) ∷
+    calls (on sequence.VECTOR_BEGIN (at 11 58) 0) [] ∷ []))) ∷ [])) ∷ []) 2 1 0
+
+orders_of_calls_is_well : WellTyped orders_of_calls
+unfolding broken
+orders_of_calls_is_well = well orders_of_calls refl
 
 -- int main() {
 --   std::vector<int> v;

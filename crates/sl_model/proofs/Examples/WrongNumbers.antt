@@ -16,7 +16,7 @@ use Rattle.sl_syntax.specs.declared.typed.parameter.ParameterKind.TheVariants as
 use Rattle.sl_syntax.specs.declared.typed.step.Fix.TheVariants as fixes
 use Rattle.sl_syntax.specs.declared.typed.step.Step.TheVariants as steps
 use Rattle.sl_syntax.specs.declared.typed.variable.VariableKind.TheVariants as v
-use Rattle.sl_syntax.specs.Typed.{literal, held, iterator, arithmetic, increment, move, own_call, container, handed_scalar, scalar}
+use Rattle.sl_syntax.specs.Typed.{literal, held, iterator, convert, arithmetic, increment, move, own_call, container, handed_scalar, scalar}
 use Rattle.sl_syntax.specs.Typed.{reference, element, none, with, test, unset_scalar, set_scalar, binds_reference, declares, while}
 use Rattle.sl_syntax.specs.Typed.{range_for, break, gives_back, Typed, operands_from}
 use Rattle.sl_model.proofs.Examples.Trees.{Few, Main, Alias, Order, Sites, Numbers, Names, Variables, Constants, Asker, broken, at, on}
@@ -190,6 +190,41 @@ change_beside_appender = behind_vector (v.Iterator ∷ v.Iterator ∷ []) 1 (beg
 change_beside_appender_is_not : broken change_beside_appender ≡ Order ∷ []
 unfolding broken
 change_beside_appender_is_not = refl
+
+-- int f(int& x) {
+--   return x;
+-- }
+-- int main() {
+--   int x = 1;
+--   int y = x + f(x);
+-- }
+abbrev call_beside_its_scalar : Typed
+call_beside_its_scalar = whole (
+    function (k.Reference t.Int ∷ []) (Some (k.Value t.Int)) (v.Scalar ∷ []) (body (gives_back (Some (value 0)) ∷ [])) ∷
+    main_of (v.Scalar ∷ v.Scalar ∷ []) (body (declares (set_scalar t.Int (int 1)) ∷
+    declares (set_scalar t.Int (arithmetic o.Add t.Int (at 6 13) (value 0) (own_call 0 (at 6 15) (with (handed_scalar 0) none)))) ∷ [])) ∷ []) 1 0 0
+
+call_beside_its_scalar_is_not : broken call_beside_its_scalar ≡ Order ∷ []
+unfolding broken
+call_beside_its_scalar_is_not = refl
+
+-- void f(int x, const std::vector<int>& v) {
+-- }
+-- int main() {
+--   std::vector<int> v = {1};
+--   f(++v[0], v);
+-- }
+abbrev stepped_beside_vector : Typed
+stepped_beside_vector = whole (
+    function (k.Value t.Int ∷ k.Container a.Const f.Vector ∷ []) None (v.Scalar ∷ v.Container ∷ []) (body []) ∷
+    main_of (v.Container ∷ []) (body_at 0 (made f.Vector sequence.VECTOR_CONSTRUCTOR_LIST (at 4 3) (int 1 ∷ []) ∷
+    done (own_call 0 (at 5 3) (operands_from (
+    increment steps.Up fixes.Prefix t.Int (at 5 5) (element (on sequence.VECTOR_SUBSCRIPT (at 5 8) 0) (with (convert t.Size (int 0)) none)) ∷
+    container 0 ∷ []))) ∷ [])) ∷ []) 1 1 0
+
+stepped_beside_vector_is_not : broken stepped_beside_vector ≡ Order ∷ []
+unfolding broken
+stepped_beside_vector_is_not = refl
 
 -- int main() {
 --   std::vector<int> v;
