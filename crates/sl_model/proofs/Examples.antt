@@ -17,7 +17,9 @@ pub mod Cleared
 pub mod Scoped
 pub mod Trees
 pub mod WellTyped
+pub mod WellTypedFunctions
 pub mod WrongTypes
 pub mod WrongAccess
 pub mod WrongStatements
+pub mod WrongOrder
 pub mod WrongNumbers
