@@ -1,8 +1,8 @@
 -- The nodes of a typed text in source order, as far as more is asked of them than their types: calls with their operands, operators between two
 -- operands, literals, uses of references, loops, braces and declarations.
 --
--- Restates ISO/IEC 14882:2017, [lex.phases] and [stmt] as far as the order of a text goes: what stands first in the text comes first here, also
--- where it is evaluated later. Chosen here: a call comes before its operands, and a closing brace after what it closes.
+-- No standard says any of it; it is chosen here. What stands first in the text comes first here, also where it is evaluated later: the left side of an
+-- assignment, and the last part of a `for` before its body. A call comes before its operands, and a closing brace after what it closes.
 use Rattle.std.specs.Prelude.{ℕ, Bool, true, false, List, [], ◌∷◌, ◌++◌, flat_map, ℤ, Option, Some, None}
 use Rattle.sl_base.specs.declared.place.Place.{Place}
 use Rattle.sl_syntax.specs.declared.typed.element.Taken.{Taken}
