@@ -40,9 +40,7 @@ pub mod RunGood
 pub mod Longer
 pub mod LongerExec
 pub mod LongerCalls
--- ## Worked examples
-pub mod Examples
--- ## Well typed texts
+-- ## Well typed texts: what is in them, and what their parts are
 pub mod Passing
 pub mod TypedNumbers
 pub mod TypedOperands
@@ -52,3 +50,5 @@ pub mod TypedExpressions
 pub mod TypedStatements
 pub mod TypedVariables
 pub mod TypedUses
+-- ## Worked examples
+pub mod Examples
