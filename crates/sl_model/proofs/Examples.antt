@@ -22,3 +22,11 @@ pub mod Algorithms
 pub mod Moves
 pub mod Ranges
 pub mod Scoped
+pub mod Trees
+pub mod WellTyped
+pub mod WellTypedFunctions
+pub mod WrongTypes
+pub mod WrongAccess
+pub mod WrongStatements
+pub mod WrongOrder
+pub mod WrongNumbers

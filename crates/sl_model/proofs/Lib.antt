@@ -59,5 +59,15 @@ pub mod RunGood
 pub mod Longer
 pub mod LongerExec
 pub mod LongerCalls
+-- ## Well typed texts: what is in them, and what their parts are
+pub mod Passing
+pub mod TypedNumbers
+pub mod TypedOperands
+pub mod TypedCalls
+pub mod TypedParts
+pub mod TypedExpressions
+pub mod TypedStatements
+pub mod TypedVariables
+pub mod TypedUses
 -- ## Worked examples
 pub mod Examples

@@ -33,3 +33,11 @@ pub mod Covers
 pub mod Texts
 pub mod Shapes
 pub mod Scoped
+pub mod WellTypedTypes
+pub mod WellTypedCalls
+pub mod WellTypedExpressions
+pub mod WellTypedNodes
+pub mod WellTypedStatements
+pub mod WellTypedOrder
+pub mod WellTypedNumbers
+pub mod WellTyped
