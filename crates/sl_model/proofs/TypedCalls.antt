@@ -15,10 +15,11 @@ use Rattle.sl_syntax.specs.declared.typed.callee.Callee.{Callee}
 use Rattle.sl_syntax.specs.declared.typed.callee.Callee.TheVariants as callees
 use Rattle.sl_syntax.specs.declared.typed.operator.Operator.{Operator}
 use Rattle.sl_syntax.specs.declared.typed.operator.Operator.TheVariants as operators
+use Rattle.sl_model.specs.Forms.{is_keyed, is_random_access}
 use Rattle.sl_model.specs.WellTypedTypes.{ExprType, no_type, empty_type, scalar_type, iterator_type}
 use Rattle.sl_model.specs.WellTypedTypes.{container_type, Scope, variable_type, has_type, only, is_scalar}
-use Rattle.sl_model.specs.WellTypedTypes.{is_iterator, is_iterator_of, is_writing_iterator, is_random_access, same_iterators, is_const}
-use Rattle.sl_model.specs.WellTypedTypes.{is_container_of, is_changed_container, is_sequence}
+use Rattle.sl_model.specs.WellTypedTypes.{is_iterator, is_iterator_of, is_writing_iterator, same_iterators, is_const}
+use Rattle.sl_model.specs.WellTypedTypes.{is_container_of, is_changed_container}
 use Rattle.sl_model.specs.WellTypedCalls.{is_int_iterator, is_bidirectional}
 use Rattle.std.proofs.lemmas.List.{take_all}
 use Rattle.sl_model.specs.WellTypedCalls.{one, optional, range, elements, fits_letter, width, fits, operator_type, call_type, row_type, member_type}
@@ -174,7 +175,7 @@ letter_stands form l.Key us h = one_stands (is_scalar t.Int) us h
 letter_stands form l.InitializerList us h = elements_stand us h
 letter_stands form l.Container us h = one_stands (is_container_of form) us h
 letter_stands form l.ChangedContainer us h = one_stands (is_changed_container (same_form form)) us h
-letter_stands form l.AppendedContainer us h = one_stands (is_changed_container is_sequence) us h
+letter_stands form l.AppendedContainer us h = one_stands (is_changed_container (λ x. not (is_keyed x))) us h
 letter_stands form l.Int us h = one_stands (is_scalar t.Int) us h
 letter_stands form l.Output us h = one_stands is_writing_iterator us h
 letter_stands form l.IteratorVariable us h = one_stands is_iterator us h

@@ -1,5 +1,5 @@
 -- The operands of a call that has a type have types, and there are as many as its letters take.
-use Rattle.std.proofs.Common.{◌≡◌, Bool, true, false, ◌&&◌, List, [], ◌∷◌, ◌++◌, take, drop}
+use Rattle.std.proofs.Common.{◌≡◌, Bool, true, false, not, ◌&&◌, List, [], ◌∷◌, ◌++◌, take, drop}
 use Rattle.std.proofs.Common.{refl, subst, take-append-drop}
 use Rattle.std.specs.List.{list_all}
 use Rattle.sl_base.specs.declared.form.Form.{Form}
@@ -7,9 +7,10 @@ use Rattle.sl_base.specs.declared.scalar.Scalar.TheVariants as t
 use Rattle.sl_specs.specs.declared.letter.Letter.{Letter}
 use Rattle.sl_specs.specs.declared.letter.Letter.TheVariants as l
 use Rattle.sl_specs.specs.Forms.{same_form}
+use Rattle.sl_model.specs.Forms.{is_keyed}
 use Rattle.sl_model.specs.WellTypedTypes.{ExprType, no_type, iterator_type}
 use Rattle.sl_model.specs.WellTypedTypes.{has_type, only, is_scalar, is_iterator}
-use Rattle.sl_model.specs.WellTypedTypes.{is_iterator_of, is_writing_iterator, same_iterators, is_container_of, is_changed_container, is_sequence}
+use Rattle.sl_model.specs.WellTypedTypes.{is_iterator_of, is_writing_iterator, same_iterators, is_container_of, is_changed_container}
 use Rattle.sl_model.specs.WellTypedCalls.{one, optional, range, elements, is_int_iterator, is_bidirectional, is_random, fits_letter, width, fits}
 use Rattle.sl_model.proofs.Passing.{first_of_both, second_of_both, both_true}
 
@@ -84,7 +85,7 @@ letter_typed form l.Key us h = one_typed (is_scalar t.Int) refl us h
 letter_typed form l.InitializerList us h = elements_typed us h
 letter_typed form l.Container us h = one_typed (is_container_of form) refl us h
 letter_typed form l.ChangedContainer us h = one_typed (is_changed_container (same_form form)) refl us h
-letter_typed form l.AppendedContainer us h = one_typed (is_changed_container is_sequence) refl us h
+letter_typed form l.AppendedContainer us h = one_typed (is_changed_container (λ x. not (is_keyed x))) refl us h
 letter_typed form l.Int us h = one_typed (is_scalar t.Int) refl us h
 letter_typed form l.Output us h = one_typed is_writing_iterator refl us h
 letter_typed form l.IteratorVariable us h = one_typed is_iterator refl us h

@@ -27,10 +27,12 @@ use Rattle.sl_syntax.specs.declared.typed.callee.Callee.{Callee}
 use Rattle.sl_syntax.specs.declared.typed.callee.Callee.TheVariants as callees
 use Rattle.sl_syntax.specs.declared.typed.operator.Operator.{Operator}
 use Rattle.sl_syntax.specs.declared.typed.operator.Operator.TheVariants as operators
+use Rattle.sl_syntax.specs.Written.{is_map}
+use Rattle.sl_model.specs.Forms.{is_keyed, is_hash, is_random_access}
 use Rattle.sl_model.specs.WellTypedTypes.{ExprType, no_type, empty_type, scalar_type, element_type, iterator_type, iterator_and_bool, two_iterators}
 use Rattle.sl_model.specs.WellTypedTypes.{container_type, Scope, variable_type, only, is_scalar, is_iterator, is_iterator_that, is_iterator_of}
-use Rattle.sl_model.specs.WellTypedTypes.{is_writing_iterator, same_iterators, is_container_of, is_changed_container, is_sequence, is_random_access}
-use Rattle.sl_model.specs.WellTypedTypes.{is_hashed, has_values, is_const}
+use Rattle.sl_model.specs.WellTypedTypes.{is_writing_iterator, same_iterators, is_container_of, is_changed_container}
+use Rattle.sl_model.specs.WellTypedTypes.{is_const}
 
 -- one operand that passes a test
 abbrev pub one : (ExprType → Bool) → List ExprType → Bool
@@ -54,11 +56,11 @@ elements us = list_all (is_scalar t.Int) us
 
 -- an iterator to ints
 abbrev pub is_int_iterator : ExprType → Bool
-is_int_iterator u = is_iterator_that (λ b x. not (has_values x)) u
+is_int_iterator u = is_iterator_that (λ b x. not (is_map x)) u
 
 -- an iterator that goes both ways
 abbrev pub is_bidirectional : ExprType → Bool
-is_bidirectional u = is_iterator_that (λ b x. not (is_hashed x)) u
+is_bidirectional u = is_iterator_that (λ b x. not (is_hash x)) u
 
 -- a random access iterator
 abbrev pub is_random : ExprType → Bool
@@ -80,7 +82,7 @@ fits_letter form l.Key us = one (is_scalar t.Int) us
 fits_letter form l.InitializerList us = elements us
 fits_letter form l.Container us = one (is_container_of form) us
 fits_letter form l.ChangedContainer us = one (is_changed_container (same_form form)) us
-fits_letter form l.AppendedContainer us = one (is_changed_container is_sequence) us
+fits_letter form l.AppendedContainer us = one (is_changed_container (λ x. not (is_keyed x))) us
 fits_letter form l.Int us = one (is_scalar t.Int) us
 fits_letter form l.Output us = one is_writing_iterator us
 fits_letter form l.IteratorVariable us = one is_iterator us
@@ -197,11 +199,11 @@ is_equality o = false
 
 -- the type of an operator on iterators
 abbrev pub operator_type : Operator → List ExprType → ExprType
-operator_type operators.Dereference (iterator_type b x ∷ []) = only (not (has_values x)) (element_type (not b && is_sequence x))
-operator_type operators.ArrowFirst (iterator_type b x ∷ []) = only (has_values x) (element_type false)
-operator_type operators.ArrowSecond (iterator_type b x ∷ []) = only (has_values x) (element_type (not b))
+operator_type operators.Dereference (iterator_type b x ∷ []) = only (not (is_map x)) (element_type (not b && not (is_keyed x)))
+operator_type operators.ArrowFirst (iterator_type b x ∷ []) = only (is_map x) (element_type false)
+operator_type operators.ArrowSecond (iterator_type b x ∷ []) = only (is_map x) (element_type (not b))
 operator_type operators.Increment (iterator_type b x ∷ []) = iterator_type b x
-operator_type operators.Decrement (iterator_type b x ∷ []) = only (not (is_hashed x)) (iterator_type b x)
+operator_type operators.Decrement (iterator_type b x ∷ []) = only (not (is_hash x)) (iterator_type b x)
 operator_type operators.Add (iterator_type b x ∷ u ∷ []) = only (is_random_access x && is_scalar t.Diff u) (iterator_type b x)
 operator_type operators.Subtract (iterator_type b x ∷ u ∷ []) = only (is_random_access x && is_scalar t.Diff u) (iterator_type b x)
 operator_type operators.AddAssign (iterator_type b x ∷ u ∷ []) = only (is_random_access x && is_scalar t.Diff u) empty_type

@@ -29,9 +29,11 @@ use Rattle.sl_syntax.specs.Typed.{Printed, text, endline, number, Effect, reads,
 use Rattle.sl_syntax.specs.Typed.{unset_scalar, set_scalar, set_iterator, binds_reference, makes, First, no_first, declares_first, does_first, Stmt}
 use Rattle.sl_syntax.specs.Typed.{block, declares, choice, choice_else, while, for, range_for, break, continue, gives_back, does, Stmts, no_more}
 use Rattle.sl_syntax.specs.Typed.{followed, Function, Typed}
+use Rattle.sl_syntax.specs.Written.{is_map}
+use Rattle.sl_model.specs.Forms.{is_keyed}
 use Rattle.sl_model.specs.WellTypedTypes.{ExprType, no_type, scalar_type, element_type, iterator_type, two_iterators, container_type, handed_type}
 use Rattle.sl_model.specs.WellTypedTypes.{int_reference, entry_reference, Scope, is_within, variable_type, with_scalar, with_container, with_iterator}
-use Rattle.sl_model.specs.WellTypedTypes.{is_sequence, has_values, is_const, has_type, is_scalar, is_number, is_written, works_in}
+use Rattle.sl_model.specs.WellTypedTypes.{is_const, has_type, is_scalar, is_number, is_written, works_in}
 use Rattle.sl_model.specs.WellTypedTypes.{is_iterator, is_iterator_of, same_iterators}
 use Rattle.sl_model.specs.WellTypedCalls.{row_at, constructs}
 use Rattle.sl_model.specs.WellTypedExpressions.{goes_to, type_given, type_of, type_of_left, types_of}
@@ -168,7 +170,7 @@ behind_first head g = g
 -- a range-for goes over such a container; an element with a key and a value is taken by reference
 abbrev pub may_go_over : Taken → ExprType → Bool
 may_go_over how (container_type a.Elements x) = false
-may_go_over taken.Value (container_type access x) = not (has_values x)
+may_go_over taken.Value (container_type access x) = not (is_map x)
 may_go_over taken.Reference (container_type access x) = true
 may_go_over how u = false
 
@@ -176,7 +178,7 @@ may_go_over how u = false
 abbrev pub with_element : Taken → Bool → Form → Scope → Scope
 with_element taken.Value b x g = with_scalar (scalar_type t.Int) g
 with_element taken.Reference b x g =
-    with_iterator (if has_values x then entry_reference (not b) else int_reference (not b && is_sequence x)) g
+    with_iterator (if is_map x then entry_reference (not b) else int_reference (not b && not (is_keyed x))) g
 
 -- what is in scope in the body of a range-for: two hidden iterators, and then its variable
 abbrev pub in_range : Taken → ExprType → Scope → Scope

@@ -16,6 +16,7 @@ use Rattle.sl_specs.specs.Forms.{same_form}
 use Rattle.sl_syntax.specs.declared.operator.Access.{Access}
 use Rattle.sl_syntax.specs.declared.operator.Access.TheVariants as a
 use Rattle.sl_syntax.specs.Typed.{Function}
+use Rattle.sl_model.specs.Forms.{is_keyed}
 
 -- A type. A Bool beside a form says that the container is const; one beside an element or a reference, that what it is may be written.
 pub data ExprType : Type 0 where
@@ -65,32 +66,6 @@ with_container u g = record g { containers = g.containers ++ u ∷ [] }
 -- an iterator does, or a reference
 abbrev pub with_iterator : ExprType → Scope → Scope
 with_iterator u g = record g { iterators = g.iterators ++ u ∷ [] }
-
--- a form whose elements stand where they are put
-abbrev pub is_sequence : Form → Bool
-is_sequence f.Vector = true
-is_sequence f.Deque = true
-is_sequence f.List = true
-is_sequence x = false
-
--- a form with random access iterators
-abbrev pub is_random_access : Form → Bool
-is_random_access f.Vector = true
-is_random_access f.Deque = true
-is_random_access x = false
-
--- a form without an order, whose iterators go forward alone
-abbrev pub is_hashed : Form → Bool
-is_hashed f.HashSet = true
-is_hashed f.HashMap = true
-is_hashed x = false
-
--- a form whose elements have a key and a value
-abbrev pub has_values : Form → Bool
-has_values f.Map = true
-has_values f.HashMap = true
-has_values f.MultiMap = true
-has_values x = false
 
 -- two types of numbers are one
 abbrev pub same_scalar : Scalar → Scalar → Bool
@@ -164,7 +139,7 @@ is_iterator_of form u = is_iterator_that (λ b x. same_form form x) u
 
 -- an iterator through which the elements of a sequence are written
 abbrev pub is_writing_iterator : ExprType → Bool
-is_writing_iterator u = is_iterator_that (λ b x. not b && is_sequence x) u
+is_writing_iterator u = is_iterator_that (λ b x. not b && not (is_keyed x)) u
 
 -- two iterators of one type
 abbrev pub same_iterators : ExprType → ExprType → Bool
