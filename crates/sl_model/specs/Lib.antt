@@ -18,3 +18,8 @@ pub mod Covers
 pub mod Texts
 pub mod Shapes
 pub mod Scoped
+pub mod Facts
+pub mod FactsLeft
+pub mod FactRules
+pub mod FactsOfIterators
+pub mod FactsOfNumbers
