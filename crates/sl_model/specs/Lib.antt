@@ -23,3 +23,6 @@ pub mod FactsLeft
 pub mod FactRules
 pub mod FactsOfIterators
 pub mod FactsOfNumbers
+pub mod FactOperands
+pub mod FactsOfContainers
+pub mod FactsOfCalls
