@@ -26,3 +26,5 @@ pub mod FactsOfNumbers
 pub mod FactOperands
 pub mod FactsOfContainers
 pub mod FactsOfCalls
+pub mod FactsOfElements
+pub mod FactsOfFunctions
