@@ -28,3 +28,5 @@ pub mod FactsOfContainers
 pub mod FactsOfCalls
 pub mod FactsOfElements
 pub mod FactsOfFunctions
+pub mod FactSteps
+pub mod FactsOfExpressions
