@@ -30,3 +30,5 @@ pub mod FactsOfElements
 pub mod FactsOfFunctions
 pub mod FactSteps
 pub mod FactsOfExpressions
+pub mod FactScopes
+pub mod FactsOfEffects
