@@ -15,3 +15,5 @@ pub mod Told
 pub mod Rows
 pub mod Cleared
 pub mod Scoped
+pub mod FactsShort
+pub mod FactsLoops

@@ -32,3 +32,6 @@ pub mod FactSteps
 pub mod FactsOfExpressions
 pub mod FactScopes
 pub mod FactsOfEffects
+pub mod RangeUses
+pub mod Carry
+pub mod Outline
