@@ -17,3 +17,8 @@ pub mod Cleared
 pub mod Scoped
 pub mod FactsShort
 pub mod FactsLoops
+pub mod FactsVectors
+pub mod FactsForms
+pub mod FactsNumbers
+pub mod FactsIterators
+pub mod FactsRefused

@@ -1,5 +1,5 @@
 -- Short ways to write closed texts and their facts. Names, sites and the places of loops and variables are left out: no fact asks for them.
-use Rattle.std.specs.Prelude.{ℕ, Bool, false, List, [], ◌∷◌, map, slice_get, ℤ, pos, Option, Some, None}
+use Rattle.std.specs.Prelude.{ℕ, zero, suc, ◌++◌, Bool, true, false, not, ◌&&◌, List, [], ◌∷◌, map, slice_get, ℤ, pos, Option, Some, None}
 use Rattle.sl_base.specs.declared.form.Form.{Form}
 use Rattle.sl_base.specs.declared.form.Form.TheVariants as f
 use Rattle.sl_base.specs.declared.place.Place.{Place}
@@ -25,7 +25,7 @@ use Rattle.sl_model.specs.FactSteps.{Heads, Given}
 use Rattle.sl_model.specs.FactsOfExpressions.{expression, left_side, stepped, operands}
 use Rattle.sl_model.specs.FactScopes.{no_scope, after_parameters}
 use Rattle.sl_model.specs.RangeUses.{leaves_in, leaves_in_left, leaves_in_all, leaves_in_stmt, leaves_in_stmts}
-use Rattle.sl_model.specs.Carry.{carry, carry_all, no_carry}
+use Rattle.sl_model.specs.Carry.{Carry, carry, carry_all, no_carry}
 use Rattle.sl_model.specs.Outline.{nowhere}
 
 -- a place of which nothing is said, and a place on a line
@@ -188,6 +188,11 @@ text_of constants main functions = record { functions = functions; main = main; 
 abbrev pub alone : List ℤ → List Stmt → Typed
 alone constants all = text_of constants 0 (main_of all ∷ [])
 
+-- the whole numbers from 0 to n
+abbrev pub numbers_to : ℕ → List ℤ
+numbers_to zero = pos 0 ∷ []
+numbers_to (suc n) = numbers_to n ++ (pos (suc n) ∷ [])
+
 -- the list with a number
 abbrev pub list_in : List (List Fact) → ℕ → List Fact
 list_in ls n = elim (slice_get ls n) [ None ↦ [] | Some l ↦ l ]
@@ -209,9 +214,25 @@ abbrev pub is_given : Given → Fact → Bool
 is_given None g = false
 is_given (Some F) g = F g
 
--- of these facts, which are given behind statements of `main`, where a text has these constants
-unfoldable pub behind_all : List ℤ → List Stmt → List Fact → List Bool
+-- each of these facts is given
+abbrev pub all_given : Given → List Fact → Bool
+all_given G [] = true
+all_given G (f ∷ l) = is_given G f && all_given G l
+
+-- none of them is
+abbrev pub none_given : Given → List Fact → Bool
+none_given G [] = true
+none_given G (f ∷ l) = not (is_given G f) && none_given G l
+
+-- statements of `main`, in a text with these constants
+abbrev pub statements : List ℤ → List Stmt → Carry
+statements constants all = carry_all (no_scope (alone constants all)) no_carry (stmts_from all)
+
+-- from no facts, statements of a `main` without loops have what they need; behind them these facts are given, and those aren't
+unfoldable pub shows : List ℤ → List Stmt → List Fact → List Fact → Bool
 unfolding row_of expression left_side stepped operands leaves_in leaves_in_left leaves_in_all leaves_in_stmt leaves_in_stmts carry carry_all
-behind_all constants all l =
-    let p = alone constants all in
-    map (is_given ((carry_all (no_scope p) no_carry (stmts_from all)).gives nowhere no_lists (Some (given_by []))).next) l
+shows constants all given dropped =
+    let read = statements constants all in
+    let start = Some (given_by []) in
+    let behind = (read.gives nowhere no_lists start).next in
+    read.needs nowhere no_lists start && all_given behind given && none_given behind dropped
