@@ -21,12 +21,11 @@ use Rattle.std.specs.Prelude.{List, None, Some, [], negsuc, pos, refl, true, ◌
 --   auto kt = std::next(it);
 --   if (kt == c.end()) return 0;
 --   int& r = c.front();
-abbrev known : List Stmt
+abbrev pub known : List Stmt
 known =
     (declares (makes f.List (head_at here (callees.Row sequence.LIST_CONSTRUCTOR_LIST) None) (operands_from (int 1 ∷ int 2 ∷ int 3 ∷ []))) ∷
     does (evaluates (member sequence.LIST_SORT 0 [])) ∷ declares (set_iterator (member sequence.LIST_BEGIN 0 [])) ∷
-    declares (set_iterator (member sequence.LIST_END 0 [])) ∷
-    declares (set_iterator (algorithm algorithms.STD_NEXT (iterator 0 ∷ []))) ∷
+    declares (set_iterator (member sequence.LIST_END 0 [])) ∷ declares (set_iterator (algorithm algorithms.STD_NEXT (iterator 0 ∷ []))) ∷
     choice (test (compared_at here comparisons.Equal (iterator 2) (member sequence.LIST_END 0 []))) (gives_back (Some (int 0))) ∷
     declares (binds_reference (head_at here (callees.Row sequence.LIST_FRONT) (Some 0)) (operands_from [])) ∷ [])
 
@@ -37,8 +36,7 @@ known =
 list_sort_moves : shows (negsuc 0 ∷ numbers_to 4)
     (known ++ (does (evaluates (member sequence.LIST_SORT 0 [])) ∷ []))
     (before 0 0 ∷ inside 1 0 ∷ before 2 0 ∷ inside 2 0 ∷ sorted 0 ∷ alive 3 0 ∷ size_at_least 0 (pos 3) ∷ [])
-    (behind 1 0 ∷ behind 2 0 ∷ [])
-    ≡ true
+    (behind 1 0 ∷ behind 2 0 ∷ []) ≡ true
 unfolding shows
 list_sort_moves = refl
 
@@ -48,9 +46,7 @@ list_sort_moves = refl
 -- not given: sorted(c)
 list_push_keeps : shows (negsuc 0 ∷ numbers_to 4)
     (known ++ (does (evaluates (member sequence.LIST_PUSH_FRONT 0 (int 2 ∷ []))) ∷ []))
-    (before 0 0 ∷ behind 1 0 ∷ before 2 0 ∷ behind 2 0 ∷ alive 3 0 ∷ size_at_least 0 (pos 4) ∷ [])
-    (sorted 0 ∷ [])
-    ≡ true
+    (before 0 0 ∷ behind 1 0 ∷ before 2 0 ∷ behind 2 0 ∷ alive 3 0 ∷ size_at_least 0 (pos 4) ∷ []) (sorted 0 ∷ []) ≡ true
 unfolding shows
 list_push_keeps = refl
 
@@ -61,9 +57,7 @@ list_push_keeps = refl
 list_insert_keeps : shows (negsuc 0 ∷ numbers_to 4)
     (known ++
     (does (moves_to 0 (member sequence.LIST_INSERT 0 (iterator 0 ∷ held (star (iterator 2)) ∷ []))) ∷ []))
-    (before 0 0 ∷ behind 1 0 ∷ before 2 0 ∷ behind 2 0 ∷ alive 3 0 ∷ size_at_least 0 (pos 4) ∷ [])
-    (behind 0 0 ∷ sorted 0 ∷ [])
-    ≡ true
+    (before 0 0 ∷ behind 1 0 ∷ before 2 0 ∷ behind 2 0 ∷ alive 3 0 ∷ size_at_least 0 (pos 4) ∷ []) (behind 0 0 ∷ sorted 0 ∷ []) ≡ true
 unfolding shows
 list_insert_keeps = refl
 
@@ -73,9 +67,7 @@ list_insert_keeps = refl
 -- not given: inside(kt, c), inside(jt, c), alive(r, c)
 list_erase_drops : shows (negsuc 0 ∷ numbers_to 4)
     (known ++ (does (moves_to 0 (member sequence.LIST_ERASE 0 (iterator 0 ∷ []))) ∷ []))
-    (inside 0 0 ∷ size_at_least 0 (pos 2) ∷ sorted 0 ∷ [])
-    (inside 2 0 ∷ inside 1 0 ∷ alive 3 0 ∷ [])
-    ≡ true
+    (inside 0 0 ∷ size_at_least 0 (pos 2) ∷ sorted 0 ∷ []) (inside 2 0 ∷ inside 1 0 ∷ alive 3 0 ∷ []) ≡ true
 unfolding shows
 list_erase_drops = refl
 
@@ -85,9 +77,7 @@ list_erase_drops = refl
 -- not given: inside(kt, c), alive(r, c)
 list_pop_drops : shows (negsuc 0 ∷ numbers_to 4)
     (known ++ (does (evaluates (member sequence.LIST_POP_FRONT 0 [])) ∷ []))
-    (size_at_least 0 (pos 2) ∷ sorted 0 ∷ [])
-    (inside 2 0 ∷ alive 3 0 ∷ [])
-    ≡ true
+    (size_at_least 0 (pos 2) ∷ sorted 0 ∷ []) (inside 2 0 ∷ alive 3 0 ∷ []) ≡ true
 unfolding shows
 list_pop_drops = refl
 
@@ -102,9 +92,7 @@ list_append_keeps : shows (negsuc 0 ∷ numbers_to 4)
     does (evaluates (call (head_at here (callees.Appends algorithms.STD_COPY) None) (operands_from (member sequence.VECTOR_BEGIN 1 [] ∷ member
       sequence.VECTOR_END 1 [] ∷ container 0 ∷ [])))) ∷
     []))
-    (before 0 0 ∷ behind 1 0 ∷ behind 2 0 ∷ alive 3 0 ∷ size_at_least 0 (pos 3) ∷ [])
-    (sorted 0 ∷ [])
-    ≡ true
+    (before 0 0 ∷ behind 1 0 ∷ behind 2 0 ∷ alive 3 0 ∷ size_at_least 0 (pos 3) ∷ []) (sorted 0 ∷ []) ≡ true
 unfolding shows
 list_append_keeps = refl
 
@@ -113,9 +101,7 @@ list_append_keeps = refl
 -- not given: size(c) >= 0, inside(it, c), alive(r, c), sorted(c)
 list_reverse_drops : shows (negsuc 0 ∷ numbers_to 4)
     (known ++ (does (evaluates (member sequence.LIST_REVERSE 0 [])) ∷ []))
-    []
-    (size_at_least 0 (pos 0) ∷ inside 0 0 ∷ alive 3 0 ∷ sorted 0 ∷ [])
-    ≡ true
+    [] (size_at_least 0 (pos 0) ∷ inside 0 0 ∷ alive 3 0 ∷ sorted 0 ∷ []) ≡ true
 unfolding shows
 list_reverse_drops = refl
 
@@ -131,9 +117,7 @@ deque_push_keeps_references : shows (numbers_to 4)
     declares (set_iterator (member sequence.DEQUE_BEGIN 0 [])) ∷
     declares (binds_reference (head_at here (callees.Row sequence.DEQUE_BACK) (Some 0)) (operands_from [])) ∷
     does (evaluates (member sequence.DEQUE_PUSH_FRONT 0 (int 3 ∷ []))) ∷ [])
-    (alive 1 0 ∷ size_at_least 0 (pos 3) ∷ [])
-    (inside 0 0 ∷ sorted 0 ∷ [])
-    ≡ true
+    (alive 1 0 ∷ size_at_least 0 (pos 3) ∷ []) (inside 0 0 ∷ sorted 0 ∷ []) ≡ true
 unfolding shows
 deque_push_keeps_references = refl
 
@@ -153,9 +137,7 @@ deque_append_keeps_references : shows (numbers_to 3)
     does (evaluates (call (head_at here (callees.Appends algorithms.STD_COPY) None) (operands_from (member sequence.VECTOR_BEGIN 1 [] ∷ member
       sequence.VECTOR_END 1 [] ∷ container 0 ∷ [])))) ∷
     [])
-    (alive 1 0 ∷ size_at_least 0 (pos 2) ∷ [])
-    (inside 0 0 ∷ sorted 0 ∷ [])
-    ≡ true
+    (alive 1 0 ∷ size_at_least 0 (pos 2) ∷ []) (inside 0 0 ∷ sorted 0 ∷ []) ≡ true
 unfolding shows
 deque_append_keeps_references = refl
 
@@ -171,9 +153,7 @@ deque_erase_drops : shows (numbers_to 3)
     declares (set_iterator (member sequence.DEQUE_BEGIN 0 [])) ∷
     declares (binds_reference (head_at here (callees.Row sequence.DEQUE_AT) (Some 0)) (operands_from (size_number 1 ∷ []))) ∷
     does (moves_to 0 (member sequence.DEQUE_ERASE 0 (iterator 0 ∷ []))) ∷ [])
-    (inside 0 0 ∷ size_at_least 0 (pos 1) ∷ [])
-    (alive 1 0 ∷ size_at_least 0 (pos 2) ∷ [])
-    ≡ true
+    (inside 0 0 ∷ size_at_least 0 (pos 1) ∷ []) (alive 1 0 ∷ size_at_least 0 (pos 2) ∷ []) ≡ true
 unfolding shows
 deque_erase_drops = refl
 
@@ -185,11 +165,8 @@ deque_erase_drops = refl
 -- not given: size(s) >= 2, sorted(s)
 set_insert_keeps : shows (numbers_to 4)
     (declares (makes f.Set (head_at here (callees.Row associative.SET_CONSTRUCTOR_LIST) None) (operands_from (int 1 ∷ int 2 ∷ []))) ∷
-    declares (set_iterator (member associative.SET_BEGIN 0 [])) ∷
-    does (evaluates (member associative.SET_INSERT 0 (int 3 ∷ []))) ∷ [])
-    (before 0 0 ∷ size_at_least 0 (pos 1) ∷ [])
-    (size_at_least 0 (pos 2) ∷ sorted 0 ∷ [])
-    ≡ true
+    declares (set_iterator (member associative.SET_BEGIN 0 [])) ∷ does (evaluates (member associative.SET_INSERT 0 (int 3 ∷ []))) ∷ [])
+    (before 0 0 ∷ size_at_least 0 (pos 1) ∷ []) (size_at_least 0 (pos 2) ∷ sorted 0 ∷ []) ≡ true
 unfolding shows
 set_insert_keeps = refl
 
@@ -205,9 +182,7 @@ hash_set_insert_drops : shows (numbers_to 4)
     declares (set_iterator (member associative.HASH_SET_BEGIN 0 [])) ∷
     declares (binds_reference (head_at here (callees.Operator operators.Dereference) None) (with (iterator 0) none)) ∷
     does (evaluates (member associative.HASH_SET_INSERT 0 (int 3 ∷ []))) ∷ [])
-    (alive 1 0 ∷ size_at_least 0 (pos 1) ∷ [])
-    (inside 0 0 ∷ sorted 0 ∷ [])
-    ≡ true
+    (alive 1 0 ∷ size_at_least 0 (pos 1) ∷ []) (inside 0 0 ∷ sorted 0 ∷ []) ≡ true
 unfolding shows
 hash_set_insert_drops = refl
 
@@ -223,9 +198,7 @@ map_index_inserts : shows (numbers_to 4)
     declares (set_iterator (member associative.MAP_END 0 [])) ∷
     does (assigns (member_element associative.MAP_SUBSCRIPT 0 (int 1 ∷ [])) (int 2)) ∷
     does (evaluates (member associative.MAP_EMPLACE 0 (int 2 ∷ int 3 ∷ []))) ∷ [])
-    (inside 0 0 ∷ size_at_least 0 (pos 1) ∷ [])
-    (sorted 0 ∷ behind 0 0 ∷ [])
-    ≡ true
+    (inside 0 0 ∷ size_at_least 0 (pos 1) ∷ []) (sorted 0 ∷ behind 0 0 ∷ []) ≡ true
 unfolding shows
 map_index_inserts = refl
 
@@ -241,9 +214,7 @@ hash_map_index_binds : shows (numbers_to 4)
     declares (set_iterator (member associative.HASH_MAP_END 0 [])) ∷
     declares (binds_reference (head_at here (callees.Row associative.HASH_MAP_SUBSCRIPT) (Some 0)) (with (int 1) none)) ∷
     does (evaluates (member associative.HASH_MAP_EMPLACE 0 (int 2 ∷ int 3 ∷ []))) ∷ [])
-    (alive 1 0 ∷ size_at_least 0 (pos 1) ∷ [])
-    (inside 0 0 ∷ [])
-    ≡ true
+    (alive 1 0 ∷ size_at_least 0 (pos 1) ∷ []) (inside 0 0 ∷ []) ≡ true
 unfolding shows
 hash_map_index_binds = refl
 
@@ -257,9 +228,7 @@ multiset_insert_keeps : shows (numbers_to 2)
     (declares (makes f.MultiSet (head_at here (callees.Row associative.MULTI_SET_CONSTRUCTOR_LIST) None) (operands_from (int 1 ∷ int 1 ∷ []))) ∷
     declares (set_iterator (member associative.MULTI_SET_BEGIN 0 [])) ∷
     does (evaluates (member associative.MULTI_SET_INSERT 0 (int 1 ∷ []))) ∷ [])
-    (before 0 0 ∷ size_at_least 0 (pos 1) ∷ [])
-    (size_at_least 0 (pos 2) ∷ sorted 0 ∷ [])
-    ≡ true
+    (before 0 0 ∷ size_at_least 0 (pos 1) ∷ []) (size_at_least 0 (pos 2) ∷ sorted 0 ∷ []) ≡ true
 unfolding shows
 multiset_insert_keeps = refl
 
@@ -277,9 +246,7 @@ multimap_emplace_keeps : shows (numbers_to 3)
     declares (set_iterator (member associative.MULTI_MAP_BEGIN 0 [])) ∷
     does (evaluates (member associative.MULTI_MAP_EMPLACE 0 (int 1 ∷ int 2 ∷ []))) ∷
     does (moves_to 0 (member associative.MULTI_MAP_ERASE 0 (iterator 0 ∷ []))) ∷ [])
-    (inside 0 0 ∷ size_at_least 0 (pos 0) ∷ [])
-    (size_at_least 0 (pos 1) ∷ before 0 0 ∷ [])
-    ≡ true
+    (inside 0 0 ∷ size_at_least 0 (pos 0) ∷ []) (size_at_least 0 (pos 1) ∷ before 0 0 ∷ []) ≡ true
 unfolding shows
 multimap_emplace_keeps = refl
 
@@ -295,9 +262,7 @@ looked_up : shows (numbers_to 4)
     declares (set_iterator (member associative.MAP_FIND 0 (int 1 ∷ []))) ∷
     declares (set_iterator (member associative.MAP_LOWER_BOUND 0 (int 2 ∷ []))) ∷
     declares (set_iterator (member associative.MAP_UPPER_BOUND 0 (int 3 ∷ []))) ∷ [])
-    (inside 0 0 ∷ inside 1 0 ∷ inside 2 0 ∷ sorted 0 ∷ [])
-    (before 0 0 ∷ behind 1 0 ∷ [])
-    ≡ true
+    (inside 0 0 ∷ inside 1 0 ∷ inside 2 0 ∷ sorted 0 ∷ []) (before 0 0 ∷ behind 1 0 ∷ []) ≡ true
 unfolding shows
 looked_up = refl
 
@@ -311,9 +276,7 @@ inserted_tells_nothing : shows (numbers_to 2)
     (declares (makes f.Set (head_at here (callees.Row associative.SET_CONSTRUCTOR) None) (operands_from [])) ∷
     declares (set_iterator (first here (member associative.SET_INSERT 0 (int 1 ∷ [])))) ∷
     declares (set_iterator (member associative.SET_FIND 0 (int 1 ∷ []))) ∷ [])
-    (size_at_least 0 (pos 1) ∷ inside 1 0 ∷ [])
-    (inside 0 0 ∷ [])
-    ≡ true
+    (size_at_least 0 (pos 1) ∷ inside 1 0 ∷ []) (inside 0 0 ∷ []) ≡ true
 unfolding shows
 inserted_tells_nothing = refl
 
@@ -324,10 +287,7 @@ inserted_tells_nothing = refl
 -- not given: size(s) >= 0, inside(it, s), sorted(s)
 erase_key_drops : shows (numbers_to 2)
     (declares (makes f.Set (head_at here (callees.Row associative.SET_CONSTRUCTOR_LIST) None) (operands_from (int 1 ∷ []))) ∷
-    declares (set_iterator (member associative.SET_BEGIN 0 [])) ∷
-    does (evaluates (member associative.SET_ERASE_KEY 0 (int 1 ∷ []))) ∷ [])
-    []
-    (size_at_least 0 (pos 0) ∷ inside 0 0 ∷ sorted 0 ∷ [])
-    ≡ true
+    declares (set_iterator (member associative.SET_BEGIN 0 [])) ∷ does (evaluates (member associative.SET_ERASE_KEY 0 (int 1 ∷ []))) ∷ [])
+    [] (size_at_least 0 (pos 0) ∷ inside 0 0 ∷ sorted 0 ∷ []) ≡ true
 unfolding shows
 erase_key_drops = refl

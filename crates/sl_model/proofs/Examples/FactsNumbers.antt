@@ -1,12 +1,11 @@
 -- What the rules of scalars and of their tests give, and what they drop.
 use Rattle.sl_base.specs.declared.form.Form.TheVariants as f
 use Rattle.sl_base.specs.declared.scalar.Scalar.TheVariants as t
-use Rattle.sl_model.proofs.Examples.FactsShort.{compares, head_at, here, int, member, member_element, numbers_to, shows, size_number, up_int}
-use Rattle.sl_model.proofs.Examples.FactsShort.{up_size, value_of}
+use Rattle.sl_model.proofs.Examples.FactsShort.{compares, head_at, here, int, member, numbers_to, shows, size_number, up_int, up_size, value_of}
 use Rattle.sl_model.specs.Facts.{below_size, lower_bound, size_at_least, up_to_size, upper_bound}
 use Rattle.sl_specs.specs.declared.rows.sequences.TheConstants as sequence
-use Rattle.sl_syntax.specs.Typed.{assigns, choice, convert, declares, does, evaluates, gives_back, held, increment, literal, logical_and}
-use Rattle.sl_syntax.specs.Typed.{logical_not, logical_or, makes, negate, operands_from, reads, scalar, set_scalar, test, unset_scalar, updates}
+use Rattle.sl_syntax.specs.Typed.{assigns, choice, convert, declares, does, evaluates, gives_back, increment, literal, makes, operands_from, reads}
+use Rattle.sl_syntax.specs.Typed.{scalar, set_scalar, test, unset_scalar, updates}
 use Rattle.sl_syntax.specs.declared.operator.Arithmetic.TheVariants as o
 use Rattle.sl_syntax.specs.declared.operator.Comparison.TheVariants as comparisons
 use Rattle.sl_syntax.specs.declared.typed.callee.Callee.TheVariants as callees
@@ -24,12 +23,11 @@ use Rattle.std.specs.Prelude.{None, Some, [], negsuc, pos, refl, true, ◌++◌,
 -- not given: 4 <= x, x <= 2, x <= size(v), n <= size(v)
 literals_are_bounds : shows (negsuc 0 ∷ numbers_to 4)
     (declares (makes f.Vector (head_at here (callees.Row sequence.VECTOR_CONSTRUCTOR) None) (operands_from [])) ∷
-    declares (set_scalar t.Int (int 3)) ∷ declares (set_scalar t.Int (int 0)) ∷
-    declares (set_scalar t.Bool (literal t.Bool (pos 0))) ∷ declares (set_scalar t.Size (size_number 3)) ∷ [])
-    (lower_bound 0 (pos 3) ∷ upper_bound 0 (pos 3) ∷ lower_bound 1 (pos 0) ∷ upper_bound 1 (pos 0) ∷ up_to_size 1 0 ∷
-    up_to_size 2 0 ∷ lower_bound 3 (pos 3) ∷ upper_bound 3 (pos 3) ∷ [])
-    (lower_bound 0 (pos 4) ∷ upper_bound 0 (pos 2) ∷ up_to_size 0 0 ∷ up_to_size 3 0 ∷ [])
-    ≡ true
+    declares (set_scalar t.Int (int 3)) ∷ declares (set_scalar t.Int (int 0)) ∷ declares (set_scalar t.Bool (literal t.Bool (pos 0))) ∷
+    declares (set_scalar t.Size (size_number 3)) ∷ [])
+    (lower_bound 0 (pos 3) ∷ upper_bound 0 (pos 3) ∷ lower_bound 1 (pos 0) ∷ upper_bound 1 (pos 0) ∷ up_to_size 1 0 ∷ up_to_size 2 0 ∷
+    lower_bound 3 (pos 3) ∷ upper_bound 3 (pos 3) ∷ [])
+    (lower_bound 0 (pos 4) ∷ upper_bound 0 (pos 2) ∷ up_to_size 0 0 ∷ up_to_size 3 0 ∷ []) ≡ true
 unfolding shows
 literals_are_bounds = refl
 
@@ -39,11 +37,8 @@ literals_are_bounds = refl
 -- given: 1 <= b, b <= 1, 1 <= x, x <= 1
 -- not given: 2 <= b
 literals_in_their_type : shows (numbers_to 3)
-    (declares (set_scalar t.Bool (convert t.Bool (int 2))) ∷
-    declares (set_scalar t.Int (convert t.Int (literal t.Bool (pos 1)))) ∷ [])
-    (lower_bound 0 (pos 1) ∷ upper_bound 0 (pos 1) ∷ lower_bound 1 (pos 1) ∷ upper_bound 1 (pos 1) ∷ [])
-    (lower_bound 0 (pos 2) ∷ [])
-    ≡ true
+    (declares (set_scalar t.Bool (convert t.Bool (int 2))) ∷ declares (set_scalar t.Int (convert t.Int (literal t.Bool (pos 1)))) ∷ [])
+    (lower_bound 0 (pos 1) ∷ upper_bound 0 (pos 1) ∷ lower_bound 1 (pos 1) ∷ upper_bound 1 (pos 1) ∷ []) (lower_bound 0 (pos 2) ∷ []) ≡ true
 unfolding shows
 literals_in_their_type = refl
 
@@ -59,8 +54,7 @@ variables_are_copied : shows (negsuc 0 ∷ numbers_to 1)
     declares (set_scalar t.Size (size_number 0)) ∷ declares (set_scalar t.Size (value_of 0)) ∷
     declares (set_scalar t.Int (convert t.Int (value_of 0))) ∷ [])
     (lower_bound 1 (pos 0) ∷ upper_bound 1 (pos 0) ∷ up_to_size 1 0 ∷ [])
-    (lower_bound 2 (pos 0) ∷ upper_bound 2 (pos 0) ∷ up_to_size 2 0 ∷ [])
-    ≡ true
+    (lower_bound 2 (pos 0) ∷ upper_bound 2 (pos 0) ∷ up_to_size 2 0 ∷ []) ≡ true
 unfolding shows
 variables_are_copied = refl
 
@@ -72,11 +66,8 @@ variables_are_copied = refl
 -- not given: 0 <= x, x <= 0, x <= size(v)
 assignment_drops_first : shows (negsuc 0 ∷ numbers_to 1)
     (declares (makes f.Vector (head_at here (callees.Row sequence.VECTOR_CONSTRUCTOR) None) (operands_from [])) ∷
-    declares (set_scalar t.Int (int 0)) ∷
-    does (assigns (scalar 0 here) (convert t.Int (member sequence.VECTOR_SIZE 0 []))) ∷ [])
-    (size_at_least 0 (pos 0) ∷ [])
-    (lower_bound 0 (pos 0) ∷ upper_bound 0 (pos 0) ∷ up_to_size 0 0 ∷ [])
-    ≡ true
+    declares (set_scalar t.Int (int 0)) ∷ does (assigns (scalar 0 here) (convert t.Int (member sequence.VECTOR_SIZE 0 []))) ∷ [])
+    (size_at_least 0 (pos 0) ∷ []) (lower_bound 0 (pos 0) ∷ upper_bound 0 (pos 0) ∷ up_to_size 0 0 ∷ []) ≡ true
 unfolding shows
 assignment_drops_first = refl
 
@@ -90,150 +81,9 @@ sizes_are_taken : shows (numbers_to 1)
     (declares (makes f.Vector (head_at here (callees.Row sequence.VECTOR_CONSTRUCTOR) None) (operands_from [])) ∷
     declares (set_scalar t.Size (member sequence.VECTOR_SIZE 0 [])) ∷
     declares (set_scalar t.Int (convert t.Int (member sequence.VECTOR_SIZE 0 []))) ∷ [])
-    (up_to_size 0 0 ∷ [])
-    (below_size 0 0 ∷ lower_bound 0 (pos 0) ∷ up_to_size 1 0 ∷ [])
-    ≡ true
+    (up_to_size 0 0 ∷ []) (below_size 0 0 ∷ lower_bound 0 (pos 0) ∷ up_to_size 1 0 ∷ []) ≡ true
 unfolding shows
 sizes_are_taken = refl
-
--- `test_literal`: where `x < 3` is false, x is at least 3
---   int x;
---   std::cin >> x;
---   if (x < 3) return 0;
--- given: 3 <= x
--- not given: 4 <= x, x <= 2
-tested_less : shows (negsuc 0 ∷ numbers_to 4)
-    (declares (unset_scalar t.Int) ∷ does (reads (0 ∷ [])) ∷
-    choice (test (compares comparisons.Less (value_of 0) (int 3))) (gives_back (Some (int 0))) ∷ [])
-    (lower_bound 0 (pos 3) ∷ [])
-    (lower_bound 0 (pos 4) ∷ upper_bound 0 (pos 2) ∷ [])
-    ≡ true
-unfolding shows
-tested_less = refl
-
--- `test_literal`: where `x <= 3` is false, x is at least 4
---   int x;
---   std::cin >> x;
---   if (x <= 3) return 0;
--- given: 4 <= x
--- not given: x <= 4
-tested_less_equal : shows (negsuc 0 ∷ numbers_to 4)
-    (declares (unset_scalar t.Int) ∷ does (reads (0 ∷ [])) ∷
-    choice (test (compares comparisons.LessEqual (value_of 0) (int 3))) (gives_back (Some (int 0))) ∷ [])
-    (lower_bound 0 (pos 4) ∷ [])
-    (upper_bound 0 (pos 4) ∷ [])
-    ≡ true
-unfolding shows
-tested_less_equal = refl
-
--- `test_literal`: where `x > 3` is false, x is at most 3
---   int x;
---   std::cin >> x;
---   if (x > 3) return 0;
--- given: x <= 3
--- not given: x <= 2, 3 <= x
-tested_greater : shows (negsuc 0 ∷ numbers_to 4)
-    (declares (unset_scalar t.Int) ∷ does (reads (0 ∷ [])) ∷
-    choice (test (compares comparisons.Greater (value_of 0) (int 3))) (gives_back (Some (int 0))) ∷ [])
-    (upper_bound 0 (pos 3) ∷ [])
-    (upper_bound 0 (pos 2) ∷ lower_bound 0 (pos 3) ∷ [])
-    ≡ true
-unfolding shows
-tested_greater = refl
-
--- `test_literal`: where `x >= 3` is false, x is at most 2
---   int x;
---   std::cin >> x;
---   if (x >= 3) return 0;
--- given: x <= 2
--- not given: 2 <= x
-tested_greater_equal : shows (negsuc 0 ∷ numbers_to 4)
-    (declares (unset_scalar t.Int) ∷ does (reads (0 ∷ [])) ∷
-    choice (test (compares comparisons.GreaterEqual (value_of 0) (int 3))) (gives_back (Some (int 0))) ∷ [])
-    (upper_bound 0 (pos 2) ∷ [])
-    (lower_bound 0 (pos 2) ∷ [])
-    ≡ true
-unfolding shows
-tested_greater_equal = refl
-
--- `test_literal`: where `x != 3` is false, x is 3
---   int x;
---   std::cin >> x;
---   if (x != 3) return 0;
--- given: 3 <= x, x <= 3
--- not given: 4 <= x
-tested_not_equal : shows (negsuc 0 ∷ numbers_to 4)
-    (declares (unset_scalar t.Int) ∷ does (reads (0 ∷ [])) ∷
-    choice (test (compares comparisons.NotEqual (value_of 0) (int 3))) (gives_back (Some (int 0))) ∷ [])
-    (lower_bound 0 (pos 3) ∷ upper_bound 0 (pos 3) ∷ [])
-    (lower_bound 0 (pos 4) ∷ [])
-    ≡ true
-unfolding shows
-tested_not_equal = refl
-
--- `test_literal`: where `x == 3` is false, nothing is known
---   int x;
---   std::cin >> x;
---   if (x == 3) return 0;
--- not given: 3 <= x, x <= 3, 4 <= x, x <= 2
-tested_equal : shows (negsuc 0 ∷ numbers_to 4)
-    (declares (unset_scalar t.Int) ∷ does (reads (0 ∷ [])) ∷
-    choice (test (compares comparisons.Equal (value_of 0) (int 3))) (gives_back (Some (int 0))) ∷ [])
-    []
-    (lower_bound 0 (pos 3) ∷ upper_bound 0 (pos 3) ∷ lower_bound 0 (pos 4) ∷ upper_bound 0 (pos 2) ∷ [])
-    ≡ true
-unfolding shows
-tested_equal = refl
-
--- `test_literal`: where `3 <= x` is false, x is at most 2
---   int x;
---   std::cin >> x;
---   if (3 <= x) return 0;
--- given: x <= 2
--- not given: x <= 0, 2 <= x
-tested_turned : shows (negsuc 0 ∷ numbers_to 4)
-    (declares (unset_scalar t.Int) ∷ does (reads (0 ∷ [])) ∷
-    choice (test (compares comparisons.LessEqual (int 3) (value_of 0))) (gives_back (Some (int 0))) ∷ [])
-    (upper_bound 0 (pos 2) ∷ [])
-    (upper_bound 0 (pos 0) ∷ lower_bound 0 (pos 2) ∷ [])
-    ≡ true
-unfolding shows
-tested_turned = refl
-
--- `test_literal` and `connective`: both tests are true behind this
---   int x;
---   std::cin >> x;
---   if (!(x < 3 && x > 1)) return 0;
--- given: 2 <= x, x <= 2
--- not given: 3 <= x
-true_side_is_told : shows (negsuc 0 ∷ numbers_to 4)
-    (declares (unset_scalar t.Int) ∷ does (reads (0 ∷ [])) ∷
-    choice (test (logical_not here (logical_and here (compares comparisons.Less (value_of 0) (int 3)) (compares comparisons.Greater (value_of 0)
-      (int 1))))) (gives_back (Some (int 0))) ∷
-    [])
-    (lower_bound 0 (pos 2) ∷ upper_bound 0 (pos 2) ∷ [])
-    (lower_bound 0 (pos 3) ∷ [])
-    ≡ true
-unfolding shows
-true_side_is_told = refl
-
--- a bool is compared as an int, and `-3` is no literal: nothing is known
---   bool b = true;
---   int x;
---   if (b < 1) return 0;
---   if (x > -3) return 0;
--- given: 1 <= b
--- not given: x <= 2, x <= 0
-no_literal_in_the_type : shows (negsuc 0 ∷ numbers_to 4)
-    (declares (set_scalar t.Bool (literal t.Bool (pos 1))) ∷ declares (unset_scalar t.Int) ∷
-    choice (test (compares comparisons.Less (convert t.Int (value_of 0)) (int 1))) (gives_back (Some (int 0))) ∷
-    choice (test (compares comparisons.Greater (value_of 1) (negate t.Int here (int 3)))) (gives_back (Some (int 0))) ∷
-    [])
-    (lower_bound 0 (pos 1) ∷ [])
-    (upper_bound 1 (pos 2) ∷ upper_bound 1 (pos 0) ∷ [])
-    ≡ true
-unfolding shows
-no_literal_in_the_type = refl
 
 -- `increment`: bounds rise by 1, and so do those of its value
 --   int x = 3;
@@ -243,8 +93,7 @@ no_literal_in_the_type = refl
 ints_rise : shows (numbers_to 4)
     (declares (set_scalar t.Int (int 3)) ∷ declares (set_scalar t.Int (up_int 0)) ∷ [])
     (lower_bound 0 (pos 4) ∷ upper_bound 0 (pos 4) ∷ lower_bound 1 (pos 4) ∷ upper_bound 1 (pos 4) ∷ [])
-    (lower_bound 1 (pos 5) ∷ upper_bound 1 (pos 3) ∷ [])
-    ≡ true
+    (lower_bound 1 (pos 5) ∷ upper_bound 1 (pos 3) ∷ []) ≡ true
 unfolding shows
 ints_rise = refl
 
@@ -256,9 +105,7 @@ ints_rise = refl
 -- not given: x <= 6
 bounds_stay_constants : shows (numbers_to 1 ++ (pos 4 ∷ pos 5 ∷ pos 6 ∷ []))
     (declares (set_scalar t.Int (int 5)) ∷ does (evaluates (up_int 0)) ∷ does (evaluates (up_int 0)) ∷ [])
-    (lower_bound 0 (pos 6) ∷ [])
-    (upper_bound 0 (pos 6) ∷ [])
-    ≡ true
+    (lower_bound 0 (pos 6) ∷ []) (upper_bound 0 (pos 6) ∷ []) ≡ true
 unfolding shows
 bounds_stay_constants = refl
 
@@ -269,9 +116,7 @@ bounds_stay_constants = refl
 -- not given: x <= 2147483648
 ints_at_their_end : shows (numbers_to 1 ++ (pos 2147483646 ∷ pos 2147483647 ∷ pos 2147483648 ∷ []))
     (declares (set_scalar t.Int (int 2147483647)) ∷ does (evaluates (up_int 0)) ∷ [])
-    (lower_bound 0 (pos 2147483648) ∷ [])
-    (upper_bound 0 (pos 2147483648) ∷ [])
-    ≡ true
+    (lower_bound 0 (pos 2147483648) ∷ []) (upper_bound 0 (pos 2147483648) ∷ []) ≡ true
 unfolding shows
 ints_at_their_end = refl
 
@@ -281,12 +126,9 @@ ints_at_their_end = refl
 --   ++i;
 -- not given: 3 <= i, 0 <= i
 sizes_start_again : shows (negsuc 0 ∷ numbers_to 4)
-    (declares (unset_scalar t.Size) ∷
-    choice (test (compares comparisons.Less (value_of 0) (size_number 3))) (gives_back (Some (int 0))) ∷
+    (declares (unset_scalar t.Size) ∷ choice (test (compares comparisons.Less (value_of 0) (size_number 3))) (gives_back (Some (int 0))) ∷
     does (evaluates (up_size 0)) ∷ [])
-    []
-    (lower_bound 0 (pos 3) ∷ lower_bound 0 (pos 0) ∷ [])
-    ≡ true
+    [] (lower_bound 0 (pos 3) ∷ lower_bound 0 (pos 0) ∷ []) ≡ true
 unfolding shows
 sizes_start_again = refl
 
@@ -300,13 +142,10 @@ sizes_start_again = refl
 -- not given: i < size(v)
 sizes_below_a_size_rise : shows (negsuc 0 ∷ numbers_to 4)
     (declares (makes f.Vector (head_at here (callees.Row sequence.VECTOR_CONSTRUCTOR) None) (operands_from [])) ∷
-    declares (unset_scalar t.Size) ∷
-    choice (test (compares comparisons.Less (value_of 0) (size_number 3))) (gives_back (Some (int 0))) ∷
+    declares (unset_scalar t.Size) ∷ choice (test (compares comparisons.Less (value_of 0) (size_number 3))) (gives_back (Some (int 0))) ∷
     choice (test (compares comparisons.GreaterEqual (value_of 0) (member sequence.VECTOR_SIZE 0 []))) (gives_back (Some (int 0))) ∷
     does (evaluates (up_size 0)) ∷ [])
-    (lower_bound 0 (pos 4) ∷ up_to_size 0 0 ∷ [])
-    (below_size 0 0 ∷ [])
-    ≡ true
+    (lower_bound 0 (pos 4) ∷ up_to_size 0 0 ∷ []) (below_size 0 0 ∷ []) ≡ true
 unfolding shows
 sizes_below_a_size_rise = refl
 
@@ -322,100 +161,14 @@ sizes_below_a_size_rise = refl
 -- not given: 3 <= a, 0 <= a, 0 <= b, 3 <= c, 3 <= d, 3 <= e
 other_steps_drop : shows (numbers_to 4)
     (declares (set_scalar t.Int (int 3)) ∷ declares (set_scalar t.Int (int 3)) ∷ declares (set_scalar t.Int (int 3)) ∷
-    declares (set_scalar t.Int (int 3)) ∷
-    declares (set_scalar t.Int (increment Up Postfix t.Int here (scalar 0 here))) ∷
-    does (evaluates (increment Down Prefix t.Int here (scalar 1 here))) ∷
-    does (updates o.Add t.Int t.Int here (scalar 2 here) (int 1)) ∷ does (reads (3 ∷ [])) ∷ [])
+    declares (set_scalar t.Int (int 3)) ∷ declares (set_scalar t.Int (increment Up Postfix t.Int here (scalar 0 here))) ∷
+    does (evaluates (increment Down Prefix t.Int here (scalar 1 here))) ∷ does (updates o.Add t.Int t.Int here (scalar 2 here) (int 1)) ∷
+    does (reads (3 ∷ [])) ∷ [])
     []
-    (lower_bound 0 (pos 3) ∷ lower_bound 0 (pos 0) ∷ lower_bound 1 (pos 0) ∷ lower_bound 2 (pos 3) ∷
-    lower_bound 3 (pos 3) ∷ lower_bound 4 (pos 3) ∷ [])
-    ≡ true
+    (lower_bound 0 (pos 3) ∷ lower_bound 0 (pos 0) ∷ lower_bound 1 (pos 0) ∷ lower_bound 2 (pos 3) ∷ lower_bound 3 (pos 3) ∷
+    lower_bound 4 (pos 3) ∷ []) ≡ true
 unfolding shows
 other_steps_drop = refl
-
--- `test_not_size`, turned round: at most the size and not it is less
---   std::vector<int> v;
---   std::size_t i = 0;
---   if (i == v.size()) return 0;
--- given: i < size(v), i <= size(v)
--- not given: 1 <= i
-not_the_size : shows (negsuc 0 ∷ numbers_to 1)
-    (declares (makes f.Vector (head_at here (callees.Row sequence.VECTOR_CONSTRUCTOR) None) (operands_from [])) ∷
-    declares (set_scalar t.Size (size_number 0)) ∷
-    choice (test (compares comparisons.Equal (value_of 0) (member sequence.VECTOR_SIZE 0 []))) (gives_back (Some (int 0))) ∷
-    [])
-    (below_size 0 0 ∷ up_to_size 0 0 ∷ [])
-    (lower_bound 0 (pos 1) ∷ [])
-    ≡ true
-unfolding shows
-not_the_size = refl
-
--- `test_not_size` without that: nothing, and nothing is missing
---   std::vector<int> v;
---   std::size_t i = 3;
---   if (i == v.size()) return 0;
--- given: 3 <= i
--- not given: i < size(v), i <= size(v)
-not_the_size_needs : shows (negsuc 0 ∷ numbers_to 4)
-    (declares (makes f.Vector (head_at here (callees.Row sequence.VECTOR_CONSTRUCTOR) None) (operands_from [])) ∷
-    declares (set_scalar t.Size (size_number 3)) ∷
-    choice (test (compares comparisons.Equal (value_of 0) (member sequence.VECTOR_SIZE 0 []))) (gives_back (Some (int 0))) ∷
-    [])
-    (lower_bound 0 (pos 3) ∷ [])
-    (below_size 0 0 ∷ up_to_size 0 0 ∷ [])
-    ≡ true
-unfolding shows
-not_the_size_needs = refl
-
--- `v.size() <= i` has no rule
---   std::vector<int> v;
---   std::size_t i = 0;
---   if (v.size() <= i) return 0;
--- given: i <= size(v)
--- not given: i < size(v)
-size_on_the_left : shows (negsuc 0 ∷ numbers_to 1)
-    (declares (makes f.Vector (head_at here (callees.Row sequence.VECTOR_CONSTRUCTOR) None) (operands_from [])) ∷
-    declares (set_scalar t.Size (size_number 0)) ∷
-    choice (test (compares comparisons.LessEqual (member sequence.VECTOR_SIZE 0 []) (value_of 0))) (gives_back (Some (int 0))) ∷
-    [])
-    (up_to_size 0 0 ∷ [])
-    (below_size 0 0 ∷ [])
-    ≡ true
-unfolding shows
-size_on_the_left = refl
-
--- `connective`, `e || g`
---   std::vector<int> v;
---   std::size_t i = 0;
---   if (v.empty() || i >= v.size()) return 0;
--- given: size(v) >= 1, i < size(v)
-tests_are_joined : shows (negsuc 0 ∷ numbers_to 1)
-    (declares (makes f.Vector (head_at here (callees.Row sequence.VECTOR_CONSTRUCTOR) None) (operands_from [])) ∷
-    declares (set_scalar t.Size (size_number 0)) ∷
-    choice (test (logical_or here (member sequence.VECTOR_EMPTY 0 []) (compares comparisons.GreaterEqual (value_of 0) (member
-      sequence.VECTOR_SIZE 0 [])))) (gives_back (Some (int 0))) ∷
-    [])
-    (size_at_least 0 (pos 1) ∷ below_size 0 0 ∷ [])
-    []
-    ≡ true
-unfolding shows
-tests_are_joined = refl
-
--- `connective` in a value: the right side is read where the left one is true
---   std::vector<int> v;
---   bool b = !v.empty() && v.front() == 3;
--- given: size(v) >= 0
--- not given: size(v) >= 1, 0 <= b
-tests_in_values : shows (numbers_to 4)
-    (declares (makes f.Vector (head_at here (callees.Row sequence.VECTOR_CONSTRUCTOR) None) (operands_from [])) ∷
-    declares (set_scalar t.Bool (logical_and here (logical_not here (member sequence.VECTOR_EMPTY 0 [])) (compares comparisons.Equal (held
-      (member_element sequence.VECTOR_FRONT 0 [])) (int 3)))) ∷
-    [])
-    (size_at_least 0 (pos 0) ∷ [])
-    (size_at_least 0 (pos 1) ∷ lower_bound 0 (pos 0) ∷ [])
-    ≡ true
-unfolding shows
-tests_in_values = refl
 
 -- `declare`: 3 is no constant, so the size is at least 1
 --   std::vector<int> v = {7, 7, 7};
@@ -424,9 +177,7 @@ tests_in_values = refl
 sizes_stay_constants : shows (numbers_to 1 ++ (pos 6 ∷ pos 7 ∷ pos 8 ∷ []))
     (declares (makes f.Vector (head_at here (callees.Row sequence.VECTOR_CONSTRUCTOR_LIST) None) (operands_from (int 7 ∷ int 7 ∷ int 7 ∷ []))) ∷
     [])
-    (size_at_least 0 (pos 1) ∷ [])
-    (size_at_least 0 (pos 6) ∷ [])
-    ≡ true
+    (size_at_least 0 (pos 1) ∷ []) (size_at_least 0 (pos 6) ∷ []) ≡ true
 unfolding shows
 sizes_stay_constants = refl
 
@@ -442,13 +193,9 @@ sizes_fall_to_constants : shows (numbers_to 1 ++ (pos 4 ∷ pos 5 ∷ pos 6 ∷ 
       int 5 ∷ []))) ∷
     declares (makes f.Vector (head_at here (callees.Row sequence.VECTOR_CONSTRUCTOR_LIST) None) (operands_from (int 5 ∷ int 5 ∷ int 5 ∷ int 5 ∷
       int 5 ∷ []))) ∷
-    does (evaluates (member sequence.VECTOR_POP_BACK 0 [])) ∷
-    does (evaluates (member sequence.VECTOR_POP_BACK 0 [])) ∷
-    does (evaluates (member sequence.VECTOR_POP_BACK 1 [])) ∷
-    does (evaluates (member sequence.VECTOR_POP_BACK 1 [])) ∷
+    does (evaluates (member sequence.VECTOR_POP_BACK 0 [])) ∷ does (evaluates (member sequence.VECTOR_POP_BACK 0 [])) ∷
+    does (evaluates (member sequence.VECTOR_POP_BACK 1 [])) ∷ does (evaluates (member sequence.VECTOR_POP_BACK 1 [])) ∷
     does (evaluates (member sequence.VECTOR_POP_BACK 1 [])) ∷ [])
-    (size_at_least 0 (pos 1) ∷ size_at_least 1 (pos 0) ∷ [])
-    (size_at_least 0 (pos 4) ∷ size_at_least 1 (pos 1) ∷ [])
-    ≡ true
+    (size_at_least 0 (pos 1) ∷ size_at_least 1 (pos 0) ∷ []) (size_at_least 0 (pos 4) ∷ size_at_least 1 (pos 1) ∷ []) ≡ true
 unfolding shows
 sizes_fall_to_constants = refl

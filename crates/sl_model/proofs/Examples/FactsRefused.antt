@@ -19,20 +19,18 @@ use Rattle.std.specs.Prelude.{List, None, Some, [], false, negsuc, refl, ◌++�
 --   auto it = v.begin();
 --   auto jt = v.end();
 --   std::size_t i = 0;
-abbrev known : List Stmt
+abbrev pub known : List Stmt
 known =
     (declares (makes f.Vector (head_at here (callees.Row sequence.VECTOR_CONSTRUCTOR_LIST) None) (operands_from (int 1 ∷ int 2 ∷ int 3 ∷ []))) ∷
-    declares (set_iterator (member sequence.VECTOR_BEGIN 0 [])) ∷
-    declares (set_iterator (member sequence.VECTOR_END 0 [])) ∷ declares (set_scalar t.Size (size_number 0)) ∷ [])
+    declares (set_iterator (member sequence.VECTOR_BEGIN 0 [])) ∷ declares (set_iterator (member sequence.VECTOR_END 0 [])) ∷
+    declares (set_scalar t.Size (size_number 0)) ∷ [])
 
 -- `it++`
 --   it++;
 no_step_behind : shows (negsuc 0 ∷ numbers_to 4)
     (known ++
     (does (evaluates (move Postfix 0 (head_at here (callees.Operator operators.Increment) None) none)) ∷ []))
-    []
-    []
-    ≡ false
+    [] [] ≡ false
 unfolding shows
 no_step_behind = refl
 
@@ -40,11 +38,8 @@ no_step_behind = refl
 --   it += 1;
 no_jump : shows (negsuc 0 ∷ numbers_to 4)
     (known ++
-    (does (evaluates (move Prefix 0 (head_at here (callees.Operator operators.AddAssign) None) (with (convert t.Diff (int 1)) none))) ∷
-    []))
-    []
-    []
-    ≡ false
+    (does (evaluates (move Prefix 0 (head_at here (callees.Operator operators.AddAssign) None) (with (convert t.Diff (int 1)) none))) ∷ []))
+    [] [] ≡ false
 unfolding shows
 no_jump = refl
 
@@ -54,9 +49,7 @@ no_sum : shows (negsuc 0 ∷ numbers_to 4)
     (known ++
     (does (moves_to 1 (call (head_at here (callees.Operator operators.Add) None) (with (iterator 0) (with (convert t.Diff (int 1)) none)))) ∷
     []))
-    []
-    []
-    ≡ false
+    [] [] ≡ false
 unfolding shows
 no_sum = refl
 
@@ -64,11 +57,8 @@ no_sum = refl
 --   std::advance(it, 1);
 no_advance : shows (negsuc 0 ∷ numbers_to 4)
     (known ++
-    (does (evaluates (move Prefix 0 (head_at here (callees.Row algorithms.STD_ADVANCE) None) (with (convert t.Diff (int 1)) none))) ∷
-    []))
-    []
-    []
-    ≡ false
+    (does (evaluates (move Prefix 0 (head_at here (callees.Row algorithms.STD_ADVANCE) None) (with (convert t.Diff (int 1)) none))) ∷ []))
+    [] [] ≡ false
 unfolding shows
 no_advance = refl
 
@@ -76,9 +66,7 @@ no_advance = refl
 --   jt = std::next(it, 1);
 no_next_by_a_number : shows (negsuc 0 ∷ numbers_to 4)
     (known ++ (does (moves_to 1 (algorithm algorithms.STD_NEXT (iterator 0 ∷ convert t.Diff (int 1) ∷ []))) ∷ []))
-    []
-    []
-    ≡ false
+    [] [] ≡ false
 unfolding shows
 no_next_by_a_number = refl
 
@@ -86,11 +74,8 @@ no_next_by_a_number = refl
 --   std::cout << std::distance(it, v.end());
 no_distance : shows (negsuc 0 ∷ numbers_to 4)
     (known ++
-    (does (prints (number (algorithm algorithms.STD_DISTANCE (iterator 0 ∷ member sequence.VECTOR_END 0 [] ∷ [])) ∷ [])) ∷
-    []))
-    []
-    []
-    ≡ false
+    (does (prints (number (algorithm algorithms.STD_DISTANCE (iterator 0 ∷ member sequence.VECTOR_END 0 [] ∷ [])) ∷ [])) ∷ []))
+    [] [] ≡ false
 unfolding shows
 no_distance = refl
 
@@ -100,9 +85,7 @@ no_difference : shows (negsuc 0 ∷ numbers_to 4)
     (known ++
     (does (prints (number (call (head_at here (callees.Operator operators.Difference) None) (with (iterator 1) (with (iterator 0) none))) ∷ [])) ∷
     []))
-    []
-    []
-    ≡ false
+    [] [] ≡ false
 unfolding shows
 no_difference = refl
 
@@ -110,9 +93,7 @@ no_difference = refl
 --   jt = v.erase(it);
 no_erased_elsewhere : shows (negsuc 0 ∷ numbers_to 4)
     (known ++ (does (moves_to 1 (member sequence.VECTOR_ERASE 0 (iterator 0 ∷ []))) ∷ []))
-    []
-    []
-    ≡ false
+    [] [] ≡ false
 unfolding shows
 no_erased_elsewhere = refl
 
@@ -120,9 +101,7 @@ no_erased_elsewhere = refl
 --   auto kt = v.erase(it);
 no_erased_and_declared : shows (negsuc 0 ∷ numbers_to 4)
     (known ++ (declares (set_iterator (member sequence.VECTOR_ERASE 0 (iterator 0 ∷ []))) ∷ []))
-    []
-    []
-    ≡ false
+    [] [] ≡ false
 unfolding shows
 no_erased_and_declared = refl
 
@@ -130,9 +109,7 @@ no_erased_and_declared = refl
 --   v.insert(it, 1);
 no_inserted_alone : shows (negsuc 0 ∷ numbers_to 4)
     (known ++ (does (evaluates (member sequence.VECTOR_INSERT 0 (iterator 0 ∷ int 1 ∷ []))) ∷ []))
-    []
-    []
-    ≡ false
+    [] [] ≡ false
 unfolding shows
 no_inserted_alone = refl
 
@@ -141,9 +118,7 @@ no_inserted_alone = refl
 no_inserted_often : shows (negsuc 0 ∷ numbers_to 4)
     (known ++
     (does (moves_to 0 (member sequence.VECTOR_INSERT_FILL 0 (iterator 0 ∷ size_number 2 ∷ int 1 ∷ []))) ∷ []))
-    []
-    []
-    ≡ false
+    [] [] ≡ false
 unfolding shows
 no_inserted_often = refl
 
@@ -151,9 +126,7 @@ no_inserted_often = refl
 --   v.erase(it, jt);
 no_erased_range : shows (negsuc 0 ∷ numbers_to 4)
     (known ++ (does (evaluates (member sequence.VECTOR_ERASE_RANGE 0 (iterator 0 ∷ iterator 1 ∷ []))) ∷ []))
-    []
-    []
-    ≡ false
+    [] [] ≡ false
 unfolding shows
 no_erased_range = refl
 
@@ -162,9 +135,7 @@ no_erased_range = refl
 no_less_than : shows (negsuc 0 ∷ numbers_to 4)
     (known ++
     (choice (test (compared_at here comparisons.Less (iterator 0) (iterator 1))) (gives_back (Some (int 0))) ∷ []))
-    []
-    []
-    ≡ false
+    [] [] ≡ false
 unfolding shows
 no_less_than = refl
 
@@ -172,9 +143,7 @@ no_less_than = refl
 --   if (it != jt) return 0;
 no_two_variables : shows (negsuc 0 ∷ numbers_to 4)
     (known ++ (choice (test (differ (iterator 0) (iterator 1))) (gives_back (Some (int 0))) ∷ []))
-    []
-    []
-    ≡ false
+    [] [] ≡ false
 unfolding shows
 no_two_variables = refl
 
@@ -183,9 +152,7 @@ no_two_variables = refl
 no_end_on_the_left : shows (negsuc 0 ∷ numbers_to 4)
     (known ++
     (choice (test (differ (member sequence.VECTOR_END 0 []) (iterator 0))) (gives_back (Some (int 0))) ∷ []))
-    []
-    []
-    ≡ false
+    [] [] ≡ false
 unfolding shows
 no_end_on_the_left = refl
 
@@ -193,9 +160,7 @@ no_end_on_the_left = refl
 --   bool b = it != v.end();
 no_comparison_as_value : shows (negsuc 0 ∷ numbers_to 4)
     (known ++ (declares (set_scalar t.Bool (differ (iterator 0) (member sequence.VECTOR_END 0 []))) ∷ []))
-    []
-    []
-    ≡ false
+    [] [] ≡ false
 unfolding shows
 no_comparison_as_value = refl
 
@@ -206,9 +171,7 @@ no_index_by_a_sum : shows (negsuc 0 ∷ numbers_to 4)
     (does (prints (number (held (member_element sequence.VECTOR_SUBSCRIPT 0 (arithmetic o.Add t.Size here (value_of 0) (size_number 1) ∷ []))) ∷
       [])) ∷
     []))
-    []
-    []
-    ≡ false
+    [] [] ≡ false
 unfolding shows
 no_index_by_a_sum = refl
 
@@ -217,9 +180,7 @@ no_index_by_a_sum = refl
 no_two_iterators : shows (negsuc 0 ∷ numbers_to 4)
     (known ++
     (does (prints (number (algorithm algorithms.STD_COUNT (iterator 0 ∷ iterator 1 ∷ int 1 ∷ [])) ∷ [])) ∷ []))
-    []
-    []
-    ≡ false
+    [] [] ≡ false
 unfolding shows
 no_two_iterators = refl
 
@@ -228,9 +189,7 @@ no_two_iterators = refl
 no_sorted_in_part : shows (negsuc 0 ∷ numbers_to 4)
     (known ++
     (does (evaluates (algorithm algorithms.STD_SORT (iterator 0 ∷ member sequence.VECTOR_END 0 [] ∷ []))) ∷ []))
-    []
-    []
-    ≡ false
+    [] [] ≡ false
 unfolding shows
 no_sorted_in_part = refl
 
@@ -240,9 +199,7 @@ no_filled : shows (negsuc 0 ∷ numbers_to 4)
     (known ++
     (does (evaluates (algorithm algorithms.STD_FILL (member sequence.VECTOR_BEGIN 0 [] ∷ member sequence.VECTOR_END 0 [] ∷ int 1 ∷ []))) ∷
     []))
-    []
-    []
-    ≡ false
+    [] [] ≡ false
 unfolding shows
 no_filled = refl
 
@@ -255,9 +212,7 @@ no_copied_to_an_iterator : shows (negsuc 0 ∷ numbers_to 4)
     does (evaluates (algorithm algorithms.STD_COPY (member sequence.VECTOR_BEGIN 1 [] ∷ member sequence.VECTOR_END 1 [] ∷ member
       sequence.VECTOR_BEGIN 0 [] ∷ []))) ∷
     []))
-    []
-    []
-    ≡ false
+    [] [] ≡ false
 unfolding shows
 no_copied_to_an_iterator = refl
 
@@ -268,9 +223,7 @@ no_copied_to_itself : shows (negsuc 0 ∷ numbers_to 4)
     (does (evaluates (call (head_at here (callees.Appends algorithms.STD_COPY) None) (operands_from (member sequence.VECTOR_BEGIN 0 [] ∷ member
       sequence.VECTOR_END 0 [] ∷ container 0 ∷ [])))) ∷
     []))
-    []
-    []
-    ≡ false
+    [] [] ≡ false
 unfolding shows
 no_copied_to_itself = refl
 
@@ -281,9 +234,7 @@ no_made_from_a_range : shows (negsuc 0 ∷ numbers_to 4)
     (declares (makes f.Vector (head_at here (callees.Row sequence.VECTOR_CONSTRUCTOR_RANGE) None) (operands_from (member sequence.VECTOR_BEGIN 0
       [] ∷ member sequence.VECTOR_END 0 [] ∷ []))) ∷
     []))
-    []
-    []
-    ≡ false
+    [] [] ≡ false
 unfolding shows
 no_made_from_a_range = refl
 
@@ -291,11 +242,8 @@ no_made_from_a_range = refl
 --   it = std::unique(v.begin(), v.end());
 no_unique_alone : shows (negsuc 0 ∷ numbers_to 4)
     (known ++
-    (does (moves_to 0 (algorithm algorithms.STD_UNIQUE (member sequence.VECTOR_BEGIN 0 [] ∷ member sequence.VECTOR_END 0 [] ∷ []))) ∷
-    []))
-    []
-    []
-    ≡ false
+    (does (moves_to 0 (algorithm algorithms.STD_UNIQUE (member sequence.VECTOR_BEGIN 0 [] ∷ member sequence.VECTOR_END 0 [] ∷ []))) ∷ []))
+    [] [] ≡ false
 unfolding shows
 no_unique_alone = refl
 
@@ -306,9 +254,7 @@ no_tail_with_a_result : shows (negsuc 0 ∷ numbers_to 4)
     (does (moves_to 0 (member sequence.VECTOR_ERASE_RANGE 0 (algorithm algorithms.STD_UNIQUE (member sequence.VECTOR_BEGIN 0 [] ∷ member
       sequence.VECTOR_END 0 [] ∷ []) ∷ member sequence.VECTOR_END 0 [] ∷ []))) ∷
     []))
-    []
-    []
-    ≡ false
+    [] [] ≡ false
 unfolding shows
 no_tail_with_a_result = refl
 
@@ -321,9 +267,7 @@ no_tail_of_another : shows (negsuc 0 ∷ numbers_to 4)
     does (evaluates (member sequence.VECTOR_ERASE_RANGE 0 (algorithm algorithms.STD_UNIQUE (member sequence.VECTOR_BEGIN 1 [] ∷ member
       sequence.VECTOR_END 1 [] ∷ []) ∷ member sequence.VECTOR_END 0 [] ∷ []))) ∷
     []))
-    []
-    []
-    ≡ false
+    [] [] ≡ false
 unfolding shows
 no_tail_of_another = refl
 
@@ -335,9 +279,7 @@ spliced : shows (numbers_to 1)
     (declares (makes f.List (head_at here (callees.Row sequence.LIST_CONSTRUCTOR) None) (operands_from [])) ∷
     declares (makes f.List (head_at here (callees.Row sequence.LIST_CONSTRUCTOR) None) (operands_from [])) ∷
     does (evaluates (member sequence.LIST_SPLICE 0 (member sequence.LIST_BEGIN 0 [] ∷ container 1 ∷ []))) ∷ [])
-    []
-    []
-    ≡ false
+    [] [] ≡ false
 unfolding shows
 spliced = refl
 
@@ -349,8 +291,6 @@ merged : shows (numbers_to 1)
     (declares (makes f.List (head_at here (callees.Row sequence.LIST_CONSTRUCTOR) None) (operands_from [])) ∷
     declares (makes f.List (head_at here (callees.Row sequence.LIST_CONSTRUCTOR) None) (operands_from [])) ∷
     does (evaluates (member sequence.LIST_MERGE 0 (container 1 ∷ []))) ∷ [])
-    []
-    []
-    ≡ false
+    [] [] ≡ false
 unfolding shows
 merged = refl

@@ -1,5 +1,5 @@
 -- Short ways to write closed texts and their facts. Names, sites and the places of loops and variables are left out: no fact asks for them.
-use Rattle.std.specs.Prelude.{ℕ, zero, suc, ◌++◌, Bool, true, false, not, ◌&&◌, List, [], ◌∷◌, map, slice_get, ℤ, pos, Option, Some, None}
+use Rattle.std.specs.Prelude.{ℕ, zero, suc, ◌==◌, ◌++◌, Bool, true, false, not, ◌&&◌, List, [], ◌∷◌, map, slice_get, ℤ, pos, Option, Some, None}
 use Rattle.sl_base.specs.declared.form.Form.{Form}
 use Rattle.sl_base.specs.declared.form.Form.TheVariants as f
 use Rattle.sl_base.specs.declared.place.Place.{Place}
@@ -21,7 +21,7 @@ use Rattle.sl_syntax.specs.Typed.{Operands, none, with, operands_from, stmts_fro
 use Rattle.sl_syntax.specs.Typed.{block, declares, does, Function, Typed}
 use Rattle.sl_model.specs.Facts.{Fact, given_by}
 use Rattle.sl_model.specs.FactOperands.{FactScope, row_of}
-use Rattle.sl_model.specs.FactSteps.{Heads, Given}
+use Rattle.sl_model.specs.FactSteps.{Heads, Given, Places}
 use Rattle.sl_model.specs.FactsOfExpressions.{expression, left_side, stepped, operands}
 use Rattle.sl_model.specs.FactScopes.{no_scope, after_parameters}
 use Rattle.sl_model.specs.RangeUses.{leaves_in, leaves_in_left, leaves_in_all, leaves_in_stmt, leaves_in_stmts}
@@ -236,3 +236,7 @@ shows constants all given dropped =
     let start = Some (given_by []) in
     let behind = (read.gives nowhere no_lists start).next in
     read.needs nowhere no_lists start && all_given behind given && none_given behind dropped
+
+-- the places on a line
+abbrev pub at_line : ℕ → Places
+at_line l p = p.line == l
