@@ -32,3 +32,4 @@ pub mod FactsExits
 pub mod FactsMissing
 pub mod FactsRefused
 pub mod FactsOpen
+pub mod Homes

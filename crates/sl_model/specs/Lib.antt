@@ -35,3 +35,6 @@ pub mod FactsOfEffects
 pub mod RangeUses
 pub mod Carry
 pub mod Outline
+pub mod Sources
+pub mod IteratorFlows
+pub mod Homes
