@@ -4,7 +4,7 @@
 -- control goes.
 -- Chosen here: the facts before a loop give its head's list, and so do those behind its body and each `continue`, carried through its
 -- last part; behind it stand the facts that the false test from the head and each `break` give. A loop that no way reaches needs nothing.
-use Rattle.std.specs.Prelude.{ℕ, ◌+◌, ◌==◌, Bool, true, false, not, ◌&&◌, ◌||◌, List, [], ◌∷◌, length, Option, Some, None, if◌then◌else◌}
+use Rattle.std.specs.Prelude.{ℕ, ◌+◌, ◌==◌, Bool, true, false, not, ◌&&◌, ◌||◌, length, Option, Some, None}
 use Rattle.sl_base.specs.declared.form.Form.{Form}
 use Rattle.sl_base.specs.declared.form.Form.TheVariants as f
 use Rattle.sl_base.specs.declared.place.Place.{Place}
@@ -12,13 +12,13 @@ use Rattle.sl_syntax.specs.declared.typed.element.Taken.{Taken}
 use Rattle.sl_syntax.specs.declared.typed.element.Taken.TheVariants as taken
 use Rattle.sl_syntax.specs.Typed.{Expr, Effect, First, no_first, declares_first, does_first, Stmt, block, declares, choice, choice_else, while}
 use Rattle.sl_syntax.specs.Typed.{for, range_for, break, continue, gives_back, does, Stmts, no_more, followed}
-use Rattle.sl_model.specs.Facts.{Fact, Facts}
+use Rattle.sl_model.specs.Facts.{Facts}
 use Rattle.sl_model.specs.FactRules.{bound}
 use Rattle.sl_model.specs.FactOperands.{FactScope, form_at}
 use Rattle.sl_model.specs.FactSteps.{Given, Places, Heads, with_facts, needs_facts, meet, head_list, listed, covers, Step, Fork, no_step}
 use Rattle.sl_model.specs.FactScopes.{within, after_first, after_stmt, in_range_for, speaks}
 use Rattle.sl_model.specs.FactsOfEffects.{evaluation, effect_step, declaration_step, condition}
-use Rattle.sl_model.specs.RangeUses.{Watched, leaves_in_stmt}
+use Rattle.sl_model.specs.RangeUses.{leaves_in_stmt}
 
 -- what is given on each way out of a statement
 pub record Ways : Type 0 where
@@ -200,7 +200,7 @@ unfoldable mutual
   carry s (for n head k last a) =
       let inner = after_first head s in
       leave s (then_carry (step_carry (first_step s head))
-          (loop_carry inner n (condition inner k) (last_step inner last) (carry inner a)))
+      (loop_carry inner n (condition inner k) (last_step inner last) (carry inner a)))
   carry s (range_for n k x at name a) =
       let stays = leaves_elements s k x a in
       range_carry s n at stays (at_turn s k x stays) (leave s (carry (in_range_for k x s) a))

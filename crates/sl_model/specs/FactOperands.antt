@@ -16,7 +16,6 @@ use Rattle.sl_syntax.specs.declared.operator.Access.TheVariants as access
 use Rattle.sl_syntax.specs.declared.operator.Arithmetic.TheVariants as o
 use Rattle.sl_syntax.specs.declared.typed.callee.Callee.{Callee}
 use Rattle.sl_syntax.specs.declared.typed.callee.Callee.TheVariants as callees
-use Rattle.sl_syntax.specs.declared.typed.head.Head.{Head}
 use Rattle.sl_syntax.specs.Typed.{Expr, literal, held, iterator, convert, negate, logical_not, logical_and, logical_or, arithmetic, comparison, call}
 use Rattle.sl_syntax.specs.Typed.{container, handed_scalar, scalar, Operands, none, with, Typed}
 use Rattle.sl_model.specs.Numbers.{converted}

@@ -7,8 +7,8 @@
 -- fact that it is inside. Where a missing need can't be completed, the node is read as a form that has no rule.
 use Rattle.std.specs.Prelude.{ℕ, ◌==◌, Bool, true, false, not, ◌&&◌, ◌||◌, List, [], ◌∷◌, if◌then◌else◌}
 use Rattle.std.specs.List.{list_any}
-use Rattle.sl_model.specs.Facts.{Fact, Facts, inside, before, behind, size_at_least, spare_at_least, sorted, lower_bound, upper_bound, up_to_size}
-use Rattle.sl_model.specs.Facts.{below_size, alive, follows, is_on_container, without, some_below, placed, no_container}
+use Rattle.sl_model.specs.Facts.{Fact, Facts, inside, before, behind, sorted}
+use Rattle.sl_model.specs.Facts.{alive, follows, is_on_container, without, some_below}
 
 -- what is needed, and what is given: at a node that is open or not
 pub record FactRule : Type 0 where

@@ -16,7 +16,7 @@ use Rattle.sl_syntax.specs.Typed.{Declaration, unset_scalar, set_scalar, set_ite
 use Rattle.sl_syntax.specs.Typed.{does_first, Stmt, declares, Typed}
 use Rattle.sl_model.specs.Facts.{Fact, Facts, inside, before, behind, size_at_least, spare_at_least, sorted, lower_bound, upper_bound, up_to_size}
 use Rattle.sl_model.specs.Facts.{below_size, alive}
-use Rattle.sl_model.specs.FactOperands.{FactScope, IteratorSort, writing_iterator, const_iterator, element_reference, ContainerSort, form_at}
+use Rattle.sl_model.specs.FactOperands.{FactScope, IteratorSort, writing_iterator, const_iterator, element_reference, form_at}
 use Rattle.sl_model.specs.FactOperands.{container_count, is_const_access}
 use Rattle.sl_model.specs.FactsOfFunctions.{is_const_value, is_const_container}
 

@@ -2,7 +2,7 @@
 --
 -- Restates no section of ISO/IEC 14882:2017.
 -- Chosen here: a place to which no way comes gives every fact, so nothing is missing there.
-use Rattle.std.specs.Prelude.{ℕ, Bool, true, false, ◌&&◌, ◌||◌, List, [], ◌∷◌, Option, Some, None}
+use Rattle.std.specs.Prelude.{ℕ, Bool, true, false, ◌&&◌, ◌||◌, List, Option, Some, None}
 use Rattle.sl_base.specs.declared.place.Place.{Place}
 use Rattle.sl_model.specs.Facts.{Fact, Facts, given_by, each_given, common_facts}
 use Rattle.sl_model.specs.FactRules.{FactRule}

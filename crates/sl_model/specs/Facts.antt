@@ -5,8 +5,8 @@
 -- Chosen here: which facts there are. Variables are the numbers of their sorts, references are numbered among the iterators, and
 -- what an operand gives is the next number behind those in scope. A number that is no constant of the text is never a fact's: what
 -- a rule would give with it, it gives with each weaker constant.
-use Rattle.std.specs.Prelude.{ℕ, zero, suc, ◌==◌, Bool, true, false, not, ◌&&◌, ◌||◌, List, [], ◌∷◌, find, reverse, ℤ, pos, ◌+ℤ◌, ◌-ℤ◌, int_le}
-use Rattle.std.specs.Prelude.{Option, Some, None, if◌then◌else◌}
+use Rattle.std.specs.Prelude.{ℕ, zero, suc, ◌==◌, Bool, true, false, not, ◌&&◌, ◌||◌, List, [], ◌∷◌, find, reverse, ℤ, pos, int_le}
+use Rattle.std.specs.Prelude.{Some, None, if◌then◌else◌}
 
 -- a fact of variables; an iterator or a reference comes first, then a container or a scalar, then a number
 pub data Fact : Type 0 where

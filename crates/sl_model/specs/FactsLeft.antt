@@ -4,7 +4,7 @@
 -- Restates ISO/IEC 14882:2017, [vector.modifiers], [deque.modifiers], [list.modifiers], [list.ops], [associative.reqmts],
 -- [unord.req] and [container.requirements.general], as far as they say which iterators and references stay valid.
 -- Chosen here: what is kept of it. A size that falls is one that was at least 1.
-use Rattle.std.specs.Prelude.{ℕ, ◌==◌, Bool, true, false, ◌&&◌, List, [], ◌∷◌, ℤ, pos, ◌+ℤ◌, ◌-ℤ◌, if◌then◌else◌}
+use Rattle.std.specs.Prelude.{ℕ, ◌==◌, Bool, true, false, ◌&&◌, List, ℤ, pos, ◌+ℤ◌, ◌-ℤ◌, if◌then◌else◌}
 use Rattle.sl_base.specs.declared.form.Form.{Form}
 use Rattle.sl_base.specs.declared.form.Form.TheVariants as f
 use Rattle.sl_model.specs.Facts.{Facts, inside, before, behind, size_at_least, spare_at_least, sorted, up_to_size, below_size, alive}

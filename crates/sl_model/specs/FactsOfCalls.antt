@@ -4,7 +4,7 @@
 -- Restates ISO/IEC 14882:2017, [container.requirements.general], [sequence.reqmts], [associative.reqmts], [unord.req], [list.ops],
 -- [alg.nonmodifying], [alg.sorting], [numeric.ops], [iterator.operations] and [back.inserter], as far as they say what is changed.
 -- Chosen here: which forms have a rule: `search_sorted`, `scan` and those of the files before.
-use Rattle.std.specs.Prelude.{ℕ, ◌+◌, ◌==◌, Bool, true, false, not, ◌&&◌, ◌||◌, List, [], ◌∷◌, map, Option, Some, None, if◌then◌else◌}
+use Rattle.std.specs.Prelude.{ℕ, ◌+◌, ◌==◌, Bool, true, false, ◌&&◌, List, [], ◌∷◌, map, Option, Some, None, if◌then◌else◌}
 use Rattle.std.specs.List.{list_any, list_all}
 use Rattle.sl_base.specs.declared.form.Form.{Form}
 use Rattle.sl_base.specs.declared.form.Form.TheVariants as f
@@ -15,23 +15,17 @@ use Rattle.sl_specs.specs.declared.letter.Letter.TheVariants as a
 use Rattle.sl_specs.specs.declared.need.Need.{Need}
 use Rattle.sl_specs.specs.Rows.{Row}
 use Rattle.sl_specs.specs.Table.{same_call}
-use Rattle.sl_syntax.specs.declared.typed.callee.Callee.{Callee}
 use Rattle.sl_syntax.specs.declared.typed.callee.Callee.TheVariants as callees
 use Rattle.sl_syntax.specs.declared.typed.head.Head.{Head}
-use Rattle.sl_syntax.specs.declared.typed.operator.Operator.{Operator}
-use Rattle.sl_syntax.specs.declared.typed.operator.Operator.TheVariants as operators
-use Rattle.sl_syntax.specs.declared.typed.step.Fix.{Fix}
-use Rattle.sl_syntax.specs.declared.typed.step.Fix.TheVariants as fix
-use Rattle.sl_syntax.specs.Typed.{Expr, Operands, none, with}
-use Rattle.sl_model.specs.Facts.{Facts, inside, sorted, no_container, forget_iterator, copy_iterator}
-use Rattle.sl_model.specs.FactRules.{FactRule, ElementRule, no_outline, keeps_all, freely, no_rule, is_on_order, drop_container, drop_containers}
+use Rattle.sl_syntax.specs.Typed.{Operands, none, with}
+use Rattle.sl_model.specs.Facts.{Facts, inside, sorted}
+use Rattle.sl_model.specs.FactRules.{FactRule, freely, no_rule, drop_container, drop_containers}
 use Rattle.sl_model.specs.FactRules.{drop_written}
-use Rattle.sl_model.specs.Facts.{without}
-use Rattle.sl_model.specs.FactOperands.{FactScope, container_count, fresh_iterator, form_at, row_of, literal_of, scalar_of, iterator_of, operand_at}
+use Rattle.sl_model.specs.FactOperands.{FactScope, container_count, fresh_iterator, form_at, row_of, iterator_of, operand_at}
 use Rattle.sl_model.specs.FactOperands.{operand_count, container_operands, WrittenRange, range_of, whole_of, more_than_size}
-use Rattle.sl_model.specs.FactsOfIterators.{begin, end, found, step_forward, step_back, access}
-use Rattle.sl_model.specs.FactsOfContainers.{push, pop, front_or_back, index_by, index_at, index_elsewhere, element_at, clear, reserve_more, sort}
-use Rattle.sl_model.specs.FactsOfContainers.{insert_key, value_of_key, append_copy, swapped}
+use Rattle.sl_model.specs.FactsOfIterators.{begin, end, found, step_forward, step_back}
+use Rattle.sl_model.specs.FactsOfContainers.{push, pop, clear, reserve_more, sort}
+use Rattle.sl_model.specs.FactsOfContainers.{insert_key, append_copy, swapped}
 
 -- there are needs
 abbrev pub has_needs : List Need → Bool
@@ -124,8 +118,9 @@ iterator_at s t ops n = elim (operand_at n ops) [ None ↦ fresh_iterator s (t +
 -- an algorithm that has no rule; t numbers its first operand
 abbrev pub other_algorithm : FactScope → ℕ → Operands → Call → FactRule
 other_algorithm s t ops name = elim (written_operands name) [
-    [] ↦ no_rule true (λ F. F)
-  | n ∷ ns ↦ no_rule true (drop_written (container_count s) (map (iterator_at s t ops) (n ∷ ns))) ]
+  | [] ↦ no_rule true (λ F. F)
+  | n ∷ ns ↦ no_rule true (drop_written (container_count s) (map (iterator_at s t ops) (n ∷ ns)))
+]
 
 -- `scan`: a range of x is read
 abbrev pub scan : FactScope → ℕ → Operands → Call → (ℕ → Facts → Facts) → FactRule
@@ -135,8 +130,9 @@ scan s t ops name rule =
 -- `search_sorted`: a range of x, whose elements ascend, is searched
 abbrev pub search_sorted : FactScope → ℕ → Operands → Call → (ℕ → Facts → Facts) → FactRule
 search_sorted s t ops name rule = elim (range_of s t ops) [
-    None ↦ other_algorithm s t ops name
-  | Some w ↦ searches (λ F. is_range w F && is_ascending w.over (form_at s w.over) F) (rule w.over) ]
+  | None ↦ other_algorithm s t ops name
+  | Some w ↦ searches (λ F. is_range w F && is_ascending w.over (form_at s w.over) F) (rule w.over)
+]
 
 -- what gives no iterator
 abbrev pub finds_none : ℕ → Facts → Facts
@@ -173,14 +169,16 @@ algorithm_rule s t ops name = other_algorithm s (t + 1) ops name
 abbrev pub appends_range : FactScope → Option WrittenRange → ℕ → FactRule
 appends_range s None x = no_rule true (drop_container x)
 appends_range s (Some w) x = elim (form_at s x) [
-    None ↦ no_rule true (drop_container x)
-  | Some form ↦ if w.over == x then no_rule true (drop_container x) else append_copy s.text.constants (is_range w) x form ]
+  | None ↦ no_rule true (drop_container x)
+  | Some form ↦ if w.over == x then no_rule true (drop_container x) else append_copy s.text.constants (is_range w) x form
+]
 
 -- an algorithm whose output appends to a container: `std::copy` alone has a rule
 abbrev pub appends_rule : FactScope → ℕ → Operands → Call → FactRule
 appends_rule s t ops name = elim (container_operands ops) [
-    [] ↦ no_rule true (λ F. F)
-  | x ∷ xs ↦ if same_call name c.Copy then appends_range s (range_of s t ops) x else no_rule true (drop_container x) ]
+  | [] ↦ no_rule true (λ F. F)
+  | x ∷ xs ↦ if same_call name c.Copy then appends_range s (range_of s t ops) x else no_rule true (drop_container x)
+]
 
 -- a call of a row
 abbrev pub row_rule : FactScope → ℕ → Operands → Option ℕ → Row → Option Form → FactRule
@@ -191,9 +189,11 @@ row_rule s t ops (Some x) r (Some form) = member_rule s t x form r ops r.call
 -- a call that gives no element and moves no variable
 abbrev pub call_rule : FactScope → ℕ → Head → Operands → FactRule
 call_rule s t h ops = elim (row_of h.callee) [
-    None ↦ no_rule true (λ F. F)
+  | None ↦ no_rule true (λ F. F)
   | Some r ↦ elim h.callee [
-        callees.Row n ↦ row_rule s t ops h.object r r.form
-      | callees.Appends n ↦ appends_rule s (t + 1) ops r.call
-      | callees.Operator o ↦ no_rule true (λ F. F)
-      | callees.Hidden o ↦ no_rule true (λ F. F) ] ]
+    | callees.Row n ↦ row_rule s t ops h.object r r.form
+    | callees.Appends n ↦ appends_rule s (t + 1) ops r.call
+    | callees.Operator o ↦ no_rule true (λ F. F)
+    | callees.Hidden o ↦ no_rule true (λ F. F)
+  ]
+]

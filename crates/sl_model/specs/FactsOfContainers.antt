@@ -4,10 +4,10 @@
 -- Restates ISO/IEC 14882:2017, [container.requirements.general], [sequence.reqmts], [vector.capacity], [list.ops],
 -- [associative.reqmts], [unord.req] and [map.access], as far as a rule's facts are true there.
 -- Chosen here: the facts that are carried; what each rule leaves of the facts on its container stands in FactsLeft.
-use Rattle.std.specs.Prelude.{ℕ, ◌==◌, Bool, true, false, ◌&&◌, ◌||◌, List, [], ◌∷◌, length, min, ℤ, pos, ◌+ℤ◌, int_le, if◌then◌else◌}
+use Rattle.std.specs.Prelude.{ℕ, ◌==◌, Bool, true, ◌&&◌, ◌||◌, List, min, ℤ, pos, ◌+ℤ◌, int_le, if◌then◌else◌}
 use Rattle.sl_base.specs.declared.form.Form.{Form}
 use Rattle.sl_base.specs.declared.form.Form.TheVariants as f
-use Rattle.sl_model.specs.Facts.{Fact, Facts, inside, before, behind, size_at_least, spare_at_least, sorted, lower_bound, upper_bound, up_to_size}
+use Rattle.sl_model.specs.Facts.{Fact, Facts, inside, before, behind, size_at_least, spare_at_least, sorted, up_to_size}
 use Rattle.sl_model.specs.Facts.{below_size, alive, given_too, placed, no_container, forget_iterator, at_least_constant}
 use Rattle.sl_model.specs.FactsLeft.{left, when_written, when_one_goes, when_inserted, when_pushed, when_cleared, when_reserved, when_sorted}
 use Rattle.sl_model.specs.FactsLeft.{when_key_inserted, when_appended, when_tail_erased}

@@ -3,7 +3,7 @@
 -- Restates ISO/IEC 14882:2017, [expr.ass] (the right side comes first), [dcl.init], [dcl.init.ref], [stmt.expr] and [istream.extractors].
 -- Chosen here: an assignment first drops the facts on its left side. `x.erase(it)`, `it = x.erase(it)`, `it = x.insert(it, e)` and the
 -- two forms of `erase_tail` are rules where they stand as a whole effect alone. An effect that is only a variable reads nothing.
-use Rattle.std.specs.Prelude.{ℕ, ◌==◌, Bool, true, false, ◌&&◌, ◌||◌, List, [], ◌∷◌, ℤ, Option, Some, None, if◌then◌else◌}
+use Rattle.std.specs.Prelude.{ℕ, ◌==◌, Bool, true, false, ◌&&◌, ◌||◌, List, [], ◌∷◌, Option, Some, None, if◌then◌else◌}
 use Rattle.sl_base.specs.declared.form.Form.{Form}
 use Rattle.sl_specs.specs.declared.call.Call.{Call}
 use Rattle.sl_specs.specs.declared.call.Call.TheVariants as c
@@ -12,10 +12,10 @@ use Rattle.sl_specs.specs.declared.letter.Letter.TheVariants as a
 use Rattle.sl_specs.specs.Rows.{Row}
 use Rattle.sl_specs.specs.Table.{same_call}
 use Rattle.sl_syntax.specs.declared.typed.head.Head.{Head}
-use Rattle.sl_syntax.specs.Typed.{Expr, held, iterator, call, Left, scalar, reference, element, Operands, none, with, Cond, read, not_read, test, always}
+use Rattle.sl_syntax.specs.Typed.{Expr, held, iterator, call, Left, scalar, reference, Operands, none, with, Cond, read, not_read, test, always}
 use Rattle.sl_syntax.specs.Typed.{Printed, text, endline, number as printed_number, Effect, reads, prints, evaluates, assigns, updates, moves_to}
 use Rattle.sl_syntax.specs.Typed.{Declaration, unset_scalar, set_scalar, set_iterator, binds_reference, makes}
-use Rattle.sl_model.specs.Facts.{Facts, forget_iterator, forget_scalar, copy_iterator, copy_scalar}
+use Rattle.sl_model.specs.Facts.{Facts, forget_scalar, copy_iterator, copy_scalar}
 use Rattle.sl_model.specs.FactRules.{FactRule, bind_reference, no_rule, drop_container}
 use Rattle.sl_model.specs.FactOperands.{FactScope, container_count, fresh_iterator, fresh_scalar, row_of, literal_of, size_of, end_of, scalar_of}
 use Rattle.sl_model.specs.FactOperands.{iterator_of, operand_count, whole_of, is_number}
@@ -39,10 +39,12 @@ forget_scalars (x ∷ xs) F = forget_scalars xs (forget_scalar x F)
 -- a scalar takes a value: a literal, a size, or what a variable or fresh variable holds
 abbrev pub takes_value : FactScope → ℕ → Expr → Facts → Facts
 takes_value s x e = elim (literal_of e) [
-    Some k ↦ set_literal (container_count s) k x
+  | Some k ↦ set_literal (container_count s) k x
   | None ↦ elim (size_of e) [
-        Some d ↦ take_size d x
-      | None ↦ elim (scalar_of s 0 e) [ Some y ↦ copy_scalar x y | None ↦ forget_scalar x ] ] ]
+    | Some d ↦ take_size d x
+    | None ↦ elim (scalar_of s 0 e) [ Some y ↦ copy_scalar x y | None ↦ forget_scalar x ]
+  ]
+]
 
 -- the call is this one of its row
 abbrev pub is_row_call : Call → Option Row → Bool
@@ -102,8 +104,9 @@ takes_position_back s it h ops x r otherwise =
     then then_step (operands s 1 ops) (rule_step h.place (erase_at_itself s.text.constants x it))
     else if same_call r.call c.Insert && takes_position_and_element r.letters
     then elim r.form [
-        None ↦ otherwise
-      | Some form ↦ then_step (operands s 1 ops) (rule_step h.place (insert_at s.text.constants x form it)) ]
+      | None ↦ otherwise
+      | Some form ↦ then_step (operands s 1 ops) (rule_step h.place (insert_at s.text.constants x form it))
+    ]
     else otherwise
 
 -- a call on an object whose first operand is the variable that takes its value

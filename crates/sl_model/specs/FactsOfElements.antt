@@ -5,7 +5,7 @@
 -- [iterator.requirements.general] (`*it`, `it->`), [input.iterators], [bidirectional.iterators], [expr.rel] and [expr.eq].
 -- Chosen here: which forms have a rule. A test of a scalar with a literal goes either way round; one of an iterator with `c.end()`
 -- or `c.begin()`, and of a scalar with `c.size()`, has the container on its right side.
-use Rattle.std.specs.Prelude.{ℕ, ◌+◌, Bool, true, false, List, [], ◌∷◌, ℤ, Option, Some, None, if◌then◌else◌}
+use Rattle.std.specs.Prelude.{ℕ, Bool, true, ℤ, Option, Some, None}
 use Rattle.sl_base.specs.declared.form.Form.{Form}
 use Rattle.sl_base.specs.declared.form.Form.TheVariants as f
 use Rattle.sl_specs.specs.declared.call.Call.{Call}
@@ -39,8 +39,9 @@ element_elsewhere =
 abbrev pub index : FactScope → ℕ → ℕ → Option Expr → ElementRule
 index s t x None = index_elsewhere x
 index s t x (Some e) = elim (literal_of e) [
-    Some k ↦ index_at s.text.constants x k
-  | None ↦ elim (scalar_of s t e) [ None ↦ index_elsewhere x | Some y ↦ index_by s.text.constants x y ] ]
+  | Some k ↦ index_at s.text.constants x k
+  | None ↦ elim (scalar_of s t e) [ None ↦ index_elsewhere x | Some y ↦ index_by s.text.constants x y ]
+]
 
 -- the first operand
 abbrev pub first_operand : Operands → Option Expr
@@ -69,10 +70,11 @@ row_element s t ops object r = element_elsewhere
 -- a call that gives an element; t numbers its first operand
 abbrev pub element_rule : FactScope → ℕ → Head → Operands → ElementRule
 element_rule s t h ops = elim h.callee [
-    callees.Row n ↦ row_element s t ops h.object (row_of h.callee)
+  | callees.Row n ↦ row_element s t ops h.object (row_of h.callee)
   | callees.Appends n ↦ element_elsewhere
   | callees.Operator o ↦ access (container_count s) (iterator_at s t ops 0)
-  | callees.Hidden o ↦ element_elsewhere ]
+  | callees.Hidden o ↦ element_elsewhere
+]
 
 -- an iterator variable is moved by a form that has no rule
 abbrev pub moves_otherwise : ℕ → FactRule
@@ -134,10 +136,11 @@ operator_test s t ops o = tells_nothing no_outline
 -- a test by a call of the library: of iterators, or `x.empty()`; t numbers its first operand
 abbrev pub call_test : FactScope → ℕ → Head → Operands → Option FactTest
 call_test s t h ops = elim h.callee [
-    callees.Row n ↦ elim (object_of c.Empty (row_of h.callee) h.object) [ None ↦ None | Some x ↦ Some (tells_false no_need (test_empty x)) ]
+  | callees.Row n ↦ elim (object_of c.Empty (row_of h.callee) h.object) [ None ↦ None | Some x ↦ Some (tells_false no_need (test_empty x)) ]
   | callees.Appends n ↦ None
   | callees.Operator o ↦ Some (operator_test s t ops o)
-  | callees.Hidden o ↦ None ]
+  | callees.Hidden o ↦ None
+]
 
 -- a scalar is compared with a literal
 abbrev pub compares_literal : ℕ → ℤ → Comparison → FactTest
@@ -160,7 +163,9 @@ compares_variable x None None op = tells_nothing no_need
 -- a test of two numbers, in the type of the variable
 abbrev pub comparison_test : Comparison → Expr → Expr → FactTest
 comparison_test op a b = elim (variable_of a) [
-    Some x ↦ compares_variable x (literal_of b) (size_of b) op
+  | Some x ↦ compares_variable x (literal_of b) (size_of b) op
   | None ↦ elim (variable_of b) [
-        None ↦ tells_nothing no_need
-      | Some y ↦ compares_variable y (literal_of a) None (turned op) ] ]
+    | None ↦ tells_nothing no_need
+    | Some y ↦ compares_variable y (literal_of a) None (turned op)
+  ]
+]

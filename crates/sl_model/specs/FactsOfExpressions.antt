@@ -5,7 +5,7 @@
 -- when.
 -- Chosen here: operands go from left to right. A comparison is a test only where its answer decides: in a condition, and as a side of
 -- `&&`, `||` or `!`. As a value it has no rule. `t` numbers the fresh variable that takes the value.
-use Rattle.std.specs.Prelude.{ℕ, ◌+◌, Bool, true, false, ◌&&◌, List, [], ◌∷◌, slice_get, Option, Some, None, if◌then◌else◌}
+use Rattle.std.specs.Prelude.{ℕ, ◌+◌, List, [], slice_get, Option, Some, None}
 use Rattle.sl_base.specs.declared.place.Place.{Place}
 use Rattle.sl_base.specs.declared.scalar.Scalar.{Scalar}
 use Rattle.sl_syntax.specs.declared.typed.head.Head.{Head}
@@ -17,7 +17,7 @@ use Rattle.sl_syntax.specs.declared.typed.step.Step.TheVariants as steps
 use Rattle.sl_syntax.specs.Typed.{Expr, literal, held, iterator, convert, negate, logical_not, logical_and, logical_or, arithmetic, comparison}
 use Rattle.sl_syntax.specs.Typed.{increment, move, call, own_call, first, second, container, handed_scalar, Left, scalar, reference, element}
 use Rattle.sl_syntax.specs.Typed.{Operands, none, with, Typed}
-use Rattle.sl_model.specs.Facts.{Fact, Facts, forget_iterator, forget_scalar, copy_bounds}
+use Rattle.sl_model.specs.Facts.{Facts, forget_iterator, forget_scalar, copy_bounds}
 use Rattle.sl_model.specs.FactRules.{FactRule, ElementRule, read_rule, write_rule}
 use Rattle.sl_model.specs.FactOperands.{FactScope, container_count, fresh_iterator, fresh_scalar}
 use Rattle.sl_model.specs.FactsOfIterators.{use_reference}
@@ -25,7 +25,7 @@ use Rattle.sl_model.specs.FactsOfNumbers as numbers
 use Rattle.sl_model.specs.FactsOfCalls.{call_rule}
 use Rattle.sl_model.specs.FactsOfElements.{element_rule, move_rule, FactTest, call_test, comparison_test}
 use Rattle.sl_model.specs.FactsOfFunctions.{bindings, enters_with, brought_back, given_behind}
-use Rattle.sl_model.specs.FactSteps.{Given, Places, Heads, with_facts, needs_facts, Step, Fork, no_step, changes, rule_step, then_step, test_fork}
+use Rattle.sl_model.specs.FactSteps.{with_facts, needs_facts, Step, Fork, no_step, changes, rule_step, then_step, test_fork}
 use Rattle.sl_model.specs.FactSteps.{plain_fork, not_fork, and_fork, or_fork, joined_step}
 
 -- an expression, where its value is taken and where it decides

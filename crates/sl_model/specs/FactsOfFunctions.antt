@@ -5,21 +5,19 @@
 -- Chosen here: a variable, or a fresh one, that is handed by value to a parameter of its own type brings its facts; an iterator that
 -- is handed to a const_iterator brings none. An iterator that is no const_iterator lets the call write elements of each container of
 -- its form. A container that is handed for elements alone counts as not handed over.
-use Rattle.std.specs.Prelude.{ℕ, zero, suc, ◌+◌, ◌==◌, Bool, true, false, not, ◌&&◌, ◌||◌, List, [], ◌∷◌, map, filter_map, slice_get, ℤ}
+use Rattle.std.specs.Prelude.{ℕ, ◌+◌, ◌==◌, Bool, true, false, not, ◌&&◌, ◌||◌, List, [], ◌∷◌, filter_map, slice_get}
 use Rattle.std.specs.Prelude.{Option, Some, None, option_map, if◌then◌else◌}
-use Rattle.std.specs.List.{list_any}
 use Rattle.sl_base.specs.declared.form.Form.{Form}
 use Rattle.sl_specs.specs.Forms.{same_form}
 use Rattle.sl_syntax.specs.declared.operator.Access.{Access}
 use Rattle.sl_syntax.specs.declared.operator.Access.TheVariants as access
-use Rattle.sl_syntax.specs.declared.typed.head.Head.{Head}
 use Rattle.sl_syntax.specs.declared.typed.parameter.ParameterKind.{ParameterKind}
 use Rattle.sl_syntax.specs.declared.typed.parameter.ParameterKind.TheVariants as parameter
-use Rattle.sl_syntax.specs.Typed.{Expr, iterator, move, call, own_call, first, second, container, handed_scalar, Operands, none, with, Function, Typed}
+use Rattle.sl_syntax.specs.Typed.{Expr, iterator, move, call, own_call, first, second, container, handed_scalar, Operands, none, with, Typed}
 use Rattle.sl_model.specs.Facts.{Fact, Facts, inside, before, behind, size_at_least, spare_at_least, sorted, lower_bound, upper_bound, up_to_size}
 use Rattle.sl_model.specs.Facts.{below_size, alive, given_by, is_on_container}
-use Rattle.sl_model.specs.FactOperands.{FactScope, IteratorSort, writing_iterator, const_iterator, element_reference, ContainerSort, scalar_of}
-use Rattle.sl_model.specs.FactOperands.{iterator_of, form_at, operand_at}
+use Rattle.sl_model.specs.FactOperands.{FactScope, IteratorSort, const_iterator, ContainerSort, scalar_of}
+use Rattle.sl_model.specs.FactOperands.{iterator_of, form_at}
 
 -- an iterator variable of this sort is a const_iterator
 abbrev pub is_const_sort : Option IteratorSort → Bool

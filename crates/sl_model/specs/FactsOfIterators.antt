@@ -5,7 +5,7 @@
 -- [bidirectional.iterators], [iterator.operations] (`next`, `prev`) and [dcl.ref].
 -- Chosen here: the facts that they carry. `n` is how many containers are in scope, `it` an iterator, `to` the one that takes the
 -- value, and `lax` says that the node is open.
-use Rattle.std.specs.Prelude.{ℕ, ◌==◌, Bool, ◌&&◌, pos}
+use Rattle.std.specs.Prelude.{ℕ, ◌==◌, ◌&&◌, pos}
 use Rattle.sl_model.specs.Facts.{Facts, inside, before, behind, size_at_least, alive, placed, no_container, copy_iterator}
 use Rattle.sl_model.specs.FactRules.{FactRule, ElementRule, freely, of_some, stands_before, stands_behind, completed, written_in}
 

@@ -4,7 +4,7 @@
 -- Restates ISO/IEC 14882:2017, [expr.pre.incr], [expr.rel], [expr.eq] and [basic.fundamental] (an unsigned number starts again at 0
 -- behind the greatest, a signed one that passes its type's end ends the run).
 -- Chosen here: the facts that they carry; a rule of a test names the fact of its true side.
-use Rattle.std.specs.Prelude.{ℕ, ◌==◌, nat_lt, Bool, true, false, not, ◌&&◌, ◌||◌, List, ℤ, pos, ◌+ℤ◌, ◌-ℤ◌, int_le, if◌then◌else◌}
+use Rattle.std.specs.Prelude.{ℕ, ◌==◌, nat_lt, Bool, true, ◌&&◌, ◌||◌, List, ℤ, pos, ◌+ℤ◌, ◌-ℤ◌, int_le}
 use Rattle.sl_base.specs.declared.scalar.Scalar.{Scalar}
 use Rattle.sl_base.specs.declared.scalar.Scalar.TheVariants as t
 use Rattle.sl_syntax.specs.declared.operator.Comparison.{Comparison}

@@ -5,12 +5,12 @@
 -- Chosen here: all of it. A pair is a function with a pattern; in a pair an iterator parameter comes from the container parameter, given
 -- or added, that the pattern names for it, and from nothing where it names none. A container parameter that is added is known by the
 -- iterator parameter whose home it is.
-use Rattle.std.specs.Prelude.{◌≡◌, ℕ, zero, suc, ◌+◌, ◌==◌, Bool, true, false, not, ◌&&◌, ◌||◌, List, [], ◌∷◌, ◌++◌, flat_map, map, length, slice_get}
+use Rattle.std.specs.Prelude.{ℕ, zero, suc, ◌+◌, ◌==◌, Bool, true, false, ◌&&◌, List, [], ◌∷◌, ◌++◌, flat_map, map, slice_get}
 use Rattle.std.specs.Prelude.{Option, Some, None, option_and_then, IsTrue, if◌then◌else◌}
 use Rattle.std.specs.List.{list_any, list_all}
 use Rattle.sl_syntax.specs.declared.typed.parameter.ParameterKind.{ParameterKind}
 use Rattle.sl_syntax.specs.declared.typed.parameter.ParameterKind.TheVariants as parameter
-use Rattle.sl_syntax.specs.Typed.{Expr, container, Operands, none, with, Function, Typed}
+use Rattle.sl_syntax.specs.Typed.{Expr, container, Operands, none, with, Typed}
 use Rattle.sl_model.specs.FactOperands.{row_of}
 use Rattle.sl_model.specs.FactsOfExpressions.{parameters_of}
 use Rattle.sl_model.specs.Sources.{Declared, Origin, from_container, from_iterator, Flow, CallSite, Walked, origins, origins_of_all, calls_in}

@@ -2,12 +2,12 @@
 --
 -- Restates ISO/IEC 14882:2017, [basic.scope.declarative], [basic.scope.block], [stmt.for] and [stmt.ranged]: what is in scope where.
 -- Chosen here: nothing more.
-use Rattle.std.specs.Prelude.{ℕ, List, [], ◌∷◌, ◌++◌, slice_get, Option, Some, None}
+use Rattle.std.specs.Prelude.{List, [], ◌∷◌, ◌++◌, slice_get, Option, Some, None}
 use Rattle.sl_syntax.specs.declared.typed.element.Taken.{Taken}
 use Rattle.sl_syntax.specs.declared.typed.element.Taken.TheVariants as taken
 use Rattle.sl_syntax.specs.declared.typed.parameter.ParameterKind.{ParameterKind}
 use Rattle.sl_syntax.specs.declared.typed.parameter.ParameterKind.TheVariants as parameter
-use Rattle.sl_syntax.specs.Typed.{Expr, Cond, read, not_read, test, always, Printed, Effect, reads, prints, evaluates, assigns, updates, moves_to}
+use Rattle.sl_syntax.specs.Typed.{Expr, Cond, test, Printed, Effect, reads, prints, evaluates, assigns, updates, moves_to}
 use Rattle.sl_syntax.specs.Typed.{Declaration, unset_scalar, set_scalar, set_iterator, binds_reference, makes, First, no_first, declares_first}
 use Rattle.sl_syntax.specs.Typed.{does_first, Stmt, block, declares, choice, choice_else, while, for, range_for, break, continue, gives_back, does}
 use Rattle.sl_syntax.specs.Typed.{Stmts, no_more, followed, Function, Typed}

@@ -4,8 +4,7 @@
 -- Restates no section of ISO/IEC 14882:2017.
 -- Chosen here: the list at the entry of `main` is empty; an exit's list speaks of parameters by reference alone. A function that nothing
 -- calls may begin with any list.
-use Rattle.std.specs.Prelude.{◌≡◌, ℕ, ◌+◌, ◌==◌, Bool, true, false, not, ◌&&◌, ◌||◌, List, [], ◌∷◌, Option, Some, None, IsTrue}
-use Rattle.sl_base.specs.declared.place.Place.{Place}
+use Rattle.std.specs.Prelude.{ℕ, ◌+◌, ◌==◌, Bool, true, false, not, ◌&&◌, ◌||◌, List, [], ◌∷◌, Some, IsTrue}
 use Rattle.sl_syntax.specs.Typed.{Function, Typed}
 use Rattle.sl_model.specs.Facts.{Fact, given_by}
 use Rattle.sl_model.specs.FactOperands.{FactScope, row_of}
@@ -13,7 +12,7 @@ use Rattle.sl_model.specs.FactSteps.{Given, Places, Heads, meet, covers}
 use Rattle.sl_model.specs.FactsOfExpressions.{expression, left_side, stepped, operands}
 use Rattle.sl_model.specs.FactScopes.{no_scope, after_parameters, speaks, all_of_references}
 use Rattle.sl_model.specs.RangeUses.{leaves_in, leaves_in_left, leaves_in_all, leaves_in_stmt, leaves_in_stmts}
-use Rattle.sl_model.specs.Carry.{Carry, carry, carry_all}
+use Rattle.sl_model.specs.Carry.{carry, carry_all}
 
 -- a list is empty
 abbrev pub is_empty_list : List Fact → Bool

@@ -7,14 +7,13 @@
 use Rattle.std.specs.Prelude.{ℕ, ◌==◌, Bool, true, false, not, ◌&&◌, ◌||◌, List, [], ◌∷◌, Option, Some, None, if◌then◌else◌}
 use Rattle.sl_specs.specs.declared.call.Call.{Call}
 use Rattle.sl_specs.specs.declared.call.Call.TheVariants as c
-use Rattle.sl_specs.specs.Rows.{Row}
 use Rattle.sl_syntax.specs.declared.operator.Access.TheVariants as access
 use Rattle.sl_syntax.specs.declared.typed.head.Head.{Head}
 use Rattle.sl_syntax.specs.declared.typed.parameter.ParameterKind.{ParameterKind}
 use Rattle.sl_syntax.specs.declared.typed.parameter.ParameterKind.TheVariants as parameter
 use Rattle.sl_syntax.specs.Typed.{Expr, literal, held, iterator, convert, negate, logical_not, logical_and, logical_or, arithmetic, comparison}
 use Rattle.sl_syntax.specs.Typed.{increment, move, call, own_call, first, second, container, handed_scalar, Left, scalar, reference, element}
-use Rattle.sl_syntax.specs.Typed.{Operands, none, with, Cond, read, not_read, test, always, Printed, text, endline, number as printed_number}
+use Rattle.sl_syntax.specs.Typed.{Operands, none, with, Cond, test, Printed, text, endline, number as printed_number}
 use Rattle.sl_syntax.specs.Typed.{Effect, reads, prints, evaluates, assigns, updates, moves_to, Declaration, unset_scalar, set_scalar}
 use Rattle.sl_syntax.specs.Typed.{set_iterator, binds_reference, makes, First, no_first, declares_first, does_first, Stmt, block, declares}
 use Rattle.sl_syntax.specs.Typed.{choice, choice_else, while, for, range_for, break, continue, gives_back, does, Stmts, no_more, followed, Typed}
@@ -46,8 +45,9 @@ only_reads w name = false
 -- the call's object is another container, or the call reads it
 abbrev pub is_fine_call : Watched → Head → Bool
 is_fine_call w h = elim h.object [
-    None ↦ true
-  | Some x ↦ if x == w.container then elim (row_of h.callee) [ None ↦ false | Some r ↦ only_reads w r.call ] else true ]
+  | None ↦ true
+  | Some x ↦ if x == w.container then elim (row_of h.callee) [ None ↦ false | Some r ↦ only_reads w r.call ] else true
+]
 
 -- an operand is another container, or none
 abbrev pub is_other_operand : Watched → Expr → Bool

@@ -4,27 +4,20 @@
 -- Restates no section of ISO/IEC 14882:2017.
 -- Chosen here: a call on a container gives what comes from it; an algorithm or an operator gives what comes from where its iterator
 -- operands do; a call of a function of the text what comes from where its iterators do, and from its containers of the result's form.
-use Rattle.std.specs.Prelude.{ℕ, ◌+◌, ◌==◌, Bool, true, false, ◌&&◌, List, [], ◌∷◌, ◌++◌, flat_map, slice_get, Option, Some, None, if◌then◌else◌}
+use Rattle.std.specs.Prelude.{ℕ, ◌+◌, Bool, true, false, List, [], ◌∷◌, ◌++◌, slice_get, Option, Some, None, if◌then◌else◌}
 use Rattle.sl_base.specs.declared.form.Form.{Form}
 use Rattle.sl_specs.specs.declared.return_type.ReturnType.{ReturnType}
 use Rattle.sl_specs.specs.declared.return_type.ReturnType.TheVariants as g
 use Rattle.sl_specs.specs.Forms.{same_form}
-use Rattle.sl_specs.specs.Rows.{Row}
 use Rattle.sl_syntax.specs.declared.typed.callee.Callee.{Callee}
 use Rattle.sl_syntax.specs.declared.typed.callee.Callee.TheVariants as callees
-use Rattle.sl_syntax.specs.declared.typed.element.Taken.{Taken}
-use Rattle.sl_syntax.specs.declared.typed.element.Taken.TheVariants as taken
-use Rattle.sl_syntax.specs.declared.typed.head.Head.{Head}
-use Rattle.sl_syntax.specs.declared.typed.operator.Operator.{Operator}
 use Rattle.sl_syntax.specs.declared.typed.operator.Operator.TheVariants as operators
 use Rattle.sl_syntax.specs.declared.typed.parameter.ParameterKind.{ParameterKind}
 use Rattle.sl_syntax.specs.declared.typed.parameter.ParameterKind.TheVariants as parameter
 use Rattle.sl_syntax.specs.Typed.{Expr, literal, held, iterator, convert, negate, logical_not, logical_and, logical_or, arithmetic, comparison}
 use Rattle.sl_syntax.specs.Typed.{increment, move, call, own_call, first, second, container, handed_scalar, Left, scalar, reference, element}
-use Rattle.sl_syntax.specs.Typed.{Operands, none, with, Cond, read, not_read, test, always, Printed, text, endline, number as printed_number}
-use Rattle.sl_syntax.specs.Typed.{Effect, reads, prints, evaluates, assigns, updates, moves_to, Declaration, unset_scalar, set_scalar}
-use Rattle.sl_syntax.specs.Typed.{set_iterator, binds_reference, makes, First, no_first, declares_first, does_first, Stmt, block, declares}
-use Rattle.sl_syntax.specs.Typed.{choice, choice_else, while, for, range_for, break, continue, gives_back, does, Stmts, no_more, followed, Typed}
+use Rattle.sl_syntax.specs.Typed.{Operands, none, with, Printed, text, endline, number as printed_number}
+use Rattle.sl_syntax.specs.Typed.{Typed}
 use Rattle.sl_model.specs.FactOperands.{row_of}
 use Rattle.sl_model.specs.FactsOfExpressions.{parameters_of}
 
@@ -100,14 +93,17 @@ is_iterator_call callee = false
 -- the form of the iterator that a function gives back
 abbrev pub result_form : Typed → ℕ → Option Form
 result_form p f = elim (slice_get p.functions f) [
-    None ↦ None
+  | None ↦ None
   | Some h ↦ elim h.result [
-        None ↦ None
-      | Some k ↦ elim k [
-            parameter.Value ty ↦ None
-          | parameter.Reference ty ↦ None
-          | parameter.Container a form ↦ None
-          | parameter.Iterator is_const form ↦ Some form ] ] ]
+    | None ↦ None
+    | Some k ↦ elim k [
+      | parameter.Value ty ↦ None
+      | parameter.Reference ty ↦ None
+      | parameter.Container a form ↦ None
+      | parameter.Iterator is_const form ↦ Some form
+    ]
+  ]
+]
 
 -- a container of the form that a function gives back an iterator of
 abbrev pub container_of_form : Declared → Option Form → ParameterKind → Expr → List Origin

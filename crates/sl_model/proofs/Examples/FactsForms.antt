@@ -90,7 +90,7 @@ list_append_keeps : shows (negsuc 0 ∷ numbers_to 4)
     (known ++
     (declares (makes f.Vector (head_at here (callees.Row sequence.VECTOR_CONSTRUCTOR_LIST) None) (operands_from (int 1 ∷ []))) ∷
     does (evaluates (call (head_at here (callees.Appends algorithms.STD_COPY) None) (operands_from (member sequence.VECTOR_BEGIN 1 [] ∷ member
-      sequence.VECTOR_END 1 [] ∷ container 0 ∷ [])))) ∷
+    sequence.VECTOR_END 1 [] ∷ container 0 ∷ [])))) ∷
     []))
     (before 0 0 ∷ behind 1 0 ∷ behind 2 0 ∷ alive 3 0 ∷ size_at_least 0 (pos 3) ∷ []) (sorted 0 ∷ []) ≡ true
 unfolding shows
@@ -135,7 +135,7 @@ deque_append_keeps_references : shows (numbers_to 3)
     declares (set_iterator (member sequence.DEQUE_BEGIN 0 [])) ∷
     declares (binds_reference (head_at here (callees.Row sequence.DEQUE_SUBSCRIPT) (Some 0)) (with (size_number 1) none)) ∷
     does (evaluates (call (head_at here (callees.Appends algorithms.STD_COPY) None) (operands_from (member sequence.VECTOR_BEGIN 1 [] ∷ member
-      sequence.VECTOR_END 1 [] ∷ container 0 ∷ [])))) ∷
+    sequence.VECTOR_END 1 [] ∷ container 0 ∷ [])))) ∷
     [])
     (alive 1 0 ∷ size_at_least 0 (pos 2) ∷ []) (inside 0 0 ∷ sorted 0 ∷ []) ≡ true
 unfolding shows

@@ -138,7 +138,7 @@ tested_for_elements = refl
 operands_are_fresh : shows (numbers_to 2)
     (declares (makes f.List (head_at here (callees.Row sequence.LIST_CONSTRUCTOR_LIST) None) (operands_from (int 1 ∷ []))) ∷
     does (prints (number (held (star (member sequence.LIST_BEGIN 0 []))) ∷ number (held (star (algorithm algorithms.STD_PREV (member
-      sequence.LIST_END 0 [] ∷ [])))) ∷ [])) ∷
+    sequence.LIST_END 0 [] ∷ [])))) ∷ [])) ∷
     [])
     (size_at_least 0 (pos 1) ∷ []) [] ≡ true
 unfolding shows
@@ -164,7 +164,7 @@ steps_are_fresh = refl
 calls_compare : shows (negsuc 0 ∷ numbers_to 1)
     (declares (makes f.Vector (head_at here (callees.Row sequence.VECTOR_CONSTRUCTOR) None) (operands_from [])) ∷
     choice (test (compared_at here comparisons.Equal (member sequence.VECTOR_BEGIN 0 []) (member sequence.VECTOR_END 0 []))) (gives_back (Some
-      (int 0))) ∷
+    (int 0))) ∷
     [])
     (size_at_least 0 (pos 1) ∷ []) [] ≡ true
 unfolding shows

@@ -109,7 +109,7 @@ tested_turned = refl
 true_side_is_told : shows (negsuc 0 ∷ numbers_to 4)
     (declares (unset_scalar t.Int) ∷ does (reads (0 ∷ [])) ∷
     choice (test (logical_not here (logical_and here (compares comparisons.Less (value_of 0) (int 3)) (compares comparisons.Greater (value_of 0)
-      (int 1))))) (gives_back (Some (int 0))) ∷
+    (int 1))))) (gives_back (Some (int 0))) ∷
     [])
     (lower_bound 0 (pos 2) ∷ upper_bound 0 (pos 2) ∷ []) (lower_bound 0 (pos 3) ∷ []) ≡ true
 unfolding shows
@@ -181,7 +181,7 @@ tests_are_joined : shows (negsuc 0 ∷ numbers_to 1)
     (declares (makes f.Vector (head_at here (callees.Row sequence.VECTOR_CONSTRUCTOR) None) (operands_from [])) ∷
     declares (set_scalar t.Size (size_number 0)) ∷
     choice (test (logical_or here (member sequence.VECTOR_EMPTY 0 []) (compares comparisons.GreaterEqual (value_of 0) (member
-      sequence.VECTOR_SIZE 0 [])))) (gives_back (Some (int 0))) ∷
+    sequence.VECTOR_SIZE 0 [])))) (gives_back (Some (int 0))) ∷
     [])
     (size_at_least 0 (pos 1) ∷ below_size 0 0 ∷ []) [] ≡ true
 unfolding shows
@@ -195,7 +195,7 @@ tests_are_joined = refl
 tests_in_values : shows (numbers_to 4)
     (declares (makes f.Vector (head_at here (callees.Row sequence.VECTOR_CONSTRUCTOR) None) (operands_from [])) ∷
     declares (set_scalar t.Bool (logical_and here (logical_not here (member sequence.VECTOR_EMPTY 0 [])) (compares comparisons.Equal (held
-      (member_element sequence.VECTOR_FRONT 0 [])) (int 3)))) ∷
+    (member_element sequence.VECTOR_FRONT 0 [])) (int 3)))) ∷
     [])
     (size_at_least 0 (pos 0) ∷ []) (size_at_least 0 (pos 1) ∷ lower_bound 0 (pos 0) ∷ []) ≡ true
 unfolding shows

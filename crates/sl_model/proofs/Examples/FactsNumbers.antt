@@ -190,9 +190,9 @@ sizes_stay_constants = refl
 -- not given: size(v) >= 4, size(w) >= 1
 sizes_fall_to_constants : shows (numbers_to 1 ++ (pos 4 ∷ pos 5 ∷ pos 6 ∷ []))
     (declares (makes f.Vector (head_at here (callees.Row sequence.VECTOR_CONSTRUCTOR_LIST) None) (operands_from (int 5 ∷ int 5 ∷ int 5 ∷ int 5 ∷
-      int 5 ∷ []))) ∷
+    int 5 ∷ []))) ∷
     declares (makes f.Vector (head_at here (callees.Row sequence.VECTOR_CONSTRUCTOR_LIST) None) (operands_from (int 5 ∷ int 5 ∷ int 5 ∷ int 5 ∷
-      int 5 ∷ []))) ∷
+    int 5 ∷ []))) ∷
     does (evaluates (member sequence.VECTOR_POP_BACK 0 [])) ∷ does (evaluates (member sequence.VECTOR_POP_BACK 0 [])) ∷
     does (evaluates (member sequence.VECTOR_POP_BACK 1 [])) ∷ does (evaluates (member sequence.VECTOR_POP_BACK 1 [])) ∷
     does (evaluates (member sequence.VECTOR_POP_BACK 1 [])) ∷ [])

@@ -169,7 +169,7 @@ no_comparison_as_value = refl
 no_index_by_a_sum : shows (negsuc 0 ∷ numbers_to 4)
     (known ++
     (does (prints (number (held (member_element sequence.VECTOR_SUBSCRIPT 0 (arithmetic o.Add t.Size here (value_of 0) (size_number 1) ∷ []))) ∷
-      [])) ∷
+    [])) ∷
     []))
     [] [] ≡ false
 unfolding shows
@@ -210,7 +210,7 @@ no_copied_to_an_iterator : shows (negsuc 0 ∷ numbers_to 4)
     (known ++
     (declares (makes f.Vector (head_at here (callees.Row sequence.VECTOR_CONSTRUCTOR_LIST) None) (operands_from (int 1 ∷ []))) ∷
     does (evaluates (algorithm algorithms.STD_COPY (member sequence.VECTOR_BEGIN 1 [] ∷ member sequence.VECTOR_END 1 [] ∷ member
-      sequence.VECTOR_BEGIN 0 [] ∷ []))) ∷
+    sequence.VECTOR_BEGIN 0 [] ∷ []))) ∷
     []))
     [] [] ≡ false
 unfolding shows
@@ -221,7 +221,7 @@ no_copied_to_an_iterator = refl
 no_copied_to_itself : shows (negsuc 0 ∷ numbers_to 4)
     (known ++
     (does (evaluates (call (head_at here (callees.Appends algorithms.STD_COPY) None) (operands_from (member sequence.VECTOR_BEGIN 0 [] ∷ member
-      sequence.VECTOR_END 0 [] ∷ container 0 ∷ [])))) ∷
+    sequence.VECTOR_END 0 [] ∷ container 0 ∷ [])))) ∷
     []))
     [] [] ≡ false
 unfolding shows
@@ -232,7 +232,7 @@ no_copied_to_itself = refl
 no_made_from_a_range : shows (negsuc 0 ∷ numbers_to 4)
     (known ++
     (declares (makes f.Vector (head_at here (callees.Row sequence.VECTOR_CONSTRUCTOR_RANGE) None) (operands_from (member sequence.VECTOR_BEGIN 0
-      [] ∷ member sequence.VECTOR_END 0 [] ∷ []))) ∷
+    [] ∷ member sequence.VECTOR_END 0 [] ∷ []))) ∷
     []))
     [] [] ≡ false
 unfolding shows
@@ -252,7 +252,7 @@ no_unique_alone = refl
 no_tail_with_a_result : shows (negsuc 0 ∷ numbers_to 4)
     (known ++
     (does (moves_to 0 (member sequence.VECTOR_ERASE_RANGE 0 (algorithm algorithms.STD_UNIQUE (member sequence.VECTOR_BEGIN 0 [] ∷ member
-      sequence.VECTOR_END 0 [] ∷ []) ∷ member sequence.VECTOR_END 0 [] ∷ []))) ∷
+    sequence.VECTOR_END 0 [] ∷ []) ∷ member sequence.VECTOR_END 0 [] ∷ []))) ∷
     []))
     [] [] ≡ false
 unfolding shows
@@ -265,7 +265,7 @@ no_tail_of_another : shows (negsuc 0 ∷ numbers_to 4)
     (known ++
     (declares (makes f.Vector (head_at here (callees.Row sequence.VECTOR_CONSTRUCTOR) None) (operands_from [])) ∷
     does (evaluates (member sequence.VECTOR_ERASE_RANGE 0 (algorithm algorithms.STD_UNIQUE (member sequence.VECTOR_BEGIN 1 [] ∷ member
-      sequence.VECTOR_END 1 [] ∷ []) ∷ member sequence.VECTOR_END 0 [] ∷ []))) ∷
+    sequence.VECTOR_END 1 [] ∷ []) ∷ member sequence.VECTOR_END 0 [] ∷ []))) ∷
     []))
     [] [] ≡ false
 unfolding shows

@@ -27,7 +27,7 @@ scans_find : shows (negsuc 0 ∷ numbers_to 4)
     declares (set_iterator (algorithm algorithms.STD_FIND (member sequence.VECTOR_BEGIN 0 [] ∷ iterator 0 ∷ int 3 ∷ []))) ∷
     declares (set_iterator (algorithm algorithms.STD_MIN_ELEMENT (member sequence.VECTOR_BEGIN 0 [] ∷ member sequence.VECTOR_END 0 [] ∷ []))) ∷
     does (prints (number (algorithm algorithms.STD_COUNT (iterator 0 ∷ member sequence.VECTOR_END 0 [] ∷ int 1 ∷ [])) ∷ number (algorithm
-      algorithms.STD_ACCUMULATE (member sequence.VECTOR_BEGIN 0 [] ∷ member sequence.VECTOR_END 0 [] ∷ int 0 ∷ [])) ∷ [])) ∷
+    algorithms.STD_ACCUMULATE (member sequence.VECTOR_BEGIN 0 [] ∷ member sequence.VECTOR_END 0 [] ∷ int 0 ∷ [])) ∷ [])) ∷
     [])
     (inside 1 0 ∷ inside 2 0 ∷ inside 3 0 ∷ before 0 0 ∷ size_at_least 0 (pos 1) ∷ []) (before 1 0 ∷ behind 2 0 ∷ []) ≡ true
 unfolding shows
@@ -45,10 +45,10 @@ searches_find : shows (numbers_to 2)
     (declares (makes f.Vector (head_at here (callees.Row sequence.VECTOR_CONSTRUCTOR) None) (operands_from [])) ∷
     declares (set_iterator (member sequence.VECTOR_BEGIN 0 [])) ∷
     declares (set_iterator (algorithm algorithms.STD_LOWER_BOUND (member sequence.VECTOR_BEGIN 0 [] ∷ member sequence.VECTOR_END 0 [] ∷ int 1 ∷
-      []))) ∷
+    []))) ∷
     declares (set_iterator (algorithm algorithms.STD_UPPER_BOUND (iterator 0 ∷ member sequence.VECTOR_END 0 [] ∷ int 1 ∷ []))) ∷
     declares (set_scalar t.Bool (algorithm algorithms.STD_BINARY_SEARCH (member sequence.VECTOR_BEGIN 0 [] ∷ member sequence.VECTOR_END 0 [] ∷
-      int 1 ∷ []))) ∷
+    int 1 ∷ []))) ∷
     [])
     (inside 1 0 ∷ inside 2 0 ∷ sorted 0 ∷ []) (before 1 0 ∷ lower_bound 0 (pos 0) ∷ []) ≡ true
 unfolding shows
@@ -65,9 +65,9 @@ sets_ascend : shows (numbers_to 3)
     (declares (makes f.Set (head_at here (callees.Row associative.SET_CONSTRUCTOR_LIST) None) (operands_from (int 2 ∷ []))) ∷
     declares (makes f.MultiSet (head_at here (callees.Row associative.MULTI_SET_CONSTRUCTOR_LIST) None) (operands_from (int 2 ∷ []))) ∷
     declares (set_iterator (algorithm algorithms.STD_LOWER_BOUND (member associative.SET_BEGIN 0 [] ∷ member associative.SET_END 0 [] ∷ int 1 ∷
-      []))) ∷
+    []))) ∷
     declares (set_iterator (algorithm algorithms.STD_LOWER_BOUND (member associative.MULTI_SET_BEGIN 1 [] ∷ member associative.MULTI_SET_END 1 []
-      ∷ int 1 ∷ []))) ∷
+    ∷ int 1 ∷ []))) ∷
     [])
     (inside 0 0 ∷ inside 1 1 ∷ []) (sorted 0 ∷ []) ≡ true
 unfolding shows
@@ -79,7 +79,7 @@ sets_ascend = refl
 searching_needs_order : shows (numbers_to 3)
     (declares (makes f.Vector (head_at here (callees.Row sequence.VECTOR_CONSTRUCTOR_LIST) None) (operands_from (int 2 ∷ int 1 ∷ []))) ∷
     declares (set_iterator (algorithm algorithms.STD_LOWER_BOUND (member sequence.VECTOR_BEGIN 0 [] ∷ member sequence.VECTOR_END 0 [] ∷ int 1 ∷
-      []))) ∷
+    []))) ∷
     [])
     [] [] ≡ false
 unfolding shows
@@ -91,7 +91,7 @@ searching_needs_order = refl
 searching_a_hash_set : shows (numbers_to 3)
     (declares (makes f.HashSet (head_at here (callees.Row associative.HASH_SET_CONSTRUCTOR_LIST) None) (operands_from (int 2 ∷ []))) ∷
     declares (set_iterator (algorithm algorithms.STD_LOWER_BOUND (member associative.HASH_SET_BEGIN 0 [] ∷ member associative.HASH_SET_END 0 [] ∷
-      int 1 ∷ []))) ∷
+    int 1 ∷ []))) ∷
     [])
     [] [] ≡ false
 unfolding shows
@@ -109,7 +109,7 @@ appends_from_an_iterator : shows (numbers_to 3)
     declares (makes f.List (head_at here (callees.Row sequence.LIST_CONSTRUCTOR) None) (operands_from [])) ∷
     declares (set_iterator (member sequence.VECTOR_BEGIN 0 [])) ∷
     does (evaluates (call (head_at here (callees.Appends algorithms.STD_COPY) None) (operands_from (iterator 0 ∷ member sequence.VECTOR_END 0 []
-      ∷ container 1 ∷ [])))) ∷
+    ∷ container 1 ∷ [])))) ∷
     [])
     (size_at_least 1 (pos 0) ∷ before 0 0 ∷ []) (sorted 1 ∷ []) ≡ true
 unfolding shows

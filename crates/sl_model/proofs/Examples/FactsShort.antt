@@ -10,20 +10,19 @@ use Rattle.sl_syntax.specs.declared.operator.Comparison.TheVariants as compariso
 use Rattle.sl_syntax.specs.declared.typed.callee.Callee.{Callee}
 use Rattle.sl_syntax.specs.declared.typed.callee.Callee.TheVariants as callees
 use Rattle.sl_syntax.specs.declared.typed.head.Head.{Head}
-use Rattle.sl_syntax.specs.declared.typed.operator.Operator.{Operator}
 use Rattle.sl_syntax.specs.declared.typed.operator.Operator.TheVariants as operators
 use Rattle.sl_syntax.specs.declared.typed.parameter.ParameterKind.{ParameterKind}
 use Rattle.sl_syntax.specs.declared.typed.parameter.ParameterKind.TheVariants as parameter
 use Rattle.sl_syntax.specs.declared.typed.step.Fix.TheVariants.{Prefix}
-use Rattle.sl_syntax.specs.declared.typed.step.Step.TheVariants.{Up, Down}
-use Rattle.sl_syntax.specs.Typed.{Expr, literal, held, iterator, convert, comparison, increment, move, call, container, Left, scalar, element}
-use Rattle.sl_syntax.specs.Typed.{Operands, none, with, operands_from, stmts_from, evaluates, prints, number, set_scalar, set_iterator, makes, Stmt}
+use Rattle.sl_syntax.specs.declared.typed.step.Step.TheVariants.{Up}
+use Rattle.sl_syntax.specs.Typed.{Expr, literal, held, convert, comparison, increment, move, call, Left, scalar, element}
+use Rattle.sl_syntax.specs.Typed.{none, with, operands_from, stmts_from, evaluates, prints, number, set_scalar, set_iterator, makes, Stmt}
 use Rattle.sl_syntax.specs.Typed.{block, declares, does, Function, Typed}
 use Rattle.sl_model.specs.Facts.{Fact, given_by}
-use Rattle.sl_model.specs.FactOperands.{FactScope, row_of}
+use Rattle.sl_model.specs.FactOperands.{row_of}
 use Rattle.sl_model.specs.FactSteps.{Heads, Given, Places}
 use Rattle.sl_model.specs.FactsOfExpressions.{expression, left_side, stepped, operands}
-use Rattle.sl_model.specs.FactScopes.{no_scope, after_parameters}
+use Rattle.sl_model.specs.FactScopes.{no_scope}
 use Rattle.sl_model.specs.RangeUses.{leaves_in, leaves_in_left, leaves_in_all, leaves_in_stmt, leaves_in_stmts}
 use Rattle.sl_model.specs.Carry.{Carry, carry, carry_all, no_carry}
 use Rattle.sl_model.specs.Outline.{nowhere}

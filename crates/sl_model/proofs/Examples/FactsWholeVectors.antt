@@ -79,7 +79,7 @@ append_copy_leaves : shows (negsuc 0 ∷ numbers_to 4)
     (known ++
     (declares (makes f.Vector (head_at here (callees.Row sequence.VECTOR_CONSTRUCTOR) None) (operands_from [])) ∷
     does (evaluates (call (head_at here (callees.Appends algorithms.STD_COPY) None) (operands_from (member sequence.VECTOR_BEGIN 1 [] ∷ member
-      sequence.VECTOR_END 1 [] ∷ container 0 ∷ [])))) ∷
+    sequence.VECTOR_END 1 [] ∷ container 0 ∷ [])))) ∷
     []))
     (size_at_least 0 (pos 3) ∷ below_size 0 0 ∷ up_to_size 1 0 ∷ sorted 1 ∷ size_at_least 1 (pos 0) ∷ [])
     (size_at_least 0 (pos 4) ∷ spare_at_least 0 (pos 0) ∷ sorted 0 ∷ inside 0 0 ∷ inside 1 0 ∷ alive 3 0 ∷ []) ≡ true
@@ -94,9 +94,9 @@ append_copy_leaves = refl
 erase_tail_leaves : shows (negsuc 0 ∷ numbers_to 4)
     (known ++
     (does (evaluates (member sequence.VECTOR_ERASE_RANGE 0 (algorithm algorithms.STD_UNIQUE (member sequence.VECTOR_BEGIN 0 [] ∷ member
-      sequence.VECTOR_END 0 [] ∷ []) ∷ member sequence.VECTOR_END 0 [] ∷ []))) ∷
+    sequence.VECTOR_END 0 [] ∷ []) ∷ member sequence.VECTOR_END 0 [] ∷ []))) ∷
     does (evaluates (member sequence.VECTOR_ERASE_RANGE 0 (algorithm algorithms.STD_REMOVE (member sequence.VECTOR_BEGIN 0 [] ∷ member
-      sequence.VECTOR_END 0 [] ∷ int 2 ∷ []) ∷ member sequence.VECTOR_END 0 [] ∷ []))) ∷
+    sequence.VECTOR_END 0 [] ∷ int 2 ∷ []) ∷ member sequence.VECTOR_END 0 [] ∷ []))) ∷
     []))
     (sorted 0 ∷ lower_bound 0 (pos 0) ∷ [])
     (size_at_least 0 (pos 0) ∷ spare_at_least 0 (pos 0) ∷ below_size 0 0 ∷ up_to_size 0 0 ∷ up_to_size 1 0 ∷ inside 0 0 ∷ alive 3 0 ∷ []) ≡ true

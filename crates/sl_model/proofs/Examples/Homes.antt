@@ -35,7 +35,7 @@ abbrev adding : Typed
 adding = text_of (negsuc 0 ∷ numbers_to 4) 1 (
     function_of (parameter.Iterator false f.Vector ∷ parameter.Iterator false f.Vector ∷ []) (Some (parameter.Value t.Int)) (declares (set_scalar t.Int (int 0)) ∷
     while 0 (test (differ (iterator 0) (iterator 1))) (braces (does (updates o.Add t.Int t.Int here (scalar 0 here) (held (star (iterator 0))))
-      ∷ does (evaluates (up 0)) ∷ [])) ∷
+    ∷ does (evaluates (up 0)) ∷ [])) ∷
     gives_back (Some (value_of 0)) ∷ []) ∷
     main_of (declares (makes f.Vector (head_at here (callees.Row sequence.VECTOR_CONSTRUCTOR_LIST) None) (operands_from (int 1 ∷ int 2 ∷ int 3 ∷ []))) ∷
     declares (set_scalar t.Int (own_call 0 here (operands_from (member sequence.VECTOR_BEGIN 0 [] ∷ member sequence.VECTOR_END 0 [] ∷ [])))) ∷
@@ -98,8 +98,8 @@ losing = text_of (numbers_to 2) 1 (
     main_of (declares (makes f.Vector (head_at here (callees.Row sequence.VECTOR_CONSTRUCTOR_LIST) None) (operands_from (int 1 ∷ []))) ∷
     declares (set_iterator (member sequence.VECTOR_BEGIN 0 [])) ∷ declares (set_iterator (iterator 0)) ∷
     braces (declares (makes f.Vector (head_at here (callees.Row sequence.VECTOR_CONSTRUCTOR_LIST) None) (operands_from (int 1 ∷ []))) ∷ does
-      (moves_to 0 (member sequence.VECTOR_BEGIN 1 [])) ∷ does (evaluates (own_call 0 here (operands_from (member sequence.VECTOR_END 1 [] ∷ []))))
-      ∷ []) ∷
+    (moves_to 0 (member sequence.VECTOR_BEGIN 1 [])) ∷ does (evaluates (own_call 0 here (operands_from (member sequence.VECTOR_END 1 [] ∷ []))))
+    ∷ []) ∷
     does (evaluates (own_call 0 here (operands_from (iterator 1 ∷ [])))) ∷ []) ∷
     [])
 
@@ -131,7 +131,7 @@ ending = text_of (numbers_to 2) 2 (
     function_of (parameter.Iterator false f.Vector ∷ []) None [] ∷
     main_of (declares (set_iterator (own_call 0 here (operands_from []))) ∷
     braces (declares (makes f.Vector (head_at here (callees.Row sequence.VECTOR_CONSTRUCTOR_LIST) None) (operands_from (int 1 ∷ []))) ∷ does
-      (moves_to 0 (member sequence.VECTOR_BEGIN 0 [])) ∷ does (evaluates (own_call 1 here (operands_from (iterator 0 ∷ [])))) ∷ []) ∷
+    (moves_to 0 (member sequence.VECTOR_BEGIN 0 [])) ∷ does (evaluates (own_call 1 here (operands_from (iterator 0 ∷ [])))) ∷ []) ∷
     does (evaluates (own_call 1 here (operands_from (iterator 0 ∷ [])))) ∷ []) ∷
     [])
 
@@ -161,7 +161,7 @@ handing_on = text_of (numbers_to 2) 2 (
     main_of (declares (makes f.Vector (head_at here (callees.Row sequence.VECTOR_CONSTRUCTOR_LIST) None) (operands_from (int 1 ∷ []))) ∷
     declares (makes f.Vector (head_at here (callees.Row sequence.VECTOR_CONSTRUCTOR_LIST) None) (operands_from (int 1 ∷ []))) ∷
     does (evaluates (own_call 1 here (operands_from (container 0 ∷ member sequence.VECTOR_BEGIN 1 [] ∷ member sequence.VECTOR_BEGIN 0 [] ∷
-      [])))) ∷
+    [])))) ∷
     []) ∷
     [])
 
