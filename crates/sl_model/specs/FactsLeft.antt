@@ -44,7 +44,7 @@ pub data OnReferences : Type 0 where
   references_dropped : OnReferences
 
 -- what a change leaves of the facts on the container that it changes
-pub record Left : Type 0 where
+pub record Remainder : Type 0 where
   pub size : OnSize
   pub spare : OnSpare
   pub order : OnOrder
@@ -52,56 +52,56 @@ pub record Left : Type 0 where
   pub references : OnReferences
 
 -- a line of the table
-abbrev pub leaves : OnSize → OnSpare → OnOrder → OnIterators → OnReferences → Left
+abbrev pub leaves : OnSize → OnSpare → OnOrder → OnIterators → OnReferences → Remainder
 leaves size spare order iterators references =
     record { size = size; spare = spare; order = order; iterators = iterators; references = references }
 
 -- an element is written
-abbrev pub when_written : Left
+abbrev pub when_written : Remainder
 when_written = leaves size_kept spare_kept order_dropped iterators_kept references_kept
 
 -- one element is erased, at an iterator or at an end
-abbrev pub when_one_goes : Left
+abbrev pub when_one_goes : Remainder
 when_one_goes = leaves size_falls spare_kept order_kept iterators_dropped references_dropped
 
 -- one element is inserted at an iterator
-abbrev pub when_inserted : Form → Left
+abbrev pub when_inserted : Form → Remainder
 when_inserted f.List = leaves size_rises spare_falls order_dropped iterators_kept references_kept
 when_inserted form = leaves size_rises spare_falls order_dropped iterators_dropped references_dropped
 
 -- one element is put at an end
-abbrev pub when_pushed : Form → Left
+abbrev pub when_pushed : Form → Remainder
 when_pushed f.List = leaves size_rises spare_falls order_dropped iterators_kept references_kept
 when_pushed f.Deque = leaves size_rises spare_falls order_dropped iterators_dropped references_kept
 when_pushed form = leaves size_rises spare_falls order_dropped iterators_kept_with_spare references_kept_with_spare
 
 -- all elements are erased
-abbrev pub when_cleared : Left
+abbrev pub when_cleared : Remainder
 when_cleared = leaves size_dropped spare_kept order_given iterators_dropped references_dropped
 
 -- room is made
-abbrev pub when_reserved : Left
+abbrev pub when_reserved : Remainder
 when_reserved = leaves size_kept spare_kept order_kept iterators_dropped references_dropped
 
 -- all elements are sorted, those of a list by changing places
-abbrev pub when_sorted : Form → Left
+abbrev pub when_sorted : Form → Remainder
 when_sorted f.List = leaves size_kept spare_kept order_given iterators_moved references_kept
 when_sorted form = leaves size_kept spare_kept order_given iterators_kept references_kept
 
 -- a key comes in, or is there
-abbrev pub when_key_inserted : Form → Left
+abbrev pub when_key_inserted : Form → Remainder
 when_key_inserted f.HashSet = leaves size_kept spare_dropped order_dropped iterators_dropped references_kept
 when_key_inserted f.HashMap = leaves size_kept spare_dropped order_dropped iterators_dropped references_kept
 when_key_inserted form = leaves size_kept spare_dropped order_dropped iterators_kept references_kept
 
 -- elements are appended one by one
-abbrev pub when_appended : Form → Left
+abbrev pub when_appended : Form → Remainder
 when_appended f.List = leaves size_kept spare_dropped order_dropped iterators_kept references_kept
 when_appended f.Deque = leaves size_kept spare_dropped order_dropped iterators_dropped references_kept
 when_appended form = leaves size_kept spare_dropped order_dropped iterators_dropped references_dropped
 
 -- elements are erased by their values, the others keeping their order
-abbrev pub when_tail_erased : Left
+abbrev pub when_tail_erased : Remainder
 when_tail_erased = leaves size_dropped spare_dropped order_kept iterators_dropped references_dropped
 
 -- what is given on the size
@@ -165,14 +165,14 @@ alive_left references_kept_with_spare c F r = F (spare_at_least c (pos 1)) && F 
 alive_left references_dropped c F r = false
 
 -- what a change of a container leaves, in a text with these constants
-abbrev pub left : List ℤ → ℕ → Left → Facts → Facts
-left constants c l F (inside i d) = if d == c then inside_left l.iterators c F i else F (inside i d)
-left constants c l F (before i d) = if d == c then before_left l.iterators c F i else F (before i d)
-left constants c l F (behind i d) = if d == c then behind_left l.iterators c F i else F (behind i d)
-left constants c l F (size_at_least d k) = if d == c then size_left constants l.size c F k else F (size_at_least d k)
-left constants c l F (spare_at_least d k) = if d == c then spare_left constants l.spare c F k else F (spare_at_least d k)
-left constants c l F (sorted d) = if d == c then order_left l.order c F else F (sorted d)
-left constants c l F (up_to_size x d) = if d == c then up_to_left l.size c F x else F (up_to_size x d)
-left constants c l F (below_size x d) = if d == c then below_left l.size c F x else F (below_size x d)
-left constants c l F (alive r d) = if d == c then alive_left l.references c F r else F (alive r d)
-left constants c l F f = F f
+abbrev pub remaining : List ℤ → ℕ → Remainder → Facts → Facts
+remaining constants c r F (inside i d) = if d == c then inside_left r.iterators c F i else F (inside i d)
+remaining constants c r F (before i d) = if d == c then before_left r.iterators c F i else F (before i d)
+remaining constants c r F (behind i d) = if d == c then behind_left r.iterators c F i else F (behind i d)
+remaining constants c r F (size_at_least d k) = if d == c then size_left constants r.size c F k else F (size_at_least d k)
+remaining constants c r F (spare_at_least d k) = if d == c then spare_left constants r.spare c F k else F (spare_at_least d k)
+remaining constants c r F (sorted d) = if d == c then order_left r.order c F else F (sorted d)
+remaining constants c r F (up_to_size x d) = if d == c then up_to_left r.size c F x else F (up_to_size x d)
+remaining constants c r F (below_size x d) = if d == c then below_left r.size c F x else F (below_size x d)
+remaining constants c r F (alive i d) = if d == c then alive_left r.references c F i else F (alive i d)
+remaining constants c r F f = F f

@@ -9,7 +9,7 @@ use Rattle.sl_base.specs.declared.form.Form.{Form}
 use Rattle.sl_base.specs.declared.form.Form.TheVariants as f
 use Rattle.sl_model.specs.Facts.{Fact, Facts, inside, before, behind, size_at_least, spare_at_least, sorted, up_to_size}
 use Rattle.sl_model.specs.Facts.{below_size, alive, given_too, placed, no_container, forget_iterator, at_least_constant}
-use Rattle.sl_model.specs.FactsLeft.{left, when_written, when_one_goes, when_inserted, when_pushed, when_cleared, when_reserved, when_sorted}
+use Rattle.sl_model.specs.FactsLeft.{remaining, when_written, when_one_goes, when_inserted, when_pushed, when_cleared, when_reserved, when_sorted}
 use Rattle.sl_model.specs.FactsLeft.{when_key_inserted, when_appended, when_tail_erased}
 use Rattle.sl_model.specs.FactRules.{FactRule, ElementRule, no_need, no_outline, freely, drop_container}
 
@@ -39,7 +39,7 @@ may_erase it x lax F = F (before it x) || (lax && F (inside it x))
 abbrev pub erase_at : List ℤ → ℕ → ℕ → FactRule
 erase_at constants x it = record {
   needs = λ F. F (before it x);
-  gives = λ lax F. if may_erase it x lax F then left constants x when_one_goes (given_too lax (before it x) F) else drop_container x F;
+  gives = λ lax F. if may_erase it x lax F then remaining constants x when_one_goes (given_too lax (before it x) F) else drop_container x F;
 }
 
 -- `erase_at`, `it = x.erase(it)`: and then it is inside
@@ -49,24 +49,24 @@ erase_at_itself constants x it = record {
   gives = λ lax F. placed it (λ d. d == x && may_erase it x lax F) no_container no_container ((erase_at constants x it).gives lax F);
 }
 
--- `insert_at`, `it = x.insert(it, e)`: it is inside, and then before the end
+-- `insert_at`, `it = x.insert(it, e)`: it is inside, and then before the end, so that there is an element
 abbrev pub insert_at : List ℤ → ℕ → Form → ℕ → FactRule
 insert_at constants x form it = record {
   needs = λ F. F (inside it x);
   gives = λ lax F.
-      if F (inside it x) then placed it (λ d. d == x) (λ d. d == x) no_container (left constants x (when_inserted form) F)
+      if F (inside it x) then given_too true (before it x) (forget_iterator it (remaining constants x (when_inserted form) F))
       else forget_iterator it (drop_container x F);
 }
 
 -- `push`, `x.push_back(e)` and `x.push_front(e)`
 abbrev pub push : List ℤ → ℕ → Form → FactRule
-push constants x form = freely (left constants x (when_pushed form))
+push constants x form = freely (remaining constants x (when_pushed form))
 
 -- `pop`, `x.pop_back()` and `x.pop_front()`: size(x) is at least 1
 abbrev pub pop : List ℤ → ℕ → FactRule
 pop constants x = record {
   needs = λ F. F (size_at_least x (pos 1));
-  gives = λ lax F. left constants x when_one_goes (given_too lax (size_at_least x (pos 1)) F);
+  gives = λ lax F. remaining constants x when_one_goes (given_too lax (size_at_least x (pos 1)) F);
 }
 
 -- an element of x that is there where a fact is given, and completed at an open node
@@ -74,7 +74,7 @@ abbrev pub element_where : List ℤ → ℕ → Fact → ElementRule
 element_where constants x fact = record {
   needs = λ F. F fact;
   reads = λ lax F. given_too lax fact F;
-  writes = λ lax F. left constants x when_written (given_too lax fact F);
+  writes = λ lax F. remaining constants x when_written (given_too lax fact F);
   owners = λ lax F d. d == x;
 }
 
@@ -100,19 +100,19 @@ element_at x = record { needs = no_need; reads = λ lax F. F; writes = λ lax F.
 
 -- `clear`, `x.clear()`
 abbrev pub clear : List ℤ → ℕ → FactRule
-clear constants x = freely (left constants x when_cleared)
+clear constants x = freely (remaining constants x when_cleared)
 
 -- `reserve_more`, `x.reserve(x.size() + k)` of a vector
 abbrev pub reserve_more : List ℤ → ℕ → ℤ → FactRule
-reserve_more constants x k = freely (λ F. given_too true (spare_at_least x k) (left constants x when_reserved F))
+reserve_more constants x k = freely (λ F. given_too true (spare_at_least x k) (remaining constants x when_reserved F))
 
 -- `sort`, of all elements of x
 abbrev pub sort : List ℤ → ℕ → Form → FactRule
-sort constants x form = freely (left constants x (when_sorted form))
+sort constants x form = freely (remaining constants x (when_sorted form))
 
 -- what a key that comes in, or is there, gives and leaves
 abbrev pub key_inserted : List ℤ → ℕ → Form → Facts → Facts
-key_inserted constants x form F = given_too true (size_at_least x (pos 1)) (left constants x (when_key_inserted form) F)
+key_inserted constants x form F = given_too true (size_at_least x (pos 1)) (remaining constants x (when_key_inserted form) F)
 
 -- `insert_key`, `x.insert(e)` and `x.emplace(k, e)` of a form with keys
 abbrev pub insert_key : List ℤ → ℕ → Form → FactRule
@@ -131,12 +131,12 @@ value_of_key constants x form = record {
 abbrev pub append_copy : List ℤ → (Facts → Bool) → ℕ → Form → FactRule
 append_copy constants needs x form = record {
   needs = needs;
-  gives = λ lax F. if needs F then left constants x (when_appended form) F else drop_container x F;
+  gives = λ lax F. if needs F then remaining constants x (when_appended form) F else drop_container x F;
 }
 
 -- `erase_tail`, `x.erase(std::unique(x.begin(), x.end()), x.end())`, and with `std::remove`
 abbrev pub erase_tail : List ℤ → ℕ → FactRule
-erase_tail constants x = freely (left constants x when_tail_erased)
+erase_tail constants x = freely (remaining constants x when_tail_erased)
 
 -- it is one of the two
 abbrev pub is_either : ℕ → ℕ → ℕ → Bool
