@@ -144,7 +144,7 @@ copy_scalar x from F =
 abbrev pub copy_bounds : ℕ → ℕ → Facts → Facts
 copy_bounds x from F = scaled x (λ k. F (lower_bound from k)) (λ k. F (upper_bound from k)) no_container no_container F
 
--- The test holds of the least constant that is at least k. A lower bound, of a size too, that a rule gives with a number that is no
+-- The test holds of the least of the constants, which ascend, that is at least k. A lower bound, of a size too, that a rule gives with a number that is no
 -- constant, it gives with each constant below; so it gives k where it would give this one.
 abbrev pub at_least_constant : List ℤ → ℤ → (ℤ → Bool) → Bool
 at_least_constant constants k test = elim (find (λ m. int_le k m) constants) [ None ↦ false | Some m ↦ test m ]

@@ -176,9 +176,9 @@ unfolding row_of origins origins_of_all calls_in calls_in_left calls_in_all walk
 copies_after zero p = record { function = p.main; pattern = [] } ∷ []
 copies_after (suc n) p = with_new (copies_after n p) (flat_map (called_by p) (copies_after n p))
 
--- a pair is a copy of a text if some number of calls leads to it
-abbrev pub IsCopy : Typed → Copy → Type 0
-IsCopy p a = (n : ℕ) × IsTrue (list_any (same_copy a) (copies_after n p))
+-- a pair is among the copies of a text: some number of calls leads to it
+abbrev pub Copies : Typed → Copy → Type 0
+Copies p a = (n : ℕ) × IsTrue (list_any (same_copy a) (copies_after n p))
 
 -- the iterator parameters whose homes are added as container parameters, from a place on
 abbrev pub added_from : ℕ → Pattern → List ℕ

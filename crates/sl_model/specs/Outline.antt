@@ -57,9 +57,9 @@ abbrev pub nowhere : Places
 nowhere at = false
 
 -- these lists are an outline of the text that is open at these places
-abbrev pub IsOpenOutline : Typed → Places → Heads → Type 0
-IsOpenOutline p o h = IsTrue (is_outline p o h)
+abbrev pub OpenOutline : Typed → Places → Heads → Type 0
+OpenOutline p o h = IsTrue (is_outline p o h)
 
 -- these lists are an outline of the text
-abbrev pub IsOutline : Typed → Heads → Type 0
-IsOutline p h = IsOpenOutline p nowhere h
+abbrev pub Outline : Typed → Heads → Type 0
+Outline p h = OpenOutline p nowhere h

@@ -1,6 +1,7 @@
 -- What the rules of iterators and of their tests give, and what a fresh variable brings.
 use Rattle.sl_base.specs.declared.form.Form.TheVariants as f
-use Rattle.sl_model.proofs.Examples.FactsShort.{algorithm, compared_at, differ, down, head_at, here, int, member, numbers_to, shows, star, up}
+use Rattle.sl_model.proofs.Examples.FactsShort.{algorithm, compared_at, differ, down, head_at, here, int, member, member_element, numbers_to, shows}
+use Rattle.sl_model.proofs.Examples.FactsShort.{star, up}
 use Rattle.sl_model.specs.Facts.{before, behind, inside, size_at_least, sorted}
 use Rattle.sl_specs.specs.declared.rows.algorithms.TheConstants as algorithms
 use Rattle.sl_specs.specs.declared.rows.sequences.TheConstants as sequence
@@ -91,6 +92,35 @@ prev_leaves : shows (numbers_to 2)
     (behind 0 0 ∷ before 1 0 ∷ []) (before 0 0 ∷ behind 1 0 ∷ []) ≡ true
 unfolding shows
 prev_leaves = refl
+
+-- `insert_at` in a vector of which no size is known: there is an element then
+--   std::vector<int> v = {1};
+--   v.clear();
+--   auto it = v.begin();
+--   it = v.insert(it, 2);
+--   std::cout << v.front();
+-- given: before(it, v), size(v) >= 1, inside(it, v)
+-- not given: behind(it, v)
+inserted_is_there : shows (numbers_to 3)
+    (declares (makes f.Vector (head_at here (callees.Row sequence.VECTOR_CONSTRUCTOR_LIST) None) (operands_from (int 1 ∷ []))) ∷
+    does (evaluates (member sequence.VECTOR_CLEAR 0 [])) ∷ declares (set_iterator (member sequence.VECTOR_BEGIN 0 [])) ∷
+    does (moves_to 0 (member sequence.VECTOR_INSERT 0 (iterator 0 ∷ int 2 ∷ []))) ∷
+    does (prints (number (held (member_element sequence.VECTOR_FRONT 0 [])) ∷ [])) ∷ [])
+    (before 0 0 ∷ size_at_least 0 (pos 1) ∷ inside 0 0 ∷ []) (behind 0 0 ∷ []) ≡ true
+unfolding shows
+inserted_is_there = refl
+
+-- `push` on one of which no size is known, not even that it is at least 0: nothing is known of the size
+--   std::vector<int> v;
+--   v.clear();
+--   v.push_back(1);
+-- not given: size(v) >= 1, size(v) >= 0
+pushed_is_not_known : shows (numbers_to 2)
+    (declares (makes f.Vector (head_at here (callees.Row sequence.VECTOR_CONSTRUCTOR) None) (operands_from [])) ∷
+    does (evaluates (member sequence.VECTOR_CLEAR 0 [])) ∷ does (evaluates (member sequence.VECTOR_PUSH_BACK 0 (int 1 ∷ []))) ∷ [])
+    [] (size_at_least 0 (pos 1) ∷ size_at_least 0 (pos 0) ∷ []) ≡ true
+unfolding shows
+pushed_is_not_known = refl
 
 -- `test_not_end`, turned round: and there is an element
 --   std::vector<int> v;
