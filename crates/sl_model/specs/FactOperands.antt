@@ -1,10 +1,11 @@
 -- How the fact rules look at operands: the row of a call, the variables in scope, and the forms that rules name.
 --
--- Restates no section of ISO/IEC 14882:2017: which forms a rule names is this project's own. Chosen here: a call is known by the form
--- and the call of its row in the library's table, a container by its number, and a literal by the number that it is in the type it
--- is converted to. An operand that is a call, `++`, `--` or an iterator operator gives its value to a fresh variable; the t-th fresh
--- one has the t-th number behind those in scope.
-use Rattle.std.specs.Prelude.{ℕ, zero, suc, ◌+◌, ◌==◌, Bool, true, false, ◌&&◌, List, [], ◌∷◌, length, slice_get, is_some, ℤ, Option, Some, None, option_map}
+-- Restates no section of ISO/IEC 14882:2017: which forms a rule names is this project's own.
+-- Chosen here: a call is known by the form and the call of its row in the library's table, a container by its number, and a literal by
+-- the number that it is in the type it is converted to. An operand that is a call, `++`, `--` or an iterator operator gives its value to
+-- a fresh variable; the t-th fresh one has the t-th number behind those in scope.
+use Rattle.std.specs.Prelude.{ℕ, zero, suc, ◌+◌, ◌==◌, Bool, true, false, ◌&&◌, List, [], ◌∷◌, length, slice_get, is_some}
+use Rattle.std.specs.Prelude.{ℤ, Option, Some, None, option_map}
 use Rattle.std.specs.Prelude.{if◌then◌else◌}
 use Rattle.sl_base.specs.declared.form.Form.{Form}
 use Rattle.sl_specs.specs.declared.call.Call.{Call}

@@ -23,10 +23,6 @@ no_need F = true
 abbrev pub no_outline : Facts → Bool
 no_outline F = false
 
--- what needs nothing and changes no fact
-abbrev pub keeps_all : FactRule
-keeps_all = record { needs = no_need; gives = λ lax F. F }
-
 -- what needs nothing
 abbrev pub freely : (Facts → Facts) → FactRule
 freely rule = record { needs = no_need; gives = λ lax F. rule F }

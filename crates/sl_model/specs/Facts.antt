@@ -131,11 +131,11 @@ forget_iterator it F = placed it no_container no_container no_container F
 abbrev pub forget_scalar : ℕ → Facts → Facts
 forget_scalar x F = scaled x no_number no_number no_container no_container F
 
--- an iterator has the facts of another
+-- `copy_variable`, `it = jt`: an iterator has the facts of another
 abbrev pub copy_iterator : ℕ → ℕ → Facts → Facts
 copy_iterator it from F = placed it (λ d. F (inside from d)) (λ d. F (before from d)) (λ d. F (behind from d)) F
 
--- a scalar has the facts of another
+-- `copy_variable`, `x = y` of one type: a scalar has the facts of another
 abbrev pub copy_scalar : ℕ → ℕ → Facts → Facts
 copy_scalar x from F =
     scaled x (λ k. F (lower_bound from k)) (λ k. F (upper_bound from k)) (λ d. F (up_to_size from d)) (λ d. F (below_size from d)) F
@@ -144,8 +144,8 @@ copy_scalar x from F =
 abbrev pub copy_bounds : ℕ → ℕ → Facts → Facts
 copy_bounds x from F = scaled x (λ k. F (lower_bound from k)) (λ k. F (upper_bound from k)) no_container no_container F
 
--- The test holds of the least of the constants, which ascend, that is at least k. A lower bound, of a size too, that a rule gives with a number that is no
--- constant, it gives with each constant below; so it gives k where it would give this one.
+-- The test holds of the least of the constants, which ascend, that is at least k. A lower bound, of a size too, that a rule gives
+-- with a number that is no constant, it gives with each constant below; so it gives k where it would give this one.
 abbrev pub at_least_constant : List ℤ → ℤ → (ℤ → Bool) → Bool
 at_least_constant constants k test = elim (find (λ m. int_le k m) constants) [ None ↦ false | Some m ↦ test m ]
 

@@ -1,4 +1,4 @@
--- The fact rules of iterators and of references: `begin`, `end`, `copy_variable`, `step_forward`, `step_back`, `access` and
+-- The fact rules of iterators and of references: `begin`, `end`, `step_forward`, `step_back`, `access` and
 -- `use_reference`. Where a need is given for several containers, a rule gives what it gives or leaves with one of them.
 --
 -- Restates ISO/IEC 14882:2017, [container.requirements.general] (`a.begin()`, `a.end()`), [input.iterators], [forward.iterators],
@@ -6,7 +6,7 @@
 -- Chosen here: the facts that they carry. `n` is how many containers are in scope, `it` an iterator, `to` the one that takes the
 -- value, and `lax` says that the node is open.
 use Rattle.std.specs.Prelude.{ℕ, ◌==◌, ◌&&◌, pos}
-use Rattle.sl_model.specs.Facts.{Facts, inside, before, behind, size_at_least, alive, placed, no_container, copy_iterator}
+use Rattle.sl_model.specs.Facts.{Facts, inside, before, behind, size_at_least, alive, placed, no_container}
 use Rattle.sl_model.specs.FactRules.{FactRule, ElementRule, freely, of_some, stands_before, stands_behind, completed, written_in}
 
 -- `begin`, `it = c.begin()`: it is inside, and before the end if size(c) is at least 1
@@ -20,10 +20,6 @@ end c to = freely (λ F. placed to (λ d. d == c) no_container (λ d. d == c && 
 -- what gives an iterator that is inside c
 abbrev pub found : ℕ → ℕ → Facts → Facts
 found c to F = placed to (λ d. d == c) no_container no_container F
-
--- `copy_variable`, `it = jt`: the facts of the right side
-abbrev pub copy_variable : ℕ → ℕ → FactRule
-copy_variable it to = freely (copy_iterator to it)
 
 -- `step_forward`, `++it` and `jt = std::next(it)`: it is before the end, and the moved one is behind the beginning
 abbrev pub step_forward : ℕ → ℕ → ℕ → FactRule

@@ -32,8 +32,10 @@ use Rattle.std.specs.Prelude.{None, Some, [], false, negsuc, pos, refl, true, �
 --   }
 abbrev setting : Typed
 setting = text_of (negsuc 0 ∷ numbers_to 4) 1 (
-    function_of (parameter.Reference t.Int ∷ parameter.Value t.Int ∷ []) None (does (assigns (scalar 0 here) (int 3)) ∷ []) ∷
-    main_of (declares (set_scalar t.Int (int 0)) ∷ does (evaluates (own_call 0 here (operands_from (handed_scalar 0 ∷ value_of 0 ∷ [])))) ∷
+    function_of (parameter.Reference t.Int ∷ parameter.Value t.Int ∷ []) None
+    (does (assigns (scalar 0 here) (int 3)) ∷ []) ∷
+    main_of
+    (declares (set_scalar t.Int (int 0)) ∷ does (evaluates (own_call 0 here (operands_from (handed_scalar 0 ∷ value_of 0 ∷ [])))) ∷
     while 0 (test (compares comparisons.Equal (value_of 0) (int 3))) (does (evaluates (own_call 0 here (operands_from (handed_scalar 0 ∷ int 1 ∷
     []))))) ∷
     []) ∷
@@ -74,8 +76,10 @@ main_begins_with_none = refl
 --   }
 abbrev changing : Typed
 changing = text_of (numbers_to 2) 1 (
-    function_of (parameter.Container access.Whole f.Vector ∷ []) None [] ∷
-    main_of (declares (makes f.Vector (head_at here (callees.Row sequence.VECTOR_CONSTRUCTOR_LIST) None) (operands_from (int 1 ∷ []))) ∷
+    function_of (parameter.Container access.Whole f.Vector ∷ []) None
+    [] ∷
+    main_of
+    (declares (makes f.Vector (head_at here (callees.Row sequence.VECTOR_CONSTRUCTOR_LIST) None) (operands_from (int 1 ∷ []))) ∷
     declares (set_iterator (member sequence.VECTOR_BEGIN 0 [])) ∷ does (evaluates (own_call 0 here (operands_from (container 0 ∷ [])))) ∷
     does (prints (number (held (star (iterator 0))) ∷ [])) ∷ []) ∷
     [])
@@ -95,8 +99,10 @@ changing_has_none = refl
 --   }
 abbrev spinning : Typed
 spinning = text_of (numbers_to 2) 1 (
-    function_of (parameter.Container access.Whole f.Vector ∷ []) None (for 0 no_first always None (does (evaluates (member sequence.VECTOR_PUSH_BACK 0 (int 1 ∷ [])))) ∷ []) ∷
-    main_of (declares (makes f.Vector (head_at here (callees.Row sequence.VECTOR_CONSTRUCTOR) None) (operands_from [])) ∷
+    function_of (parameter.Container access.Whole f.Vector ∷ []) None
+    (for 0 no_first always None (does (evaluates (member sequence.VECTOR_PUSH_BACK 0 (int 1 ∷ [])))) ∷ []) ∷
+    main_of
+    (declares (makes f.Vector (head_at here (callees.Row sequence.VECTOR_CONSTRUCTOR) None) (operands_from [])) ∷
     does (evaluates (own_call 0 here (operands_from (container 0 ∷ [])))) ∷
     does (prints (number (held (member_element sequence.VECTOR_FRONT 0 [])) ∷ [])) ∷ []) ∷
     [])
@@ -142,14 +148,17 @@ spinning_has_one = refl
 --   }
 abbrev realistic : Typed
 realistic = text_of (negsuc 0 ∷ (numbers_to 2 ++ (pos 9 ∷ pos 10 ∷ pos 11 ∷ []))) 2 (
-    function_of (parameter.Container access.Const f.Vector ∷ []) (Some (parameter.Value t.Int)) (declares (set_scalar t.Int (int 0)) ∷
+    function_of (parameter.Container access.Const f.Vector ∷ []) (Some (parameter.Value t.Int))
+    (declares (set_scalar t.Int (int 0)) ∷
     range_for 0 taken.Value 0 here 0 (does (updates o.Add t.Int t.Int here (scalar 0 here) (value_of 1))) ∷ gives_back (Some (value_of 0)) ∷
     []) ∷
-    function_of (parameter.Container access.Whole f.Vector ∷ []) None (declares (set_iterator (member sequence.VECTOR_BEGIN 0 [])) ∷
+    function_of (parameter.Container access.Whole f.Vector ∷ []) None
+    (declares (set_iterator (member sequence.VECTOR_BEGIN 0 [])) ∷
     while 1 (test (differ (iterator 0) (member sequence.VECTOR_END 0 []))) (braces (choice_else (test (compares comparisons.Less (held (star
     (iterator 0))) (int 0))) (does (moves_to 0 (member sequence.VECTOR_ERASE 0 (iterator 0 ∷ [])))) (does (evaluates (up 0))) ∷ [])) ∷
     []) ∷
-    main_of (declares (makes f.Vector (head_at here (callees.Row sequence.VECTOR_CONSTRUCTOR) None) (operands_from [])) ∷
+    main_of
+    (declares (makes f.Vector (head_at here (callees.Row sequence.VECTOR_CONSTRUCTOR) None) (operands_from [])) ∷
     declares (makes f.Map (head_at here (callees.Row associative.MAP_CONSTRUCTOR) None) (operands_from [])) ∷
     declares (unset_scalar t.Int) ∷
     while 2 (read (0 ∷ [])) (braces (does (evaluates (member sequence.VECTOR_PUSH_BACK 0 (value_of 0 ∷ []))) ∷ does (updates o.Add t.Int t.Int

@@ -26,8 +26,10 @@ use Rattle.std.specs.Prelude.{None, Some, [], false, negsuc, pos, refl, true, �
 --   }
 abbrev entering : Typed
 entering = text_of (numbers_to 2) 1 (
-    function_of (parameter.Container access.Whole f.Vector ∷ []) None (choice (test (member sequence.VECTOR_EMPTY 0 [])) (does (evaluates (member sequence.VECTOR_PUSH_BACK 0 (int 1 ∷ [])))) ∷ []) ∷
-    main_of (declares (makes f.Vector (head_at here (callees.Row sequence.VECTOR_CONSTRUCTOR) None) (operands_from [])) ∷
+    function_of (parameter.Container access.Whole f.Vector ∷ []) None
+    (choice (test (member sequence.VECTOR_EMPTY 0 [])) (does (evaluates (member sequence.VECTOR_PUSH_BACK 0 (int 1 ∷ [])))) ∷ []) ∷
+    main_of
+    (declares (makes f.Vector (head_at here (callees.Row sequence.VECTOR_CONSTRUCTOR) None) (operands_from [])) ∷
     does (evaluates (own_call 0 here (operands_from (container 0 ∷ [])))) ∷
     does (prints (number (held (member_element sequence.VECTOR_BACK 0 [])) ∷ [])) ∷ []) ∷
     [])
@@ -66,11 +68,13 @@ entering_with_more = refl
 --   }
 abbrev recursing : Typed
 recursing = text_of (negsuc 0 ∷ numbers_to 4) 1 (
-    function_of (parameter.Container access.Whole f.Vector ∷ parameter.Value t.Int ∷ []) None (does (prints (number (held (member_element sequence.VECTOR_FRONT 0 [])) ∷ [])) ∷
+    function_of (parameter.Container access.Whole f.Vector ∷ parameter.Value t.Int ∷ []) None
+    (does (prints (number (held (member_element sequence.VECTOR_FRONT 0 [])) ∷ [])) ∷
     choice (test (compares comparisons.Greater (value_of 0) (int 0))) (does (evaluates (own_call 0 here (operands_from (container 0 ∷ int 2 ∷
     []))))) ∷
     []) ∷
-    main_of (declares (makes f.Vector (head_at here (callees.Row sequence.VECTOR_CONSTRUCTOR_LIST) None) (operands_from (int 1 ∷ int 2 ∷ []))) ∷
+    main_of
+    (declares (makes f.Vector (head_at here (callees.Row sequence.VECTOR_CONSTRUCTOR_LIST) None) (operands_from (int 1 ∷ int 2 ∷ []))) ∷
     does (evaluates (own_call 0 here (operands_from (container 0 ∷ int 3 ∷ [])))) ∷ []) ∷
     [])
 
@@ -95,8 +99,10 @@ recursing_brings_no_literal = refl
 --   }
 abbrev indexing : Typed
 indexing = text_of (negsuc 0 ∷ numbers_to 5) 1 (
-    function_of (parameter.Container access.Whole f.Vector ∷ parameter.Value t.Size ∷ []) None (does (assigns (member_element sequence.VECTOR_SUBSCRIPT 0 (value_of 0 ∷ [])) (int 4)) ∷ []) ∷
-    main_of (declares (makes f.Vector (head_at here (callees.Row sequence.VECTOR_CONSTRUCTOR_LIST) None) (operands_from (int 1 ∷ int 2 ∷ int 3 ∷ []))) ∷
+    function_of (parameter.Container access.Whole f.Vector ∷ parameter.Value t.Size ∷ []) None
+    (does (assigns (member_element sequence.VECTOR_SUBSCRIPT 0 (value_of 0 ∷ [])) (int 4)) ∷ []) ∷
+    main_of
+    (declares (makes f.Vector (head_at here (callees.Row sequence.VECTOR_CONSTRUCTOR_LIST) None) (operands_from (int 1 ∷ int 2 ∷ int 3 ∷ []))) ∷
     for 0 (declares_first (set_scalar t.Size (size_number 0))) (test (compares comparisons.Less (value_of 0) (member sequence.VECTOR_SIZE 0
     []))) (Some (evaluates (up_size 0))) (does (evaluates (own_call 0 here (operands_from (container 0 ∷ value_of 0 ∷ []))))) ∷
     []) ∷
@@ -121,8 +127,10 @@ indexing_has_one = refl
 --   }
 abbrev iterating : Typed
 iterating = text_of (numbers_to 5) 1 (
-    function_of (parameter.Container access.Const f.Vector ∷ parameter.Iterator false f.Vector ∷ []) None (does (assigns (star (iterator 0)) (int 4)) ∷ []) ∷
-    main_of (declares (makes f.Vector (head_at here (callees.Row sequence.VECTOR_CONSTRUCTOR_LIST) None) (operands_from (int 1 ∷ int 2 ∷ int 3 ∷ []))) ∷
+    function_of (parameter.Container access.Const f.Vector ∷ parameter.Iterator false f.Vector ∷ []) None
+    (does (assigns (star (iterator 0)) (int 4)) ∷ []) ∷
+    main_of
+    (declares (makes f.Vector (head_at here (callees.Row sequence.VECTOR_CONSTRUCTOR_LIST) None) (operands_from (int 1 ∷ int 2 ∷ int 3 ∷ []))) ∷
     declares (makes f.Vector (head_at here (callees.Row sequence.VECTOR_CONSTRUCTOR) None) (operands_from [])) ∷
     declares (makes f.List (head_at here (callees.Row sequence.LIST_CONSTRUCTOR) None) (operands_from [])) ∷
     declares (set_iterator (member sequence.VECTOR_BEGIN 0 [])) ∷
@@ -148,8 +156,10 @@ iterating_has_one = refl
 --   }
 abbrev unsorting : Typed
 unsorting = text_of (numbers_to 2) 1 (
-    function_of (parameter.Container access.Const f.Vector ∷ parameter.Iterator false f.Vector ∷ []) None [] ∷
-    main_of (declares (makes f.Vector (head_at here (callees.Row sequence.VECTOR_CONSTRUCTOR_LIST) None) (operands_from (int 1 ∷ []))) ∷
+    function_of (parameter.Container access.Const f.Vector ∷ parameter.Iterator false f.Vector ∷ []) None
+    [] ∷
+    main_of
+    (declares (makes f.Vector (head_at here (callees.Row sequence.VECTOR_CONSTRUCTOR_LIST) None) (operands_from (int 1 ∷ []))) ∷
     declares (makes f.Vector (head_at here (callees.Row sequence.VECTOR_CONSTRUCTOR) None) (operands_from [])) ∷
     does (evaluates (own_call 0 here (operands_from (container 0 ∷ member sequence.VECTOR_BEGIN 0 [] ∷ [])))) ∷
     does (prints (number (algorithm algorithms.STD_BINARY_SEARCH (member sequence.VECTOR_BEGIN 1 [] ∷ member sequence.VECTOR_END 1 [] ∷ int 1 ∷
@@ -173,8 +183,10 @@ unsorting_has_none = refl
 --   }
 abbrev reading : Typed
 reading = text_of (numbers_to 2) 1 (
-    function_of (parameter.Container access.Const f.Vector ∷ parameter.Iterator true f.Vector ∷ []) None (does (prints (number (held (member_element sequence.VECTOR_FRONT 0 [])) ∷ [])) ∷ []) ∷
-    main_of (declares (makes f.Vector (head_at here (callees.Row sequence.VECTOR_CONSTRUCTOR_LIST) None) (operands_from (int 1 ∷ []))) ∷
+    function_of (parameter.Container access.Const f.Vector ∷ parameter.Iterator true f.Vector ∷ []) None
+    (does (prints (number (held (member_element sequence.VECTOR_FRONT 0 [])) ∷ [])) ∷ []) ∷
+    main_of
+    (declares (makes f.Vector (head_at here (callees.Row sequence.VECTOR_CONSTRUCTOR_LIST) None) (operands_from (int 1 ∷ []))) ∷
     declares (makes f.Vector (head_at here (callees.Row sequence.VECTOR_CONSTRUCTOR) None) (operands_from [])) ∷
     does (evaluates (own_call 0 here (operands_from (container 0 ∷ member sequence.VECTOR_BEGIN 0 [] ∷ [])))) ∷
     does (prints (number (algorithm algorithms.STD_BINARY_SEARCH (member sequence.VECTOR_BEGIN 1 [] ∷ member sequence.VECTOR_END 1 [] ∷ int 1 ∷
@@ -205,11 +217,14 @@ reading_gets_none = refl
 --   }
 abbrev reading_on : Typed
 reading_on = text_of (numbers_to 1) 2 (
-    function_of (parameter.Container access.Const f.Vector ∷ parameter.Iterator true f.Vector ∷ []) None (does (prints (number (held (star (iterator 0))) ∷ [])) ∷ []) ∷
-    function_of (parameter.Container access.Const f.Vector ∷ []) None (choice (test (logical_not here (member sequence.VECTOR_EMPTY 0 []))) (does (evaluates (own_call 0 here (operands_from (container 0 ∷ member
+    function_of (parameter.Container access.Const f.Vector ∷ parameter.Iterator true f.Vector ∷ []) None
+    (does (prints (number (held (star (iterator 0))) ∷ [])) ∷ []) ∷
+    function_of (parameter.Container access.Const f.Vector ∷ []) None
+    (choice (test (logical_not here (member sequence.VECTOR_EMPTY 0 []))) (does (evaluates (own_call 0 here (operands_from (container 0 ∷ member
     sequence.VECTOR_BEGIN 0 [] ∷ []))))) ∷
     []) ∷
-    main_of (declares (makes f.Vector (head_at here (callees.Row sequence.VECTOR_CONSTRUCTOR) None) (operands_from [])) ∷
+    main_of
+    (declares (makes f.Vector (head_at here (callees.Row sequence.VECTOR_CONSTRUCTOR) None) (operands_from [])) ∷
     does (evaluates (own_call 1 here (operands_from (container 0 ∷ [])))) ∷ []) ∷
     [])
 

@@ -161,7 +161,9 @@ cleared_and_continued = alone (numbers_to 4)
     sequence.VECTOR_CLEAR 0 [])) ∷ continue ∷ [])) ∷ does (evaluates (member sequence.VECTOR_PUSH_BACK 0 (int 3 ∷ []))) ∷ [])) ∷
     [])
 
-cleared_and_continued_has_one : is_outline cleared_and_continued nowhere (loops ((lower_bound 0 (pos 3) ∷ upper_bound 0 (pos 3) ∷ []) ∷ [])) ≡ true
+cleared_and_continued_has_one : is_outline cleared_and_continued nowhere
+    (loops ((lower_bound 0 (pos 3) ∷ upper_bound 0 (pos 3) ∷ []) ∷ []))
+    ≡ true
 unfolding is_outline
 cleared_and_continued_has_one = refl
 

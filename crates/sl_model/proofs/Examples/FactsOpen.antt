@@ -223,8 +223,10 @@ growing_is_open = refl
 --   }
 abbrev entering : Typed
 entering = text_of (numbers_to 1) 1 (
-    function_of (parameter.Container access.Const f.Vector ∷ []) None (does (prints (number (held (member_element_at (on 2) sequence.VECTOR_FRONT 0 [])) ∷ [])) ∷ []) ∷
-    main_of (declares (makes f.Vector (head_at (on 5) (callees.Row sequence.VECTOR_CONSTRUCTOR) None) (operands_from [])) ∷
+    function_of (parameter.Container access.Const f.Vector ∷ []) None
+    (does (prints (number (held (member_element_at (on 2) sequence.VECTOR_FRONT 0 [])) ∷ [])) ∷ []) ∷
+    main_of
+    (declares (makes f.Vector (head_at (on 5) (callees.Row sequence.VECTOR_CONSTRUCTOR) None) (operands_from [])) ∷
     does (evaluates (own_call 0 (on 6) (operands_from (container 0 ∷ [])))) ∷ []) ∷
     [])
 

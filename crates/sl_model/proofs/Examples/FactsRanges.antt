@@ -161,8 +161,10 @@ indexing_has_none = refl
 --   }
 abbrev printing : Typed
 printing = text_of (numbers_to 2) 1 (
-    function_of (parameter.Container access.Const f.Vector ∷ []) None (range_for 0 taken.Value 0 here 0 (does (prints (number (value_of 0) ∷ []))) ∷ []) ∷
-    main_of (declares (makes f.Vector (head_at here (callees.Row sequence.VECTOR_CONSTRUCTOR_LIST) None) (operands_from (int 1 ∷ []))) ∷
+    function_of (parameter.Container access.Const f.Vector ∷ []) None
+    (range_for 0 taken.Value 0 here 0 (does (prints (number (value_of 0) ∷ []))) ∷ []) ∷
+    main_of
+    (declares (makes f.Vector (head_at here (callees.Row sequence.VECTOR_CONSTRUCTOR_LIST) None) (operands_from (int 1 ∷ []))) ∷
     range_for 1 taken.Value 0 here 0 (does (evaluates (own_call 0 here (operands_from (container 0 ∷ []))))) ∷ []) ∷
     [])
 
@@ -182,8 +184,10 @@ printing_has_one = refl
 --   }
 abbrev changing : Typed
 changing = text_of (numbers_to 1) 1 (
-    function_of (parameter.Container access.Whole f.Vector ∷ []) None [] ∷
-    main_of (declares (makes f.Vector (head_at here (callees.Row sequence.VECTOR_CONSTRUCTOR) None) (operands_from [])) ∷
+    function_of (parameter.Container access.Whole f.Vector ∷ []) None
+    [] ∷
+    main_of
+    (declares (makes f.Vector (head_at here (callees.Row sequence.VECTOR_CONSTRUCTOR) None) (operands_from [])) ∷
     range_for 0 taken.Value 0 here 0 (does (evaluates (own_call 0 here (operands_from (container 0 ∷ []))))) ∷ []) ∷
     [])
 
@@ -202,8 +206,10 @@ changing_has_none = refl
 --   }
 abbrev stepping : Typed
 stepping = text_of (numbers_to 2) 1 (
-    function_of (parameter.Container access.Elements f.Vector ∷ parameter.Iterator false f.Vector ∷ []) None (does (assigns (star (iterator 0)) (int 1)) ∷ []) ∷
-    main_of (declares (makes f.Vector (head_at here (callees.Row sequence.VECTOR_CONSTRUCTOR_LIST) None) (operands_from (int 1 ∷ []))) ∷
+    function_of (parameter.Container access.Elements f.Vector ∷ parameter.Iterator false f.Vector ∷ []) None
+    (does (assigns (star (iterator 0)) (int 1)) ∷ []) ∷
+    main_of
+    (declares (makes f.Vector (head_at here (callees.Row sequence.VECTOR_CONSTRUCTOR_LIST) None) (operands_from (int 1 ∷ []))) ∷
     declares (set_iterator (member sequence.VECTOR_BEGIN 0 [])) ∷
     range_for 0 taken.Value 0 here 0 (does (evaluates (own_call 0 here (operands_from (container 0 ∷ iterator 0 ∷ []))))) ∷ []) ∷
     [])

@@ -129,7 +129,9 @@ unfolding is_outline
 scoped_has_one = refl
 
 -- the inner vector isn't in scope at the outer head
-scoped_is_out_of_scope : is_outline scoped nowhere (loops ((size_at_least 0 (pos 1) ∷ size_at_least 1 (pos 0) ∷ []) ∷ [] ∷ [])) ≡ false
+scoped_is_out_of_scope : is_outline scoped nowhere
+    (loops ((size_at_least 0 (pos 1) ∷ size_at_least 1 (pos 0) ∷ []) ∷ [] ∷ []))
+    ≡ false
 unfolding is_outline
 scoped_is_out_of_scope = refl
 

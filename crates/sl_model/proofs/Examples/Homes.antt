@@ -33,16 +33,19 @@ pair f pattern = record { function = f; pattern = pattern }
 --   }
 abbrev adding : Typed
 adding = text_of (negsuc 0 ∷ numbers_to 4) 1 (
-    function_of (parameter.Iterator false f.Vector ∷ parameter.Iterator false f.Vector ∷ []) (Some (parameter.Value t.Int)) (declares (set_scalar t.Int (int 0)) ∷
+    function_of (parameter.Iterator false f.Vector ∷ parameter.Iterator false f.Vector ∷ []) (Some (parameter.Value t.Int))
+    (declares (set_scalar t.Int (int 0)) ∷
     while 0 (test (differ (iterator 0) (iterator 1))) (braces (does (updates o.Add t.Int t.Int here (scalar 0 here) (held (star (iterator 0))))
     ∷ does (evaluates (up 0)) ∷ [])) ∷
     gives_back (Some (value_of 0)) ∷ []) ∷
-    main_of (declares (makes f.Vector (head_at here (callees.Row sequence.VECTOR_CONSTRUCTOR_LIST) None) (operands_from (int 1 ∷ int 2 ∷ int 3 ∷ []))) ∷
+    main_of
+    (declares (makes f.Vector (head_at here (callees.Row sequence.VECTOR_CONSTRUCTOR_LIST) None) (operands_from (int 1 ∷ int 2 ∷ int 3 ∷ []))) ∷
     declares (set_scalar t.Int (own_call 0 here (operands_from (member sequence.VECTOR_BEGIN 0 [] ∷ member sequence.VECTOR_END 0 [] ∷ [])))) ∷
     []) ∷
     [])
 
-adding_copies : copies_after 1 adding ≡ pair 1 [] ∷ pair 0 (at_iterator 0 ∷ at_iterator 0 ∷ []) ∷ []
+adding_copies : copies_after 1 adding ≡
+    pair 1 [] ∷ pair 0 (at_iterator 0 ∷ at_iterator 0 ∷ []) ∷ []
 unfolding copies_after
 adding_copies = refl
 
@@ -64,8 +67,10 @@ adding_adds_one = refl
 --   }
 abbrev choosing : Typed
 choosing = text_of (numbers_to 2) 1 (
-    function_of (parameter.Container access.Whole f.Vector ∷ parameter.Container access.Whole f.Vector ∷ parameter.Iterator false f.Vector ∷ []) None (does (assigns (star (iterator 0)) (int 1)) ∷ []) ∷
-    main_of (declares (makes f.Vector (head_at here (callees.Row sequence.VECTOR_CONSTRUCTOR_LIST) None) (operands_from (int 1 ∷ []))) ∷
+    function_of (parameter.Container access.Whole f.Vector ∷ parameter.Container access.Whole f.Vector ∷ parameter.Iterator false f.Vector ∷ []) None
+    (does (assigns (star (iterator 0)) (int 1)) ∷ []) ∷
+    main_of
+    (declares (makes f.Vector (head_at here (callees.Row sequence.VECTOR_CONSTRUCTOR_LIST) None) (operands_from (int 1 ∷ []))) ∷
     declares (makes f.Vector (head_at here (callees.Row sequence.VECTOR_CONSTRUCTOR_LIST) None) (operands_from (int 1 ∷ []))) ∷
     does (evaluates (own_call 0 here (operands_from (container 0 ∷ container 1 ∷ member sequence.VECTOR_BEGIN 0 [] ∷ [])))) ∷
     declares (set_iterator (member sequence.VECTOR_BEGIN 1 [])) ∷
@@ -74,7 +79,8 @@ choosing = text_of (numbers_to 2) 1 (
     [])
 
 -- the third call is one of the first copy
-choosing_copies : copies_after 1 choosing ≡ pair 1 [] ∷ pair 0 (at_container 0 ∷ []) ∷ pair 0 (at_container 1 ∷ []) ∷ []
+choosing_copies : copies_after 1 choosing ≡
+    pair 1 [] ∷ pair 0 (at_container 0 ∷ []) ∷ pair 0 (at_container 1 ∷ []) ∷ []
 unfolding copies_after
 choosing_copies = refl
 
@@ -94,8 +100,10 @@ choosing_copies = refl
 --   }
 abbrev losing : Typed
 losing = text_of (numbers_to 2) 1 (
-    function_of (parameter.Iterator false f.Vector ∷ []) None [] ∷
-    main_of (declares (makes f.Vector (head_at here (callees.Row sequence.VECTOR_CONSTRUCTOR_LIST) None) (operands_from (int 1 ∷ []))) ∷
+    function_of (parameter.Iterator false f.Vector ∷ []) None
+    [] ∷
+    main_of
+    (declares (makes f.Vector (head_at here (callees.Row sequence.VECTOR_CONSTRUCTOR_LIST) None) (operands_from (int 1 ∷ []))) ∷
     declares (set_iterator (member sequence.VECTOR_BEGIN 0 [])) ∷ declares (set_iterator (iterator 0)) ∷
     braces (declares (makes f.Vector (head_at here (callees.Row sequence.VECTOR_CONSTRUCTOR_LIST) None) (operands_from (int 1 ∷ []))) ∷ does
     (moves_to 0 (member sequence.VECTOR_BEGIN 1 [])) ∷ does (evaluates (own_call 0 here (operands_from (member sequence.VECTOR_END 1 [] ∷ []))))
@@ -104,7 +112,8 @@ losing = text_of (numbers_to 2) 1 (
     [])
 
 -- `jt` takes what comes to `it`
-losing_copies : copies_after 1 losing ≡ pair 1 [] ∷ pair 0 (at_iterator 0 ∷ []) ∷ pair 0 (at_none ∷ []) ∷ []
+losing_copies : copies_after 1 losing ≡
+    pair 1 [] ∷ pair 0 (at_iterator 0 ∷ []) ∷ pair 0 (at_none ∷ []) ∷ []
 unfolding copies_after
 losing_copies = refl
 
@@ -126,16 +135,20 @@ losing_copies = refl
 --   }
 abbrev ending : Typed
 ending = text_of (numbers_to 2) 2 (
-    function_of [] (Some (parameter.Iterator false f.Vector)) (declares (makes f.Vector (head_at here (callees.Row sequence.VECTOR_CONSTRUCTOR_LIST) None) (operands_from (int 1 ∷ []))) ∷
+    function_of [] (Some (parameter.Iterator false f.Vector))
+    (declares (makes f.Vector (head_at here (callees.Row sequence.VECTOR_CONSTRUCTOR_LIST) None) (operands_from (int 1 ∷ []))) ∷
     gives_back (Some (member sequence.VECTOR_BEGIN 0 [])) ∷ []) ∷
-    function_of (parameter.Iterator false f.Vector ∷ []) None [] ∷
-    main_of (declares (set_iterator (own_call 0 here (operands_from []))) ∷
+    function_of (parameter.Iterator false f.Vector ∷ []) None
+    [] ∷
+    main_of
+    (declares (set_iterator (own_call 0 here (operands_from []))) ∷
     braces (declares (makes f.Vector (head_at here (callees.Row sequence.VECTOR_CONSTRUCTOR_LIST) None) (operands_from (int 1 ∷ []))) ∷ does
     (moves_to 0 (member sequence.VECTOR_BEGIN 0 [])) ∷ does (evaluates (own_call 1 here (operands_from (iterator 0 ∷ [])))) ∷ []) ∷
     does (evaluates (own_call 1 here (operands_from (iterator 0 ∷ [])))) ∷ []) ∷
     [])
 
-ending_copies : copies_after 1 ending ≡ pair 2 [] ∷ pair 0 [] ∷ pair 1 (at_iterator 0 ∷ []) ∷ pair 1 (at_none ∷ []) ∷ []
+ending_copies : copies_after 1 ending ≡
+    pair 2 [] ∷ pair 0 [] ∷ pair 1 (at_iterator 0 ∷ []) ∷ pair 1 (at_none ∷ []) ∷ []
 unfolding copies_after
 ending_copies = refl
 
@@ -154,18 +167,22 @@ ending_copies = refl
 --   }
 abbrev handing_on : Typed
 handing_on = text_of (numbers_to 2) 2 (
-    function_of (parameter.Iterator false f.Vector ∷ parameter.Iterator false f.Vector ∷ []) None [] ∷
-    function_of (parameter.Container access.Whole f.Vector ∷ parameter.Iterator false f.Vector ∷ parameter.Iterator false f.Vector ∷ []) None (does (moves_to 0 (algorithm algorithms.STD_NEXT (iterator 0 ∷ []))) ∷
+    function_of (parameter.Iterator false f.Vector ∷ parameter.Iterator false f.Vector ∷ []) None
+    [] ∷
+    function_of (parameter.Container access.Whole f.Vector ∷ parameter.Iterator false f.Vector ∷ parameter.Iterator false f.Vector ∷ []) None
+    (does (moves_to 0 (algorithm algorithms.STD_NEXT (iterator 0 ∷ []))) ∷
     does (evaluates (own_call 0 here (operands_from (iterator 1 ∷ iterator 0 ∷ [])))) ∷
     does (evaluates (own_call 0 here (operands_from (member sequence.VECTOR_BEGIN 0 [] ∷ iterator 0 ∷ [])))) ∷ []) ∷
-    main_of (declares (makes f.Vector (head_at here (callees.Row sequence.VECTOR_CONSTRUCTOR_LIST) None) (operands_from (int 1 ∷ []))) ∷
+    main_of
+    (declares (makes f.Vector (head_at here (callees.Row sequence.VECTOR_CONSTRUCTOR_LIST) None) (operands_from (int 1 ∷ []))) ∷
     declares (makes f.Vector (head_at here (callees.Row sequence.VECTOR_CONSTRUCTOR_LIST) None) (operands_from (int 1 ∷ []))) ∷
     does (evaluates (own_call 1 here (operands_from (container 0 ∷ member sequence.VECTOR_BEGIN 1 [] ∷ member sequence.VECTOR_BEGIN 0 [] ∷
     [])))) ∷
     []) ∷
     [])
 
-handing_on_copies : copies_after 2 handing_on ≡ pair 2 [] ∷ pair 1 (at_iterator 0 ∷ at_container 0 ∷ []) ∷ pair 0 (at_iterator 0 ∷ at_iterator 1 ∷ []) ∷ []
+handing_on_copies : copies_after 2 handing_on ≡
+    pair 2 [] ∷ pair 1 (at_iterator 0 ∷ at_container 0 ∷ []) ∷ pair 0 (at_iterator 0 ∷ at_iterator 1 ∷ []) ∷ []
 unfolding copies_after
 handing_on_copies = refl
 
@@ -184,15 +201,19 @@ handing_on_copies = refl
 --   }
 abbrev giving_back : Typed
 giving_back = text_of (numbers_to 2) 2 (
-    function_of (parameter.Container access.Whole f.Vector ∷ parameter.Container access.Whole f.List ∷ []) (Some (parameter.Iterator false f.Vector)) (gives_back (Some (member sequence.VECTOR_BEGIN 0 [])) ∷ []) ∷
-    function_of (parameter.Container access.Whole f.Vector ∷ parameter.Iterator false f.Vector ∷ []) None (does (evaluates (own_call 1 here (operands_from (container 0 ∷ iterator 0 ∷ [])))) ∷ []) ∷
-    main_of (declares (makes f.Vector (head_at here (callees.Row sequence.VECTOR_CONSTRUCTOR_LIST) None) (operands_from (int 1 ∷ []))) ∷
+    function_of (parameter.Container access.Whole f.Vector ∷ parameter.Container access.Whole f.List ∷ []) (Some (parameter.Iterator false f.Vector))
+    (gives_back (Some (member sequence.VECTOR_BEGIN 0 [])) ∷ []) ∷
+    function_of (parameter.Container access.Whole f.Vector ∷ parameter.Iterator false f.Vector ∷ []) None
+    (does (evaluates (own_call 1 here (operands_from (container 0 ∷ iterator 0 ∷ [])))) ∷ []) ∷
+    main_of
+    (declares (makes f.Vector (head_at here (callees.Row sequence.VECTOR_CONSTRUCTOR_LIST) None) (operands_from (int 1 ∷ []))) ∷
     declares (makes f.List (head_at here (callees.Row sequence.LIST_CONSTRUCTOR) None) (operands_from [])) ∷
     declares (set_iterator (own_call 0 here (operands_from (container 0 ∷ container 1 ∷ [])))) ∷
     does (evaluates (own_call 1 here (operands_from (container 0 ∷ iterator 0 ∷ [])))) ∷ []) ∷
     [])
 
 -- a call of itself finds the home at the same argument
-giving_back_copies : copies_after 3 giving_back ≡ pair 2 [] ∷ pair 0 [] ∷ pair 1 (at_container 0 ∷ []) ∷ []
+giving_back_copies : copies_after 3 giving_back ≡
+    pair 2 [] ∷ pair 0 [] ∷ pair 1 (at_container 0 ∷ []) ∷ []
 unfolding copies_after
 giving_back_copies = refl
