@@ -40,5 +40,7 @@ pub mod RunGood
 pub mod Longer
 pub mod LongerExec
 pub mod LongerCalls
+-- ## Facts where no way comes
+pub mod FactsIdle
 -- ## Worked examples
 pub mod Examples

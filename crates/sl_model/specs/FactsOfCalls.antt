@@ -3,7 +3,7 @@
 --
 -- Restates ISO/IEC 14882:2017, [container.requirements.general], [sequence.reqmts], [associative.reqmts], [unord.req], [list.ops],
 -- [alg.nonmodifying], [alg.sorting], [numeric.ops], [iterator.operations] and [back.inserter], as far as they say what is changed.
--- Chosen here: which forms have a rule: `search_sorted`, `scan` and those of the files before.
+-- Chosen here: which forms have a rule: `look_up`, `scan`, `search_sorted`, and those of FactsOfIterators and FactsOfContainers.
 use Rattle.std.specs.Prelude.{ℕ, ◌+◌, ◌==◌, Bool, true, false, ◌&&◌, List, [], ◌∷◌, map, Option, Some, None, if◌then◌else◌}
 use Rattle.std.specs.List.{list_any, list_all}
 use Rattle.sl_base.specs.declared.form.Form.{Form}

@@ -1,5 +1,6 @@
 -- The fact rules of containers: `declare`, `erase_at`, `insert_at`, `push`, `pop`, `front_or_back`, `clear`, `reserve_more`, `index`,
--- `sort`, `look_up`, `insert_key`, `append_copy`, `erase_tail` and `swap`; and what a member call that has no rule drops.
+-- `sort`, `insert_key`, `append_copy`, `erase_tail` and `swap`. `x` is the container, `it` an iterator, and `lax` says that the node is
+-- open.
 --
 -- Restates ISO/IEC 14882:2017, [container.requirements.general], [sequence.reqmts], [vector.capacity], [list.ops],
 -- [associative.reqmts], [unord.req] and [map.access], as far as a rule's facts are true there.

@@ -64,7 +64,7 @@ abbrev pub steps_scalar : FactScope → Direction → Fix → Scalar → ℕ →
 steps_scalar s steps.Up fixes.Prefix ty x F = numbers.increment s.text.constants (container_count s) ty x F
 steps_scalar s step fix ty x F = forget_scalar x F
 
--- the value of a step of a scalar: behind `++` and `--` before it its bounds, for what they are
+-- and the value of the step has the bounds that the scalar has behind it
 abbrev pub steps_value : FactScope → ℕ → Direction → Fix → Scalar → ℕ → Facts → Facts
 steps_value s t step fix ty x F = copy_bounds (fresh_scalar s t) x (steps_scalar s step fix ty x F)
 
