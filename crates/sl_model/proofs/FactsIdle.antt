@@ -1,5 +1,5 @@
 -- Where no way comes, nothing is needed and nothing is given behind it.
-use Rattle.std.proofs.Common.{◌≡◌, ◌∙◌, ℕ, Bool, true, false, [], ◌∷◌, List, Option, Some, None, refl, ap, sym}
+use Rattle.std.proofs.Common.{◌≡◌, ◌∙◌, ℕ, Bool, true, false, Option, Some, None, refl, ap}
 use Rattle.std.specs.Prelude.{◌+◌, ◌||◌, ◌&&◌}
 use Rattle.sl_syntax.specs.declared.typed.head.Head.{Head}
 use Rattle.sl_base.specs.declared.place.Place.{Place}
@@ -37,12 +37,12 @@ pub record IsIdleReading (a : Reading) : Type 0 where
   pub test : IsIdleFork a.test
 
 -- an open node, or nothing needed
-or_true : (b : Bool) → (b || true) ≡ true
+pub or_true : (b : Bool) → (b || true) ≡ true
 or_true true = refl
 or_true false = refl
 
 -- two tests hold
-both_true : {a b : Bool} → a ≡ true → b ≡ true → (a && b) ≡ true
+pub both_true : {a b : Bool} → a ≡ true → b ≡ true → (a && b) ≡ true
 both_true {a} {b} e f = ap (λ x. x && b) e ∙ f
 
 pub no_step_idle : IsIdleStep no_step
@@ -119,11 +119,12 @@ call_idle s t h ops i = record {
 }
 
 -- an operand
-fresh_idle : (s : FactScope) (t : ℕ) {a : Step} → IsIdleStep a → IsIdleStep (fresh_step s t a)
+pub fresh_idle : (s : FactScope) (t : ℕ) {a : Step} → IsIdleStep a → IsIdleStep (fresh_step s t a)
 fresh_idle s t i = then_idle (changes_idle (forget_fresh s t)) i
 
 mutual
   unfolding expression left_side stepped operands
+
   -- an expression needs nothing where no way comes
   pub expression_idle : (s : FactScope) (t : ℕ) (e : Expr) → IsIdleReading (expression s t e)
   expression_idle s t (literal ty z) = plain_reading no_step_idle

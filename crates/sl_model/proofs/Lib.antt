@@ -42,5 +42,7 @@ pub mod LongerExec
 pub mod LongerCalls
 -- ## Facts where no way comes
 pub mod FactsIdle
+pub mod EffectsIdle
+pub mod CarryIdle
 -- ## Worked examples
 pub mod Examples
