@@ -3,7 +3,8 @@
 -- Restates ISO/IEC 14882:2017, [stmt.select], [stmt.while], [stmt.for], [stmt.ranged], [stmt.break], [stmt.cont] and [stmt.return]: where
 -- control goes.
 -- Chosen here: the facts before a loop give its head's list, and so do those behind its body and each `continue`, carried through its
--- last part; behind it stand the facts that the false test from the head and each `break` give. A loop that no way reaches needs nothing.
+-- last part; behind it stand the facts that the false test from the head and each `break` give. Where no way comes, every need is given;
+-- but a form that has no rule may not stand there either.
 use Rattle.std.specs.Prelude.{ℕ, ◌+◌, ◌==◌, Bool, true, false, not, ◌&&◌, ◌||◌, length, Option, Some, None}
 use Rattle.sl_base.specs.declared.form.Form.{Form}
 use Rattle.sl_base.specs.declared.form.Form.TheVariants as f
@@ -27,9 +28,10 @@ pub record Ways : Type 0 where
   pub continued : Given
   pub returned : Given
 
--- what is read of a statement: whether the lists in it speak of what is in scope, what it needs, and what it gives
+-- What is read of a statement: whether each form in it has a rule or an open place, and the lists of its loops speak of what is in
+-- scope; whether what it needs is given; and what it gives.
 pub record Carry : Type 0 where
-  pub speaks : Heads → Bool
+  pub allowed : Places → Heads → Bool
   pub needs : Places → Heads → Given → Bool
   pub gives : Places → Heads → Given → Ways
 
@@ -55,22 +57,22 @@ on_each_way rule a = record {
   returned = with_facts rule a.returned;
 }
 
--- no loop stands in it
-abbrev pub no_loop : Heads → Bool
-no_loop h = true
+-- nothing stands in it that may be wrong
+abbrev pub always_allowed : Places → Heads → Bool
+always_allowed o h = true
 
 -- nothing is done
 abbrev pub no_carry : Carry
-no_carry = record { speaks = no_loop; needs = λ o h G. true; gives = λ o h G. goes_on G }
+no_carry = record { allowed = always_allowed; needs = λ o h G. true; gives = λ o h G. goes_on G }
 
 -- a step
 abbrev pub step_carry : Step → Carry
-step_carry a = record { speaks = no_loop; needs = a.needs; gives = λ o h G. goes_on (a.gives o h G) }
+step_carry a = record { allowed = λ o h. a.allowed o; needs = a.needs; gives = λ o h G. goes_on (a.gives o h G) }
 
 -- `break`
 abbrev pub break_carry : Carry
 break_carry = record {
-  speaks = no_loop;
+  allowed = always_allowed;
   needs = λ o h G. true;
   gives = λ o h G. record { next = None; broke = G; continued = None; returned = None };
 }
@@ -78,7 +80,7 @@ break_carry = record {
 -- `continue`
 abbrev pub continue_carry : Carry
 continue_carry = record {
-  speaks = no_loop;
+  allowed = always_allowed;
   needs = λ o h G. true;
   gives = λ o h G. record { next = None; broke = None; continued = G; returned = None };
 }
@@ -86,7 +88,7 @@ continue_carry = record {
 -- `return`, behind the value that it gives back
 abbrev pub return_carry : Step → Carry
 return_carry a = record {
-  speaks = no_loop;
+  allowed = λ o h. a.allowed o;
   needs = a.needs;
   gives = λ o h G. record { next = None; broke = None; continued = None; returned = a.gives o h G };
 }
@@ -103,19 +105,19 @@ then_ways a b = record {
 -- one statement and then another
 abbrev pub then_carry : Carry → Carry → Carry
 then_carry a b = record {
-  speaks = λ h. a.speaks h && b.speaks h;
+  allowed = λ o h. a.allowed o h && b.allowed o h;
   needs = λ o h G. a.needs o h G && b.needs o h (a.gives o h G).next;
   gives = λ o h G. let first = a.gives o h G in then_ways first (b.gives o h first.next);
 }
 
 -- the end of a scope: the facts on what ends are dropped on each way
 abbrev pub leave : FactScope → Carry → Carry
-leave s a = record { speaks = a.speaks; needs = a.needs; gives = λ o h G. on_each_way (within s) (a.gives o h G) }
+leave s a = record { allowed = a.allowed; needs = a.needs; gives = λ o h G. on_each_way (within s) (a.gives o h G) }
 
 -- one of two statements
 abbrev pub choice_carry : Fork → Carry → Carry → Carry
 choice_carry k a b = record {
-  speaks = λ h. a.speaks h && b.speaks h;
+  allowed = λ o h. k.allowed o && (a.allowed o h && b.allowed o h);
   needs = λ o h G. k.needs o h G && (a.needs o h (k.when_true o h G) && b.needs o h (k.when_false o h G));
   gives = λ o h G. meet_ways (a.gives o h (k.when_true o h G)) (b.gives o h (k.when_false o h G));
 }
@@ -127,7 +129,7 @@ out_of_loop ends turn = record { next = meet ends turn.broke; broke = None; cont
 -- a loop with its number: the test from its head's list, its body, and the last part of each turn
 abbrev pub loop_carry : FactScope → ℕ → Fork → Step → Carry → Carry
 loop_carry s n k last a = record {
-  speaks = λ h. speaks s (h.loops n) && a.speaks h;
+  allowed = λ o h. speaks s (h.loops n) && (k.allowed o && (last.allowed o && a.allowed o h));
   needs = λ o h G.
       let l = head_list (h.loops n) G in
       let turn = a.gives o h (k.when_true o h (listed l)) in
@@ -163,7 +165,7 @@ at_turn s taken.Reference x false F = F
 -- `range_for` and `range_for_reference`: the body leaves the elements where they are, or the range-for's place is open
 abbrev pub range_carry : FactScope → ℕ → Place → Bool → (Facts → Facts) → Carry → Carry
 range_carry s n at stays start a = record {
-  speaks = λ h. speaks s (h.loops n) && a.speaks h;
+  allowed = λ o h. speaks s (h.loops n) && ((o at || stays) && a.allowed o h);
   needs = λ o h G.
       let l = head_list (h.loops n) G in
       let turn = a.gives o h (with_facts start (listed l)) in

@@ -4,14 +4,16 @@
 -- Restates no section of ISO/IEC 14882:2017: fact rules are this project's own.
 -- Chosen here: at an open node a need that is missing is taken as given where it can be completed, since the walk goes on with the
 -- runs in which it held; a fact that an iterator is before the end, or behind the beginning, of a container is completed by the
--- fact that it is inside. Where a missing need can't be completed, the node is read as a form that has no rule.
+-- fact that it is inside. Where a missing need can't be completed, the node is read as a form that has no rule. A text in which a form
+-- without a rule has a need of the library has no outline, wherever it stands, but one that is open there.
 use Rattle.std.specs.Prelude.{ℕ, ◌==◌, Bool, true, false, not, ◌&&◌, ◌||◌, List, [], ◌∷◌, if◌then◌else◌}
 use Rattle.std.specs.List.{list_any}
 use Rattle.sl_model.specs.Facts.{Fact, Facts, inside, before, behind, sorted}
 use Rattle.sl_model.specs.Facts.{alive, follows, is_on_container, without, some_below}
 
--- what is needed, and what is given: at a node that is open or not
+-- whether the form has a rule, or needs nothing of the library; what is needed, and what is given: at a node that is open or not
 pub record FactRule : Type 0 where
+  pub has_rule : Bool
   pub needs : Facts → Bool
   pub gives : Bool → Facts → Facts
 
@@ -25,11 +27,12 @@ no_outline F = false
 
 -- what needs nothing
 abbrev pub freely : (Facts → Facts) → FactRule
-freely rule = record { needs = no_need; gives = λ lax F. rule F }
+freely rule = record { has_rule = true; needs = no_need; gives = λ lax F. rule F }
 
 -- a form that has no rule, and has a need of the library or none: what it may change
 abbrev pub no_rule : Bool → (Facts → Facts) → FactRule
-no_rule has_need drops = record { needs = if has_need then no_outline else no_need; gives = λ lax F. drops F }
+no_rule has_need drops =
+    record { has_rule = not has_need; needs = if has_need then no_outline else no_need; gives = λ lax F. drops F }
 
 -- one of these containers has the fact
 abbrev pub of_some : ℕ → (ℕ → Fact) → Facts → Bool
@@ -96,9 +99,10 @@ bound r these F (behind i d) = if i == r then false else F (behind i d)
 bound r these F (alive i d) = if i == r then these d else F (alive i d)
 bound r these F f = F f
 
--- an element that is read or written, or that a reference is bound to: what that needs, what reading and writing it give, and the
--- containers that it is in
+-- an element that is read or written, or that a reference is bound to: whether the form has a rule, what it needs, what reading and
+-- writing give, and the containers that the element is in
 pub record ElementRule : Type 0 where
+  pub has_rule : Bool
   pub needs : Facts → Bool
   pub reads : Bool → Facts → Facts
   pub writes : Bool → Facts → Facts
@@ -106,12 +110,13 @@ pub record ElementRule : Type 0 where
 
 -- the rule of a read
 abbrev pub read_rule : ElementRule → FactRule
-read_rule e = record { needs = e.needs; gives = e.reads }
+read_rule e = record { has_rule = e.has_rule; needs = e.needs; gives = e.reads }
 
 -- the rule of a write, or of a read and a write
 abbrev pub write_rule : ElementRule → FactRule
-write_rule e = record { needs = e.needs; gives = e.writes }
+write_rule e = record { has_rule = e.has_rule; needs = e.needs; gives = e.writes }
 
 -- `bind_reference`: a reference is bound to an element of c, which gives alive(r, c) and what reading the element gives
 abbrev pub bind_reference : ℕ → ElementRule → FactRule
-bind_reference r e = record { needs = e.needs; gives = λ lax F. bound r (e.owners lax F) (e.reads lax F) }
+bind_reference r e =
+    record { has_rule = e.has_rule; needs = e.needs; gives = λ lax F. bound r (e.owners lax F) (e.reads lax F) }

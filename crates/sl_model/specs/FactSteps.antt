@@ -54,28 +54,31 @@ covers None l = true
 covers (Some F) None = false
 covers (Some F) (Some l) = each_given F l
 
--- a step: whether what it needs is given, and what is given behind it
+-- a step: whether each form in it has a rule, or the place is open; whether what it needs is given, and what is given behind it
 pub record Step : Type 0 where
+  pub allowed : Places → Bool
   pub needs : Places → Heads → Given → Bool
   pub gives : Places → Heads → Given → Given
 
--- a test: whether what it needs is given, and what is given on either side
+-- a test: the same, and what is given on either side
 pub record Fork : Type 0 where
+  pub allowed : Places → Bool
   pub needs : Places → Heads → Given → Bool
   pub when_true : Places → Heads → Given → Given
   pub when_false : Places → Heads → Given → Given
 
 -- nothing is done
 abbrev pub no_step : Step
-no_step = record { needs = λ o h G. true; gives = λ o h G. G }
+no_step = record { allowed = λ o. true; needs = λ o h G. true; gives = λ o h G. G }
 
 -- facts change, and nothing is needed
 abbrev pub changes : (Facts → Facts) → Step
-changes rule = record { needs = λ o h G. true; gives = λ o h G. with_facts rule G }
+changes rule = record { allowed = λ o. true; needs = λ o h G. true; gives = λ o h G. with_facts rule G }
 
 -- a rule at a place
 abbrev pub rule_step : Place → FactRule → Step
 rule_step at r = record {
+  allowed = λ o. o at || r.has_rule;
   needs = λ o h G. o at || needs_facts r.needs G;
   gives = λ o h G. with_facts (r.gives (o at)) G;
 }
@@ -83,6 +86,7 @@ rule_step at r = record {
 -- one step and then another
 abbrev pub then_step : Step → Step → Step
 then_step a b = record {
+  allowed = λ o. a.allowed o && b.allowed o;
   needs = λ o h G. a.needs o h G && b.needs o h (a.gives o h G);
   gives = λ o h G. b.gives o h (a.gives o h G);
 }
@@ -90,6 +94,7 @@ then_step a b = record {
 -- a test by a rule, behind a step
 abbrev pub test_fork : Step → Place → FactTest → Fork
 test_fork a at r = record {
+  allowed = λ o. a.allowed o && (o at || r.has_rule);
   needs = λ o h G. a.needs o h G && (o at || needs_facts r.needs (a.gives o h G));
   when_true = λ o h G. with_facts r.when_true (a.gives o h G);
   when_false = λ o h G. with_facts r.when_false (a.gives o h G);
@@ -97,15 +102,16 @@ test_fork a at r = record {
 
 -- a step whose value is tested, which tells nothing
 abbrev pub plain_fork : Step → Fork
-plain_fork a = record { needs = a.needs; when_true = a.gives; when_false = a.gives }
+plain_fork a = record { allowed = a.allowed; needs = a.needs; when_true = a.gives; when_false = a.gives }
 
 -- `connective`, `!e`
 abbrev pub not_fork : Fork → Fork
-not_fork a = record { needs = a.needs; when_true = a.when_false; when_false = a.when_true }
+not_fork a = record { allowed = a.allowed; needs = a.needs; when_true = a.when_false; when_false = a.when_true }
 
 -- `connective`, `e && g`
 abbrev pub and_fork : Fork → Fork → Fork
 and_fork a b = record {
+  allowed = λ o. a.allowed o && b.allowed o;
   needs = λ o h G. a.needs o h G && b.needs o h (a.when_true o h G);
   when_true = λ o h G. b.when_true o h (a.when_true o h G);
   when_false = λ o h G. meet (a.when_false o h G) (b.when_false o h (a.when_true o h G));
@@ -114,6 +120,7 @@ and_fork a b = record {
 -- `connective`, `e || g`
 abbrev pub or_fork : Fork → Fork → Fork
 or_fork a b = record {
+  allowed = λ o. a.allowed o && b.allowed o;
   needs = λ o h G. a.needs o h G && b.needs o h (a.when_false o h G);
   when_true = λ o h G. meet (a.when_true o h G) (b.when_true o h (a.when_false o h G));
   when_false = λ o h G. b.when_false o h (a.when_false o h G);
@@ -121,11 +128,12 @@ or_fork a b = record {
 
 -- a test whose answer is taken as a value
 abbrev pub joined_step : Fork → Step
-joined_step a = record { needs = a.needs; gives = λ o h G. meet (a.when_true o h G) (a.when_false o h G) }
+joined_step a = record { allowed = a.allowed; needs = a.needs; gives = λ o h G. meet (a.when_true o h G) (a.when_false o h G) }
 
 -- what is given behind each side of a test changes
 abbrev pub fork_behind : (Facts → Facts) → Fork → Fork
 fork_behind rule a = record {
+  allowed = a.allowed;
   needs = a.needs;
   when_true = λ o h G. with_facts rule (a.when_true o h G);
   when_false = λ o h G. with_facts rule (a.when_false o h G);

@@ -95,7 +95,7 @@ is_ascending x form F = F (sorted x)
 
 -- a call that changes nothing and gives an iterator, or none, where its needs are given
 abbrev pub searches : (Facts → Bool) → (Facts → Facts) → FactRule
-searches needs rule = record { needs = needs; gives = λ lax F. if needs F then rule F else F }
+searches needs rule = record { has_rule = true; needs = needs; gives = λ lax F. if needs F then rule F else F }
 
 -- where an algorithm's operands that it writes through stand
 abbrev pub written_operands : Call → List ℕ

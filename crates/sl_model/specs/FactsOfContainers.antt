@@ -5,7 +5,7 @@
 -- Restates ISO/IEC 14882:2017, [container.requirements.general], [sequence.reqmts], [vector.capacity], [list.ops],
 -- [associative.reqmts], [unord.req] and [map.access], as far as a rule's facts are true there.
 -- Chosen here: the facts that are carried; what each rule leaves of the facts on its container stands in FactsLeft.
-use Rattle.std.specs.Prelude.{ℕ, ◌==◌, Bool, true, ◌&&◌, ◌||◌, List, min, ℤ, pos, ◌+ℤ◌, int_le, if◌then◌else◌}
+use Rattle.std.specs.Prelude.{ℕ, ◌==◌, Bool, true, false, ◌&&◌, ◌||◌, List, min, ℤ, pos, ◌+ℤ◌, int_le, if◌then◌else◌}
 use Rattle.sl_base.specs.declared.form.Form.{Form}
 use Rattle.sl_base.specs.declared.form.Form.TheVariants as f
 use Rattle.sl_model.specs.Facts.{Fact, Facts, inside, before, behind, size_at_least, spare_at_least, sorted, up_to_size}
@@ -39,6 +39,7 @@ may_erase it x lax F = F (before it x) || (lax && F (inside it x))
 -- `erase_at`, `x.erase(it)`: it is before the end
 abbrev pub erase_at : List ℤ → ℕ → ℕ → FactRule
 erase_at constants x it = record {
+  has_rule = true;
   needs = λ F. F (before it x);
   gives = λ lax F. if may_erase it x lax F then remaining constants x when_one_goes (given_too lax (before it x) F) else drop_container x F;
 }
@@ -46,6 +47,7 @@ erase_at constants x it = record {
 -- `erase_at`, `it = x.erase(it)`: and then it is inside
 abbrev pub erase_at_itself : List ℤ → ℕ → ℕ → FactRule
 erase_at_itself constants x it = record {
+  has_rule = true;
   needs = λ F. F (before it x);
   gives = λ lax F. placed it (λ d. d == x && may_erase it x lax F) no_container no_container ((erase_at constants x it).gives lax F);
 }
@@ -53,6 +55,7 @@ erase_at_itself constants x it = record {
 -- `insert_at`, `it = x.insert(it, e)`: it is inside, and then before the end, so that there is an element
 abbrev pub insert_at : List ℤ → ℕ → Form → ℕ → FactRule
 insert_at constants x form it = record {
+  has_rule = true;
   needs = λ F. F (inside it x);
   gives = λ lax F.
       if F (inside it x) then given_too true (before it x) (forget_iterator it (remaining constants x (when_inserted form) F))
@@ -66,6 +69,7 @@ push constants x form = freely (remaining constants x (when_pushed form))
 -- `pop`, `x.pop_back()` and `x.pop_front()`: size(x) is at least 1
 abbrev pub pop : List ℤ → ℕ → FactRule
 pop constants x = record {
+  has_rule = true;
   needs = λ F. F (size_at_least x (pos 1));
   gives = λ lax F. remaining constants x when_one_goes (given_too lax (size_at_least x (pos 1)) F);
 }
@@ -73,6 +77,7 @@ pop constants x = record {
 -- an element of x that is there where a fact is given, and completed at an open node
 abbrev pub element_where : List ℤ → ℕ → Fact → ElementRule
 element_where constants x fact = record {
+  has_rule = true;
   needs = λ F. F fact;
   reads = λ lax F. given_too lax fact F;
   writes = λ lax F. remaining constants x when_written (given_too lax fact F);
@@ -93,11 +98,17 @@ index_at constants x k = element_where constants x (size_at_least x (k +ℤ pos 
 
 -- `x[e]` of anything else has no rule
 abbrev pub index_elsewhere : ℕ → ElementRule
-index_elsewhere x = record { needs = no_outline; reads = λ lax F. F; writes = λ lax F. drop_container x F; owners = λ lax F. no_container }
+index_elsewhere x = record {
+  has_rule = false;
+  needs = no_outline;
+  reads = λ lax F. F;
+  writes = λ lax F. drop_container x F;
+  owners = λ lax F. no_container;
+}
 
 -- `x.at(e)` has no rule, and no need either; a reference is bound to it
 abbrev pub element_at : ℕ → ElementRule
-element_at x = record { needs = no_need; reads = λ lax F. F; writes = λ lax F. drop_container x F; owners = λ lax F d. d == x }
+element_at x = record { has_rule = true; needs = no_need; reads = λ lax F. F; writes = λ lax F. drop_container x F; owners = λ lax F d. d == x }
 
 -- `clear`, `x.clear()`
 abbrev pub clear : List ℤ → ℕ → FactRule
@@ -122,6 +133,7 @@ insert_key constants x form = freely (key_inserted constants x form)
 -- `insert_key`, `x[e]` of a form with keys and values
 abbrev pub value_of_key : List ℤ → ℕ → Form → ElementRule
 value_of_key constants x form = record {
+  has_rule = true;
   needs = no_need;
   reads = λ lax F. key_inserted constants x form F;
   writes = λ lax F. key_inserted constants x form F;
@@ -131,6 +143,7 @@ value_of_key constants x form = record {
 -- `append_copy`, a range of another container is appended to x; its iterators are inside that container
 abbrev pub append_copy : List ℤ → (Facts → Bool) → ℕ → Form → FactRule
 append_copy constants needs x form = record {
+  has_rule = true;
   needs = needs;
   gives = λ lax F. if needs F then remaining constants x (when_appended form) F else drop_container x F;
 }

@@ -178,7 +178,7 @@ declaration_step s d = then_step (declaration_rule s d) (changes (within (after_
 
 -- no test: the side where it is false isn't reached
 abbrev pub always_true : Fork
-always_true = record { needs = λ o h G. true; when_true = λ o h G. G; when_false = λ o h G. None }
+always_true = record { allowed = λ o. true; needs = λ o h G. true; when_true = λ o h G. G; when_false = λ o h G. None }
 
 -- a condition before its fresh variables are dropped
 abbrev pub condition_rule : FactScope → Cond → Fork

@@ -5,7 +5,7 @@
 -- [iterator.requirements.general] (`*it`, `it->`), [input.iterators], [bidirectional.iterators], [expr.rel] and [expr.eq].
 -- Chosen here: which forms have a rule. A test of a scalar with a literal goes either way round; one of an iterator with `c.end()`
 -- or `c.begin()`, and of a scalar with `c.size()`, has the container on its right side.
-use Rattle.std.specs.Prelude.{ℕ, Bool, true, ℤ, Option, Some, None}
+use Rattle.std.specs.Prelude.{ℕ, Bool, true, ℤ, Option, Some, None, false}
 use Rattle.sl_base.specs.declared.form.Form.{Form}
 use Rattle.sl_base.specs.declared.form.Form.TheVariants as f
 use Rattle.sl_specs.specs.declared.call.Call.{Call}
@@ -33,7 +33,7 @@ use Rattle.sl_model.specs.FactsOfCalls.{iterator_at}
 -- an element of which nothing is known
 abbrev pub element_elsewhere : ElementRule
 element_elsewhere =
-    record { needs = no_outline; reads = λ lax F. F; writes = λ lax F. without is_on_order F; owners = λ lax F. no_container }
+    record { has_rule = false; needs = no_outline; reads = λ lax F. F; writes = λ lax F. without is_on_order F; owners = λ lax F. no_container }
 
 -- `x[e]` of a vector or deque: a literal, or a scalar that has facts
 abbrev pub index : FactScope → ℕ → ℕ → Option Expr → ElementRule
@@ -94,44 +94,50 @@ moving_rule s fix it callee = moves_otherwise it
 -- and its value, which has the facts of the variable behind it
 abbrev pub move_rule : FactScope → ℕ → Fix → ℕ → Callee → FactRule
 move_rule s t fix it callee = record {
+  has_rule = (moving_rule s fix it callee).has_rule;
   needs = (moving_rule s fix it callee).needs;
   gives = λ lax F. copy_iterator (fresh_iterator s t) it ((moving_rule s fix it callee).gives lax F);
 }
 
--- a test: what it needs, and what it gives on either side
+-- a test: whether it has a rule, what it needs, and what it gives on either side
 pub record FactTest : Type 0 where
+  pub has_rule : Bool
   pub needs : Facts → Bool
   pub when_true : Facts → Facts
   pub when_false : Facts → Facts
 
--- a test that gives nothing
-abbrev pub tells_nothing : (Facts → Bool) → FactTest
-tells_nothing needs = record { needs = needs; when_true = λ F. F; when_false = λ F. F }
+-- a test that needs and gives nothing
+abbrev pub tells_nothing : FactTest
+tells_nothing = record { has_rule = true; needs = no_need; when_true = λ F. F; when_false = λ F. F }
+
+-- a test of iterators that has no rule
+abbrev pub no_test : FactTest
+no_test = record { has_rule = false; needs = no_outline; when_true = λ F. F; when_false = λ F. F }
 
 -- a test that gives something where it is true, or where it is false
 abbrev pub tells_true : (Facts → Bool) → (Facts → Facts) → FactTest
-tells_true needs rule = record { needs = needs; when_true = rule; when_false = λ F. F }
+tells_true needs rule = record { has_rule = true; needs = needs; when_true = rule; when_false = λ F. F }
 
 -- the same on the other side
 abbrev pub tells_false : (Facts → Bool) → (Facts → Facts) → FactTest
-tells_false needs rule = record { needs = needs; when_true = λ F. F; when_false = rule }
+tells_false needs rule = record { has_rule = true; needs = needs; when_true = λ F. F; when_false = rule }
 
 -- an iterator is compared with the end of x, or with its beginning: it has to be inside
 abbrev pub compares_inside : ℕ → ℕ → (Facts → Facts) → Comparison → FactTest
 compares_inside it x rule comparisons.NotEqual = tells_true (λ F. F (inside it x)) rule
 compares_inside it x rule comparisons.Equal = tells_false (λ F. F (inside it x)) rule
-compares_inside it x rule op = tells_nothing no_outline
+compares_inside it x rule op = no_test
 
 -- two iterators are compared, by what the right one ends or begins
 abbrev pub compares_iterators : ℕ → Option ℕ → Option ℕ → Comparison → FactTest
 compares_iterators it (Some x) starts op = compares_inside it x (test_not_end it x) op
 compares_iterators it None (Some x) op = compares_inside it x (test_not_begin it x) op
-compares_iterators it None None op = tells_nothing no_outline
+compares_iterators it None None op = no_test
 
 -- a test by an operator on iterators
 abbrev pub operator_test : FactScope → ℕ → Operands → Operator → FactTest
 operator_test s t (with a (with b none)) (operators.Compare op) = compares_iterators (iterator_of s t a) (end_of b) (begin_of b) op
-operator_test s t ops o = tells_nothing no_outline
+operator_test s t ops o = no_test
 
 -- a test by a call of the library: of iterators, or `x.empty()`; t numbers its first operand
 abbrev pub call_test : FactScope → ℕ → Head → Operands → Option FactTest
@@ -144,7 +150,7 @@ call_test s t h ops = elim h.callee [
 
 -- a scalar is compared with a literal
 abbrev pub compares_literal : ℕ → ℤ → Comparison → FactTest
-compares_literal x k op = record { needs = no_need; when_true = test_literal op x k; when_false = test_literal (opposite op) x k }
+compares_literal x k op = record { has_rule = true; needs = no_need; when_true = test_literal op x k; when_false = test_literal (opposite op) x k }
 
 -- a scalar is compared with the size of c
 abbrev pub compares_size : ℕ → ℕ → Comparison → FactTest
@@ -152,20 +158,20 @@ compares_size x y comparisons.Less = tells_true no_need (test_below_size x y)
 compares_size x y comparisons.GreaterEqual = tells_false no_need (test_below_size x y)
 compares_size x y comparisons.NotEqual = tells_true no_need (test_not_size x y)
 compares_size x y comparisons.Equal = tells_false no_need (test_not_size x y)
-compares_size x y op = tells_nothing no_need
+compares_size x y op = tells_nothing
 
 -- a scalar is compared with what the right side is
 abbrev pub compares_variable : ℕ → Option ℤ → Option ℕ → Comparison → FactTest
 compares_variable x (Some k) size op = compares_literal x k op
 compares_variable x None (Some y) op = compares_size x y op
-compares_variable x None None op = tells_nothing no_need
+compares_variable x None None op = tells_nothing
 
 -- a test of two numbers, in the type of the variable
 abbrev pub comparison_test : Comparison → Expr → Expr → FactTest
 comparison_test op a b = elim (variable_of a) [
   | Some x ↦ compares_variable x (literal_of b) (size_of b) op
   | None ↦ elim (variable_of b) [
-    | None ↦ tells_nothing no_need
+    | None ↦ tells_nothing
     | Some y ↦ compares_variable y (literal_of a) None (turned op)
   ]
 ]

@@ -5,7 +5,7 @@
 -- when.
 -- Chosen here: operands go from left to right. A comparison is a test only where its answer decides: in a condition, and as a side of
 -- `&&`, `||` or `!`. As a value it has no rule. `t` numbers the fresh variable that takes the value.
-use Rattle.std.specs.Prelude.{ℕ, ◌+◌, List, [], slice_get, Option, Some, None}
+use Rattle.std.specs.Prelude.{ℕ, ◌+◌, List, [], slice_get, Option, Some, None, true}
 use Rattle.sl_base.specs.declared.place.Place.{Place}
 use Rattle.sl_base.specs.declared.scalar.Scalar.{Scalar}
 use Rattle.sl_syntax.specs.declared.typed.head.Head.{Head}
@@ -78,6 +78,7 @@ function_step s t f ops =
     let ks = parameters_of s.text f in
     let b = bindings s t ks ops in
     record {
+      allowed = λ o. true;
       needs = λ o h G. needs_facts (λ F. enters_with b F (h.entries f)) G;
       gives = λ o h G. with_facts (given_behind s ks ops (brought_back b (h.exits f))) G;
     }

@@ -23,11 +23,11 @@ is_empty_list (f ∷ l) = false
 abbrev pub at_entry : Typed → Function → FactScope
 at_entry p f = after_parameters f.parameters (no_scope p)
 
--- the lists of a function with its number speak of what they may
-abbrev pub function_speaks : Typed → Heads → ℕ → Function → Bool
-function_speaks p h n f =
+-- the lists of a function with its number speak of what they may, and each form in it has a rule, or its place is open
+abbrev pub function_allowed : Typed → Places → Heads → ℕ → Function → Bool
+function_allowed p o h n f =
     speaks (at_entry p f) (h.entries n) && (speaks (at_entry p f) (h.exits n)
-    && (all_of_references f.parameters (h.exits n) && (carry (at_entry p f) f.body).speaks h))
+    && (all_of_references f.parameters (h.exits n) && (carry (at_entry p f) f.body).allowed o h))
 
 -- what is given at the start of a function
 abbrev pub entry_given : Heads → ℕ → Given
@@ -45,7 +45,7 @@ abbrev pub functions_carry : Typed → Places → Heads → ℕ → List Functio
 functions_carry p o h n [] = true
 functions_carry p o h n (f ∷ fs) =
     (not (n == p.main) || is_empty_list (h.entries n))
-    && (function_speaks p h n f && (function_carries p o h n f && functions_carry p o h (n + 1) fs))
+    && (function_allowed p o h n f && (function_carries p o h n f && functions_carry p o h (n + 1) fs))
 
 -- the lists are an outline of the text that is open at these places
 unfoldable pub is_outline : Typed → Places → Heads → Bool

@@ -234,7 +234,7 @@ shows constants all given dropped =
     let read = statements constants all in
     let start = Some (given_by []) in
     let behind = (read.gives nowhere no_lists start).next in
-    read.needs nowhere no_lists start && all_given behind given && none_given behind dropped
+    read.allowed nowhere no_lists && read.needs nowhere no_lists start && all_given behind given && none_given behind dropped
 
 -- the places on a line
 abbrev pub at_line : ℕ → Places
