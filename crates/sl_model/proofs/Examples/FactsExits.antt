@@ -37,11 +37,11 @@ setting = text_of (negsuc 0 ∷ numbers_to 4) 1 (
     main_of
     (declares (set_scalar t.Int (int 0)) ∷ does (evaluates (own_call 0 here (operands_from (handed_scalar 0 ∷ value_of 0 ∷ [])))) ∷
     while 0 (test (compares comparisons.Equal (value_of 0) (int 3))) (does (evaluates (own_call 0 here (operands_from (handed_scalar 0 ∷ int 1 ∷
-      []))))) ∷
+    []))))) ∷
     []) ∷
     [])
 
-setting_has_one : is_outline setting nowhere 
+setting_has_one : is_outline setting nowhere
     (heads ((lower_bound 0 (pos 3) ∷ upper_bound 0 (pos 3) ∷ []) ∷ []) ([] ∷ [] ∷ []) ((lower_bound 0 (pos 3) ∷ upper_bound 0 (pos 3) ∷ []) ∷ [] ∷
     []))
     ≡ true
@@ -54,7 +54,7 @@ unfolding is_outline
 setting_drops = refl
 
 -- an exit's list speaks of parameters by reference alone
-setting_speaks_of_references : is_outline setting nowhere 
+setting_speaks_of_references : is_outline setting nowhere
     (heads ([] ∷ []) ((lower_bound 1 (pos 0) ∷ []) ∷ [] ∷ []) ((lower_bound 1 (pos 0) ∷ []) ∷ [] ∷ []))
     ≡ false
 unfolding is_outline
@@ -155,30 +155,30 @@ realistic = text_of (negsuc 0 ∷ (numbers_to 2 ++ (pos 9 ∷ pos 10 ∷ pos 11 
     function_of (parameter.Container access.Whole f.Vector ∷ []) None
     (declares (set_iterator (member sequence.VECTOR_BEGIN 0 [])) ∷
     while 1 (test (differ (iterator 0) (member sequence.VECTOR_END 0 []))) (braces (choice_else (test (compares comparisons.Less (held (star
-      (iterator 0))) (int 0))) (does (moves_to 0 (member sequence.VECTOR_ERASE 0 (iterator 0 ∷ [])))) (does (evaluates (up 0))) ∷ [])) ∷
+    (iterator 0))) (int 0))) (does (moves_to 0 (member sequence.VECTOR_ERASE 0 (iterator 0 ∷ [])))) (does (evaluates (up 0))) ∷ [])) ∷
     []) ∷
     main_of
     (declares (makes f.Vector (head_at here (callees.Row sequence.VECTOR_CONSTRUCTOR) None) (operands_from [])) ∷
     declares (makes f.Map (head_at here (callees.Row associative.MAP_CONSTRUCTOR) None) (operands_from [])) ∷
     declares (unset_scalar t.Int) ∷
     while 2 (read (0 ∷ [])) (braces (does (evaluates (member sequence.VECTOR_PUSH_BACK 0 (value_of 0 ∷ []))) ∷ does (updates o.Add t.Int t.Int
-      here (member_element associative.MAP_SUBSCRIPT 1 (value_of 0 ∷ [])) (int 1)) ∷ [])) ∷
+    here (member_element associative.MAP_SUBSCRIPT 1 (value_of 0 ∷ [])) (int 1)) ∷ [])) ∷
     does (evaluates (own_call 1 here (operands_from (container 0 ∷ [])))) ∷
     does (evaluates (algorithm algorithms.STD_SORT (member sequence.VECTOR_BEGIN 0 [] ∷ member sequence.VECTOR_END 0 [] ∷ []))) ∷
     does (evaluates (member sequence.VECTOR_ERASE_RANGE 0 (algorithm algorithms.STD_UNIQUE (member sequence.VECTOR_BEGIN 0 [] ∷ member
-      sequence.VECTOR_END 0 [] ∷ []) ∷ member sequence.VECTOR_END 0 [] ∷ []))) ∷
+    sequence.VECTOR_END 0 [] ∷ []) ∷ member sequence.VECTOR_END 0 [] ∷ []))) ∷
     declares (set_iterator (algorithm algorithms.STD_LOWER_BOUND (member sequence.VECTOR_BEGIN 0 [] ∷ member sequence.VECTOR_END 0 [] ∷ int 10 ∷
-      []))) ∷
+    []))) ∷
     while 3 (test (differ (iterator 0) (member sequence.VECTOR_END 0 []))) (braces (does (prints (number (held (star (iterator 0))) ∷ text [] ∷
-      number (held (member_element associative.MAP_AT 1 (held (star (iterator 0)) ∷ []))) ∷ text [] ∷ [])) ∷ does (evaluates (up 0)) ∷ [])) ∷
+    number (held (member_element associative.MAP_AT 1 (held (star (iterator 0)) ∷ []))) ∷ text [] ∷ [])) ∷ does (evaluates (up 0)) ∷ [])) ∷
     for 4 (declares_first (set_iterator (member associative.MAP_BEGIN 1 []))) (test (differ (iterator 1) (member associative.MAP_END 1 [])))
-      (Some (evaluates (up 1))) (braces (choice (test (compares comparisons.Greater (held (element (head_at here (callees.Operator
-      operators.ArrowSecond) None) (with (iterator 1) none))) (int 1))) (does (prints (number (held (element (head_at here (callees.Operator
-      operators.ArrowFirst) None) (with (iterator 1) none))) ∷ text [] ∷ []))) ∷ [])) ∷
+    (Some (evaluates (up 1))) (braces (choice (test (compares comparisons.Greater (held (element (head_at here (callees.Operator
+    operators.ArrowSecond) None) (with (iterator 1) none))) (int 1))) (does (prints (number (held (element (head_at here (callees.Operator
+    operators.ArrowFirst) None) (with (iterator 1) none))) ∷ text [] ∷ []))) ∷ [])) ∷
     does (prints (text [] ∷ number (own_call 0 here (operands_from (container 0 ∷ []))) ∷ endline ∷ [])) ∷ gives_back (Some (int 0)) ∷ []) ∷
     [])
 
-realistic_has_one : is_outline realistic nowhere 
+realistic_has_one : is_outline realistic nowhere
     (heads ([] ∷ (inside 0 0 ∷ []) ∷ [] ∷ (inside 0 0 ∷ []) ∷ (inside 1 1 ∷ []) ∷ []) ([] ∷ [] ∷ [] ∷ []) ([] ∷ [] ∷ [] ∷ []))
     ≡ true
 unfolding is_outline

@@ -34,7 +34,7 @@ entering = text_of (numbers_to 2) 1 (
     does (prints (number (held (member_element sequence.VECTOR_BACK 0 [])) ∷ [])) ∷ []) ∷
     [])
 
-entering_has_one : is_outline entering nowhere 
+entering_has_one : is_outline entering nowhere
     (heads [] ((size_at_least 0 (pos 0) ∷ []) ∷ [] ∷ []) ((size_at_least 0 (pos 1) ∷ []) ∷ [] ∷ []))
     ≡ true
 unfolding is_outline
@@ -51,7 +51,7 @@ unfolding is_outline
 entering_needs_an_exit = refl
 
 -- the entry's list has to be given at each call
-entering_with_more : is_outline entering nowhere 
+entering_with_more : is_outline entering nowhere
     (heads [] ((size_at_least 0 (pos 1) ∷ []) ∷ [] ∷ []) ((size_at_least 0 (pos 1) ∷ []) ∷ [] ∷ []))
     ≡ false
 unfolding is_outline
@@ -71,7 +71,7 @@ recursing = text_of (negsuc 0 ∷ numbers_to 4) 1 (
     function_of (parameter.Container access.Whole f.Vector ∷ parameter.Value t.Int ∷ []) None
     (does (prints (number (held (member_element sequence.VECTOR_FRONT 0 [])) ∷ [])) ∷
     choice (test (compares comparisons.Greater (value_of 0) (int 0))) (does (evaluates (own_call 0 here (operands_from (container 0 ∷ int 2 ∷
-      []))))) ∷
+    []))))) ∷
     []) ∷
     main_of
     (declares (makes f.Vector (head_at here (callees.Row sequence.VECTOR_CONSTRUCTOR_LIST) None) (operands_from (int 1 ∷ int 2 ∷ []))) ∷
@@ -83,7 +83,7 @@ unfolding is_outline
 recursing_has_one = refl
 
 -- a literal brings no facts to a parameter
-recursing_brings_no_literal : is_outline recursing nowhere 
+recursing_brings_no_literal : is_outline recursing nowhere
     (heads [] ((size_at_least 0 (pos 1) ∷ lower_bound 0 (pos 2) ∷ []) ∷ [] ∷ []) ([] ∷ [] ∷ []))
     ≡ false
 unfolding is_outline
@@ -104,7 +104,7 @@ indexing = text_of (negsuc 0 ∷ numbers_to 5) 1 (
     main_of
     (declares (makes f.Vector (head_at here (callees.Row sequence.VECTOR_CONSTRUCTOR_LIST) None) (operands_from (int 1 ∷ int 2 ∷ int 3 ∷ []))) ∷
     for 0 (declares_first (set_scalar t.Size (size_number 0))) (test (compares comparisons.Less (value_of 0) (member sequence.VECTOR_SIZE 0
-      []))) (Some (evaluates (up_size 0))) (does (evaluates (own_call 0 here (operands_from (container 0 ∷ value_of 0 ∷ []))))) ∷
+    []))) (Some (evaluates (up_size 0))) (does (evaluates (own_call 0 here (operands_from (container 0 ∷ value_of 0 ∷ []))))) ∷
     []) ∷
     [])
 
@@ -137,7 +137,7 @@ iterating = text_of (numbers_to 5) 1 (
     does (evaluates (own_call 0 here (operands_from (container 0 ∷ iterator 0 ∷ [])))) ∷
     does (prints (number (held (star (iterator 0))) ∷ number (held (member_element sequence.VECTOR_BACK 0 [])) ∷ [])) ∷
     does (prints (number (algorithm algorithms.STD_BINARY_SEARCH (member sequence.LIST_BEGIN 2 [] ∷ member sequence.LIST_END 2 [] ∷ int 1 ∷ []))
-      ∷ [])) ∷
+    ∷ [])) ∷
     []) ∷
     [])
 
@@ -163,7 +163,7 @@ unsorting = text_of (numbers_to 2) 1 (
     declares (makes f.Vector (head_at here (callees.Row sequence.VECTOR_CONSTRUCTOR) None) (operands_from [])) ∷
     does (evaluates (own_call 0 here (operands_from (container 0 ∷ member sequence.VECTOR_BEGIN 0 [] ∷ [])))) ∷
     does (prints (number (algorithm algorithms.STD_BINARY_SEARCH (member sequence.VECTOR_BEGIN 1 [] ∷ member sequence.VECTOR_END 1 [] ∷ int 1 ∷
-      [])) ∷ [])) ∷
+    [])) ∷ [])) ∷
     []) ∷
     [])
 
@@ -190,7 +190,7 @@ reading = text_of (numbers_to 2) 1 (
     declares (makes f.Vector (head_at here (callees.Row sequence.VECTOR_CONSTRUCTOR) None) (operands_from [])) ∷
     does (evaluates (own_call 0 here (operands_from (container 0 ∷ member sequence.VECTOR_BEGIN 0 [] ∷ [])))) ∷
     does (prints (number (algorithm algorithms.STD_BINARY_SEARCH (member sequence.VECTOR_BEGIN 1 [] ∷ member sequence.VECTOR_END 1 [] ∷ int 1 ∷
-      [])) ∷ [])) ∷
+    [])) ∷ [])) ∷
     []) ∷
     [])
 
@@ -198,7 +198,7 @@ reading_has_one : is_outline reading nowhere (heads [] ((size_at_least 0 (pos 1)
 unfolding is_outline
 reading_has_one = refl
 
-reading_gets_none : is_outline reading nowhere 
+reading_gets_none : is_outline reading nowhere
     (heads [] ((size_at_least 0 (pos 1) ∷ before 0 0 ∷ []) ∷ [] ∷ []) ([] ∷ [] ∷ []))
     ≡ false
 unfolding is_outline
@@ -221,7 +221,7 @@ reading_on = text_of (numbers_to 1) 2 (
     (does (prints (number (held (star (iterator 0))) ∷ [])) ∷ []) ∷
     function_of (parameter.Container access.Const f.Vector ∷ []) None
     (choice (test (logical_not here (member sequence.VECTOR_EMPTY 0 []))) (does (evaluates (own_call 0 here (operands_from (container 0 ∷ member
-      sequence.VECTOR_BEGIN 0 [] ∷ []))))) ∷
+    sequence.VECTOR_BEGIN 0 [] ∷ []))))) ∷
     []) ∷
     main_of
     (declares (makes f.Vector (head_at here (callees.Row sequence.VECTOR_CONSTRUCTOR) None) (operands_from [])) ∷

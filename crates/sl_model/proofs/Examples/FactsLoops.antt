@@ -31,7 +31,7 @@ erasing = alone (negsuc 0 ∷ numbers_to 1)
     declares (unset_scalar t.Int) ∷ while 0 (read (0 ∷ [])) (does (evaluates (member sequence.VECTOR_PUSH_BACK 0 (value_of 0 ∷ [])))) ∷
     declares (set_iterator (member sequence.VECTOR_BEGIN 0 [])) ∷
     while 1 (test (differ (iterator 0) (member sequence.VECTOR_END 0 []))) (braces (choice_else (test (compares comparisons.Equal (held (star
-      (iterator 0))) (int 0))) (does (moves_to 0 (member sequence.VECTOR_ERASE 0 (iterator 0 ∷ [])))) (does (evaluates (up 0))) ∷ [])) ∷
+    (iterator 0))) (int 0))) (does (moves_to 0 (member sequence.VECTOR_ERASE 0 (iterator 0 ∷ [])))) (does (evaluates (up 0))) ∷ [])) ∷
     [])
 
 erasing_has_one : is_outline erasing nowhere (loops ((size_at_least 0 (pos 0) ∷ []) ∷ (inside 0 0 ∷ []) ∷ [])) ≡ true
@@ -67,7 +67,7 @@ not_erasing = alone (negsuc 0 ∷ numbers_to 2)
     (declares (makes f.Vector (head_at here (callees.Row sequence.VECTOR_CONSTRUCTOR_LIST) None) (operands_from (int 1 ∷ []))) ∷
     declares (set_iterator (member sequence.VECTOR_BEGIN 0 [])) ∷
     while 0 (test (differ (iterator 0) (member sequence.VECTOR_END 0 []))) (braces (choice_else (test (compares comparisons.Equal (held (star
-      (iterator 0))) (int 0))) (does (evaluates (member sequence.VECTOR_ERASE 0 (iterator 0 ∷ [])))) (does (evaluates (up 0))) ∷ [])) ∷
+    (iterator 0))) (int 0))) (does (evaluates (member sequence.VECTOR_ERASE 0 (iterator 0 ∷ [])))) (does (evaluates (up 0))) ∷ [])) ∷
     [])
 
 not_erasing_has_none : is_outline not_erasing nowhere (loops ((inside 0 0 ∷ []) ∷ [])) ≡ false
@@ -92,8 +92,8 @@ indexing = alone (negsuc 0 ∷ numbers_to 1)
     declares (unset_scalar t.Int) ∷ while 0 (read (0 ∷ [])) (does (evaluates (member sequence.VECTOR_PUSH_BACK 0 (value_of 0 ∷ [])))) ∷
     declares (set_scalar t.Int (int 0)) ∷
     for 1 (declares_first (set_scalar t.Size (size_number 0))) (test (compares comparisons.NotEqual (value_of 2) (member sequence.VECTOR_SIZE 0
-      []))) (Some (evaluates (up_size 2))) (does (updates o.Add t.Int t.Int here (scalar 1 here) (held (member_element sequence.VECTOR_SUBSCRIPT 0
-      (value_of 2 ∷ []))))) ∷
+    []))) (Some (evaluates (up_size 2))) (does (updates o.Add t.Int t.Int here (scalar 1 here) (held (member_element sequence.VECTOR_SUBSCRIPT 0
+    (value_of 2 ∷ []))))) ∷
     [])
 
 indexing_has_one : is_outline indexing nowhere (loops ([] ∷ (up_to_size 2 0 ∷ []) ∷ [])) ≡ true
@@ -115,8 +115,8 @@ indexing_past = alone (negsuc 0 ∷ numbers_to 1)
     (declares (makes f.Vector (head_at here (callees.Row sequence.VECTOR_CONSTRUCTOR) None) (operands_from [])) ∷
     declares (set_scalar t.Int (int 0)) ∷
     for 0 (declares_first (set_scalar t.Size (size_number 0))) (test (compares comparisons.LessEqual (value_of 1) (member sequence.VECTOR_SIZE 0
-      []))) (Some (evaluates (up_size 1))) (does (updates o.Add t.Int t.Int here (scalar 0 here) (held (member_element sequence.VECTOR_SUBSCRIPT 0
-      (value_of 1 ∷ []))))) ∷
+    []))) (Some (evaluates (up_size 1))) (does (updates o.Add t.Int t.Int here (scalar 0 here) (held (member_element sequence.VECTOR_SUBSCRIPT 0
+    (value_of 1 ∷ []))))) ∷
     [])
 
 -- the strongest facts that hold at the head
@@ -136,8 +136,8 @@ abbrev continuing : Typed
 continuing = alone (numbers_to 4)
     (declares (makes f.Vector (head_at here (callees.Row sequence.VECTOR_CONSTRUCTOR_LIST) None) (operands_from (int 1 ∷ int 2 ∷ []))) ∷
     for 0 (declares_first (set_iterator (member sequence.VECTOR_BEGIN 0 []))) (test (differ (iterator 0) (member sequence.VECTOR_END 0 [])))
-      (Some (evaluates (up 0))) (braces (choice (test (compares comparisons.Equal (held (star (iterator 0))) (int 1))) continue ∷ does (assigns
-      (star (iterator 0)) (int 3)) ∷ [])) ∷
+    (Some (evaluates (up 0))) (braces (choice (test (compares comparisons.Equal (held (star (iterator 0))) (int 1))) continue ∷ does (assigns
+    (star (iterator 0)) (int 3)) ∷ [])) ∷
     [])
 
 continuing_has_one : is_outline continuing nowhere (loops ((inside 0 0 ∷ size_at_least 0 (pos 2) ∷ []) ∷ [])) ≡ true
@@ -158,10 +158,10 @@ cleared_and_continued = alone (numbers_to 4)
     (declares (makes f.Vector (head_at here (callees.Row sequence.VECTOR_CONSTRUCTOR_LIST) None) (operands_from (int 3 ∷ []))) ∷
     declares (set_scalar t.Int (int 3)) ∷
     for 0 no_first always None (braces (choice (test (compares comparisons.Equal (value_of 0) (int 3))) (braces (does (evaluates (member
-      sequence.VECTOR_CLEAR 0 [])) ∷ continue ∷ [])) ∷ does (evaluates (member sequence.VECTOR_PUSH_BACK 0 (int 3 ∷ []))) ∷ [])) ∷
+    sequence.VECTOR_CLEAR 0 [])) ∷ continue ∷ [])) ∷ does (evaluates (member sequence.VECTOR_PUSH_BACK 0 (int 3 ∷ []))) ∷ [])) ∷
     [])
 
-cleared_and_continued_has_one : is_outline cleared_and_continued nowhere 
+cleared_and_continued_has_one : is_outline cleared_and_continued nowhere
     (loops ((lower_bound 0 (pos 3) ∷ upper_bound 0 (pos 3) ∷ []) ∷ []))
     ≡ true
 unfolding is_outline

@@ -109,7 +109,7 @@ dangling = alone (numbers_to 4)
     does (evaluates (member_at (on 5) sequence.VECTOR_PUSH_BACK 0 (int 1 ∷ []))) ∷ does (assigns (star_at (on 6) (iterator 0)) (int 3)) ∷
     does (prints (number (held (member_element_at (on 7) sequence.VECTOR_FRONT 0 [])) ∷ [])) ∷
     does (prints (number (algorithm_at (on 8) algorithms.STD_BINARY_SEARCH (member_at (on 8) sequence.VECTOR_BEGIN 1 [] ∷ member_at (on 8)
-      sequence.VECTOR_END 1 [] ∷ int 1 ∷ [])) ∷ [])) ∷
+    sequence.VECTOR_END 1 [] ∷ int 1 ∷ [])) ∷ [])) ∷
     [])
 
 -- sizes stay, so `front` has what it needs; the search hasn't
@@ -134,9 +134,9 @@ summing = alone (negsuc 0 ∷ numbers_to 4)
     (declares (makes f.Vector (head_at (on 2) (callees.Row sequence.VECTOR_CONSTRUCTOR_LIST) None) (operands_from (int 1 ∷ int 2 ∷ []))) ∷
     declares (set_scalar t.Size (size_number 0)) ∷
     does (prints (number (held (member_element_at (on 4) sequence.VECTOR_SUBSCRIPT 0 (arithmetic o.Add t.Size here (value_of 0) (size_number 1)
-      ∷ []))) ∷ number (held (member_element_at (on 4) sequence.VECTOR_FRONT 0 [])) ∷ [])) ∷
+    ∷ []))) ∷ number (held (member_element_at (on 4) sequence.VECTOR_FRONT 0 [])) ∷ [])) ∷
     does (assigns (member_element_at (on 5) sequence.VECTOR_SUBSCRIPT 0 (arithmetic o.Add t.Size here (value_of 0) (size_number 1) ∷ [])) (int
-      3)) ∷
+    3)) ∷
     does (prints (number (held (member_element_at (on 6) sequence.VECTOR_FRONT 0 [])) ∷ [])) ∷ [])
 
 -- it is open at the read, the write and behind it
@@ -185,7 +185,7 @@ filling = alone (numbers_to 3)
     (declares (makes f.Vector (head_at (on 2) (callees.Row sequence.VECTOR_CONSTRUCTOR_LIST) None) (operands_from (int 1 ∷ []))) ∷
     declares (makes f.Vector (head_at (on 3) (callees.Row sequence.VECTOR_CONSTRUCTOR_LIST) None) (operands_from (int 1 ∷ []))) ∷
     does (evaluates (algorithm_at (on 4) algorithms.STD_FILL (member_at (on 4) sequence.VECTOR_BEGIN 0 [] ∷ member_at (on 4) sequence.VECTOR_END
-      0 [] ∷ int 2 ∷ []))) ∷
+    0 [] ∷ int 2 ∷ []))) ∷
     does (prints (number (held (member_element_at (on 5) sequence.VECTOR_FRONT 1 [])) ∷ [])) ∷
     does (prints (number (held (member_element_at (on 6) sequence.VECTOR_FRONT 0 [])) ∷ [])) ∷ [])
 
@@ -282,7 +282,7 @@ using = alone (numbers_to 4)
     does (assigns (reference 0 (on 6) 0 parts.Whole) (int 3)) ∷
     does (prints (number (held (member_element_at (on 7) sequence.VECTOR_FRONT 0 [])) ∷ [])) ∷
     does (prints (number (algorithm_at (on 8) algorithms.STD_BINARY_SEARCH (member_at (on 8) sequence.LIST_BEGIN 1 [] ∷ member_at (on 8)
-      sequence.LIST_END 1 [] ∷ int 1 ∷ [])) ∷ [])) ∷
+    sequence.LIST_END 1 [] ∷ int 1 ∷ [])) ∷ [])) ∷
     [])
 
 using_is_open : is_outline using (λ p. at_line 6 p || at_line 8 p) no_lists ≡ true

@@ -33,8 +33,8 @@ summing = alone (negsuc 0 ∷ numbers_to 2)
     (declares (makes f.Vector (head_at here (callees.Row sequence.VECTOR_CONSTRUCTOR_LIST) None) (operands_from (int 1 ∷ []))) ∷
     declares (set_scalar t.Int (int 0)) ∷
     range_for 0 taken.Value 0 here 0 (braces (does (updates o.Add t.Int t.Int here (scalar 0 here) (arithmetic o.Add t.Int here (value_of 1)
-      (held (member_element sequence.VECTOR_FRONT 0 [])))) ∷ does (evaluates (algorithm algorithms.STD_SORT (member sequence.VECTOR_BEGIN 0 [] ∷
-      member sequence.VECTOR_END 0 [] ∷ []))) ∷ [])) ∷
+    (held (member_element sequence.VECTOR_FRONT 0 [])))) ∷ does (evaluates (algorithm algorithms.STD_SORT (member sequence.VECTOR_BEGIN 0 [] ∷
+    member sequence.VECTOR_END 0 [] ∷ []))) ∷ [])) ∷
     [])
 
 -- what its body does to order and elements leaves the iterators that are hidden
@@ -89,7 +89,7 @@ abbrev copying : Typed
 copying = alone (numbers_to 1)
     (declares (makes f.Vector (head_at here (callees.Row sequence.VECTOR_CONSTRUCTOR) None) (operands_from [])) ∷
     range_for 0 taken.Value 0 here 0 (braces (declares (makes f.Vector (head_at here (callees.Row sequence.VECTOR_CONSTRUCTOR_COPY) None)
-      (operands_from (container 0 ∷ []))) ∷ [])) ∷
+    (operands_from (container 0 ∷ []))) ∷ [])) ∷
     [])
 
 copying_has_none : is_outline copying nowhere (loops ([] ∷ [])) ≡ false
@@ -109,8 +109,8 @@ abbrev writing : Typed
 writing = alone (negsuc 0 ∷ numbers_to 3)
     (declares (makes f.Vector (head_at here (callees.Row sequence.VECTOR_CONSTRUCTOR_LIST) None) (operands_from (int 1 ∷ []))) ∷
     range_for 0 taken.Reference 0 here 0 (braces (choice (test (compares comparisons.Equal (held (reference 2 here 0 parts.Whole)) (int 1)))
-      continue ∷ does (assigns (reference 2 here 0 parts.Whole) (held (member_element sequence.VECTOR_AT 0 (size_number 0 ∷ [])))) ∷ choice (test
-      (compares comparisons.Equal (held (reference 2 here 0 parts.Whole)) (int 2))) break ∷ [])) ∷
+    continue ∷ does (assigns (reference 2 here 0 parts.Whole) (held (member_element sequence.VECTOR_AT 0 (size_number 0 ∷ [])))) ∷ choice (test
+    (compares comparisons.Equal (held (reference 2 here 0 parts.Whole)) (int 2))) break ∷ [])) ∷
     [])
 
 writing_has_one : is_outline writing nowhere (loops ([] ∷ [])) ≡ true
@@ -128,7 +128,7 @@ doubling = alone (numbers_to 3)
     (declares (makes f.Map (head_at here (callees.Row associative.MAP_CONSTRUCTOR) None) (operands_from [])) ∷
     does (assigns (member_element associative.MAP_SUBSCRIPT 0 (int 1 ∷ [])) (int 2)) ∷
     range_for 0 taken.Reference 0 here 0 (does (updates o.Add t.Int t.Int here (reference 2 here 0 parts.Second) (held (member_element
-      associative.MAP_AT 0 (held (reference 2 here 0 parts.First) ∷ []))))) ∷
+    associative.MAP_AT 0 (held (reference 2 here 0 parts.First) ∷ []))))) ∷
     [])
 
 doubling_has_one : is_outline doubling nowhere (loops ((size_at_least 0 (pos 1) ∷ []) ∷ [])) ≡ true
@@ -144,7 +144,7 @@ abbrev indexing : Typed
 indexing = alone (numbers_to 2)
     (declares (makes f.Map (head_at here (callees.Row associative.MAP_CONSTRUCTOR) None) (operands_from [])) ∷
     range_for 0 taken.Reference 0 here 0 (does (assigns (member_element associative.MAP_SUBSCRIPT 0 (held (reference 2 here 0 parts.First) ∷
-      [])) (int 1))) ∷
+    [])) (int 1))) ∷
     [])
 
 indexing_has_none : is_outline indexing nowhere (loops ([] ∷ [])) ≡ false
@@ -168,7 +168,7 @@ printing = text_of (numbers_to 2) 1 (
     range_for 1 taken.Value 0 here 0 (does (evaluates (own_call 0 here (operands_from (container 0 ∷ []))))) ∷ []) ∷
     [])
 
-printing_has_one : is_outline printing nowhere 
+printing_has_one : is_outline printing nowhere
     (heads ((size_at_least 0 (pos 1) ∷ []) ∷ (size_at_least 0 (pos 1) ∷ []) ∷ []) ((size_at_least 0 (pos 1) ∷ []) ∷ [] ∷ []) ((size_at_least 0
     (pos 1) ∷ []) ∷ [] ∷ []))
     ≡ true

@@ -73,7 +73,7 @@ unreached = alone (negsuc 0 ∷ numbers_to 2)
     (declares (makes f.Vector (head_at here (callees.Row sequence.VECTOR_CONSTRUCTOR) None) (operands_from [])) ∷
     gives_back (Some (int 0)) ∷ does (evaluates (member sequence.VECTOR_POP_BACK 0 [])) ∷
     while 0 (test (compares comparisons.Equal (held (member_element sequence.VECTOR_FRONT 0 [])) (int 1))) (does (evaluates (member
-      sequence.VECTOR_POP_BACK 0 []))) ∷
+    sequence.VECTOR_POP_BACK 0 []))) ∷
     [])
 
 unreached_has_one : is_outline unreached nowhere (loops ([] ∷ [])) ≡ true
@@ -140,12 +140,12 @@ abbrev scoped : Typed
 scoped = alone (negsuc 0 ∷ numbers_to 3)
     (declares (makes f.Vector (head_at here (callees.Row sequence.VECTOR_CONSTRUCTOR_LIST) None) (operands_from (int 1 ∷ []))) ∷
     for 0 (declares_first (set_scalar t.Int (int 0))) (test (compares comparisons.Less (value_of 0) (int 2))) (Some (evaluates (up_int 0)))
-      (braces (declares (makes f.Vector (head_at here (callees.Row sequence.VECTOR_CONSTRUCTOR) None) (operands_from [])) ∷ for 1 (declares_first
-      (set_scalar t.Int (int 0))) (test (compares comparisons.Less (value_of 1) (int 2))) (Some (evaluates (up_int 1))) (does (evaluates (member
-      sequence.VECTOR_PUSH_BACK 1 (value_of 1 ∷ [])))) ∷ [])) ∷
+    (braces (declares (makes f.Vector (head_at here (callees.Row sequence.VECTOR_CONSTRUCTOR) None) (operands_from [])) ∷ for 1 (declares_first
+    (set_scalar t.Int (int 0))) (test (compares comparisons.Less (value_of 1) (int 2))) (Some (evaluates (up_int 1))) (does (evaluates (member
+    sequence.VECTOR_PUSH_BACK 1 (value_of 1 ∷ [])))) ∷ [])) ∷
     does (prints (number (held (member_element sequence.VECTOR_FRONT 0 [])) ∷ [])) ∷ [])
 
-scoped_has_one : is_outline scoped nowhere 
+scoped_has_one : is_outline scoped nowhere
     (loops ((size_at_least 0 (pos 1) ∷ lower_bound 0 (pos 0) ∷ []) ∷ (size_at_least 0 (pos 1) ∷ size_at_least 1 (pos 0) ∷ lower_bound 0 (pos 0) ∷
     lower_bound 1 (pos 0) ∷ []) ∷ []))
     ≡ true
@@ -153,7 +153,7 @@ unfolding is_outline
 scoped_has_one = refl
 
 -- the inner vector isn't in scope at the outer head
-scoped_is_out_of_scope : is_outline scoped nowhere 
+scoped_is_out_of_scope : is_outline scoped nowhere
     (loops ((size_at_least 0 (pos 1) ∷ size_at_least 1 (pos 0) ∷ []) ∷ [] ∷ []))
     ≡ false
 unfolding is_outline
@@ -176,13 +176,13 @@ generated = alone (negsuc 0 ∷ numbers_to 4)
     (declares (makes f.Vector (head_at here (callees.Row sequence.VECTOR_CONSTRUCTOR) None) (operands_from [])) ∷
     declares (unset_scalar t.Int) ∷ while 0 (read (0 ∷ [])) (does (evaluates (member sequence.VECTOR_PUSH_BACK 0 (value_of 0 ∷ [])))) ∷
     for 1 (declares_first (set_iterator (member sequence.VECTOR_BEGIN 0 []))) (test (differ (iterator 0) (member sequence.VECTOR_END 0 [])))
-      None (braces (choice_else (test (compares comparisons.Equal (held (star (iterator 0))) (int 1))) (does (moves_to 0 (member
-      sequence.VECTOR_ERASE 0 (iterator 0 ∷ [])))) (does (evaluates (up 0))) ∷ [])) ∷
+    None (braces (choice_else (test (compares comparisons.Equal (held (star (iterator 0))) (int 1))) (does (moves_to 0 (member
+    sequence.VECTOR_ERASE 0 (iterator 0 ∷ [])))) (does (evaluates (up 0))) ∷ [])) ∷
     for 2 (declares_first (set_scalar t.Size (size_number 0))) (test (compares comparisons.Less (value_of 1) (member sequence.VECTOR_SIZE 0
-      []))) (Some (evaluates (up_size 1))) (does (assigns (member_element sequence.VECTOR_SUBSCRIPT 0 (value_of 1 ∷ [])) (int 2))) ∷
+    []))) (Some (evaluates (up_size 1))) (does (assigns (member_element sequence.VECTOR_SUBSCRIPT 0 (value_of 1 ∷ [])) (int 2))) ∷
     does (evaluates (algorithm algorithms.STD_SORT (member sequence.VECTOR_BEGIN 0 [] ∷ member sequence.VECTOR_END 0 [] ∷ []))) ∷
     choice (test (algorithm algorithms.STD_BINARY_SEARCH (member sequence.VECTOR_BEGIN 0 [] ∷ member sequence.VECTOR_END 0 [] ∷ int 3 ∷ [])))
-      (does (evaluates (member sequence.VECTOR_PUSH_BACK 0 (int 3 ∷ [])))) ∷
+    (does (evaluates (member sequence.VECTOR_PUSH_BACK 0 (int 3 ∷ [])))) ∷
     [])
 
 generated_has_one : is_outline generated nowhere (loops ([] ∷ (inside 0 0 ∷ []) ∷ [] ∷ [])) ≡ true
