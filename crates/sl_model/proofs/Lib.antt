@@ -69,5 +69,9 @@ pub mod TypedExpressions
 pub mod TypedStatements
 pub mod TypedVariables
 pub mod TypedUses
+-- ## Facts where no way comes
+pub mod FactsIdle
+pub mod EffectsIdle
+pub mod CarryIdle
 -- ## Worked examples
 pub mod Examples
