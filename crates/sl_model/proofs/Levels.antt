@@ -229,7 +229,8 @@ new_scalar-now L n ty z s h = subst (λ (l : Level). Now (with_scalar l) n (new_
     more = length-append s.scalars (record { ty = ty; value = z } ∷ [])
 
 -- a new iterator or reference that holds a number that was used comes into scope
-pub new_pointer-now : (L : Level) (n : ℕ) (p : Pointer) (s : State) → mark_in p < s.memory.fresh → Now L n s → Now (with_iterator L) n (new_pointer p s)
+pub new_pointer-now : (L : Level) (n : ℕ) (p : Pointer) (s : State) → mark_in p < s.memory.fresh → Now L n s
+    → Now (with_iterator L) n (new_pointer p s)
 new_pointer-now L n p s low h = subst (λ (l : Level). Now (with_iterator l) n (new_pointer p s)) h.level (record {
   good = record {
     sound = h.good.sound;
