@@ -132,8 +132,8 @@ module _ (w : World) (g : Signature) (lib_keeps : KeepsGood g.shape g.makes w.li
         (new_scalar t.Int None (range_start (cont_of s x) s))))
         (λ s j. scope_from 0 s (over_range w at name (length s.iters) (length s.iters + 1) (takes_number at (length s.scalars) (exec w a))
         (new_scalar t.Int None (range_start (cont_of s x) s))) L (level_range taken.Value L) (numbered_above L n) j
-        (at_range w g lib_keeps shape (level_range taken.Value L) n at name (length s.iters) (length s.iters + 1) (takes_number at (length s.scalars) (exec w a))
-        (first_hidden L s j) (second_hidden L s j) i.1.0
+        (at_range w g lib_keeps shape (level_range taken.Value L) n at name (length s.iters) (length s.iters + 1)
+        (takes_number at (length s.scalars) (exec w a)) (first_hidden L s j) (second_hidden L s j) i.1.0
         (at_takes_number shape (level_range taken.Value L) n at (length s.scalars) (exec w a)
         (λ s l. part_stays shape (level_range taken.Value L) n a (exec w a s) i.1.1.0
         (at_exec a (level_range taken.Value L) s (subst (λ (c : Counts). InStmt g shape c a) (sym (counts_range taken.Value L)) i.1.1.1) l)))

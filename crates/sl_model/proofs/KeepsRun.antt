@@ -11,10 +11,10 @@ use Rattle.sl_syntax.specs.declared.typed.callee.Callee.{Callee}
 use Rattle.sl_syntax.specs.declared.typed.element.Taken.TheVariants as taken
 use Rattle.sl_syntax.specs.declared.typed.head.Head.{Head}
 use Rattle.sl_syntax.specs.declared.typed.operator.Operator.TheVariants as operators
-use Rattle.sl_syntax.specs.Typed.{Expr, Left, Cond, read, not_read, test, always, Printed, text, endline, number as printed_number, Effect, reads, Operands}
+use Rattle.sl_syntax.specs.Typed.{Expr, Left, Cond, read, not_read, test, always, Printed, text, endline, number as printed_number, Effect, reads}
 use Rattle.sl_syntax.specs.Typed.{prints, evaluates, assigns, updates, moves_to, Declaration, unset_scalar, set_scalar, set_iterator, binds_reference}
 use Rattle.sl_syntax.specs.Typed.{makes, First, no_first, declares_first, does_first, Stmt, block, declares, choice, choice_else, while, for}
-use Rattle.sl_syntax.specs.Typed.{range_for, break, continue, gives_back, does, Stmts, no_more, followed}
+use Rattle.sl_syntax.specs.Typed.{Operands, range_for, break, continue, gives_back, does, Stmts, no_more, followed}
 use Rattle.sl_model.specs.Containers.{Memory, Part, cont_at, refers, write_element, end_from}
 use Rattle.sl_model.specs.Values.{Value, nothing, number, iterator, pair, two, scalar_at, container_at, element_at, Args}
 use Rattle.sl_model.specs.State.{State, scalar_of, iter_of, cont_of, set_scalar_at, set_iterator_at, new_scalar, new_iterator, new_container}
@@ -306,7 +306,8 @@ module _ (I : Memory → Type 0) where
       in_exec (range_for l taken.Reference x at name a) s h =
           in_tick (λ s. scoped 0 s (over_range w at name (length s.iters) (length s.iters + 1) (takes_element at (exec w a))
           (range_start (cont_of s x) s)))
-          (λ s i. in_scope 0 s (over_range w at name (length s.iters) (length s.iters + 1) (takes_element at (exec w a)) (range_start (cont_of s x) s))
+          (λ s i. in_scope 0 s (over_range w at name (length s.iters) (length s.iters + 1) (takes_element at (exec w a))
+          (range_start (cont_of s x) s))
           (in_range at name (length s.iters) (length s.iters + 1) (takes_element at (exec w a)) (in_takes_element at (exec w a) (in_exec a))
           (range_start (cont_of s x) s) i)) s h
       in_exec break s h = in_tick Broke (λ s i. i) s h

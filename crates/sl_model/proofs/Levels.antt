@@ -66,10 +66,13 @@ held_set ps at p n h low = subst (λ (l : List ℕ). AreBelow l n) (sym (map_set
 held_take : (k : ℕ) (ps : List Pointer) (n : ℕ) → AreBelow (map mark_in ps) n → AreBelow (map mark_in (take k ps)) n
 held_take k ps n h = subst (λ (l : List ℕ). AreBelow l n) (take-map mark_in k ps) (below_take k (map mark_in ps) n h)
 
--- what is held at a location that is there was used
+-- the number at a location that is there is among those that are held
+pub held_there : (s : State) (at : ℕ) → at < length s.iters → slice_get (map mark_in s.iters) at ≡ Some (stamp_held s at)
+held_there s at low = get_map mark_in s.iters at (pointer_at s at) (slice_get-get_or s.iters at (iterator_at 0) low)
+
+-- what is held there was used
 pub held_used : (s : State) (at : ℕ) → IsGood s → at < length s.iters → stamp_held s at < s.memory.fresh
-held_used s at good low =
-    good.held at (stamp_held s at) (get_map mark_in s.iters at (pointer_at s at) (slice_get-get_or s.iters at (iterator_at 0) low))
+held_used s at good low = good.held at (stamp_held s at) (held_there s at low)
 
 -- two levels are one
 levels : (f : Frame) (a b c x y z : ℕ) → a ≡ x → b ≡ y → c ≡ z → level_with f a b c ≡ level_with f x y z
@@ -229,7 +232,8 @@ new_scalar-now L n ty z s h = subst (λ (l : Level). Now (with_scalar l) n (new_
     more = length-append s.scalars (record { ty = ty; value = z } ∷ [])
 
 -- a new iterator or reference that holds a number that was used comes into scope
-pub new_pointer-now : (L : Level) (n : ℕ) (p : Pointer) (s : State) → mark_in p < s.memory.fresh → Now L n s → Now (with_iterator L) n (new_pointer p s)
+pub new_pointer-now : (L : Level) (n : ℕ) (p : Pointer) (s : State) → mark_in p < s.memory.fresh → Now L n s
+    → Now (with_iterator L) n (new_pointer p s)
 new_pointer-now L n p s low h = subst (λ (l : Level). Now (with_iterator l) n (new_pointer p s)) h.level (record {
   good = record {
     sound = h.good.sound;

@@ -23,8 +23,8 @@ use Rattle.sl_syntax.specs.Typed.{Expr, literal, held, iterator as iterator_held
 use Rattle.sl_syntax.specs.Typed.{comparison, increment, move, call, own_call, first, second, container, handed_scalar, Left, scalar, reference}
 use Rattle.sl_syntax.specs.Typed.{element, Operands, none, with}
 use Rattle.sl_model.specs.Containers.{Part, key_part, value_part, element as element_of, write_element, locate_refer, refer_killer}
-use Rattle.sl_model.specs.Values.{Value, number, iterator, pair, two, scalar_at, container_at, element_at, LibOut, Lib, trapped, thrown, faulted, gives}
-use Rattle.sl_model.specs.Values.{unbuilt}
+use Rattle.sl_model.specs.Values.{Value, number, iterator, pair, two, scalar_at, container_at, element_at, LibOut, Lib, trapped, thrown, faulted}
+use Rattle.sl_model.specs.Values.{gives, unbuilt}
 use Rattle.sl_model.specs.Ends.{End, Trapped, Language, Thrown, NoMeaning, trap_of, use_trap}
 use Rattle.sl_model.specs.State.{Pointer, iterator_at, reference_to, State, scalar_of, cont_of, iter_of, scalar_value, set_scalar_at}
 use Rattle.sl_model.specs.State.{set_iterator_at, pointer_at, stamp_of}

@@ -20,8 +20,8 @@ use Rattle.sl_syntax.specs.declared.typed.element.Taken.TheVariants as taken
 use Rattle.sl_syntax.specs.declared.typed.head.Head.{Head}
 use Rattle.sl_syntax.specs.declared.typed.operator.Operator.{Operator}
 use Rattle.sl_syntax.specs.declared.typed.operator.Operator.TheVariants as operators
-use Rattle.sl_syntax.specs.Typed.{Expr, held, scalar, reference, Cond, read, not_read, test, always, Printed, text, endline, number as printed_number, Effect}
-use Rattle.sl_syntax.specs.Typed.{reads, prints, evaluates, assigns, updates, moves_to, Declaration, unset_scalar, set_scalar, set_iterator}
+use Rattle.sl_syntax.specs.Typed.{Expr, held, scalar, reference, Cond, read, not_read, test, always, Printed, text, endline, number as printed_number}
+use Rattle.sl_syntax.specs.Typed.{Effect, reads, prints, evaluates, assigns, updates, moves_to, Declaration, unset_scalar, set_scalar, set_iterator}
 use Rattle.sl_syntax.specs.Typed.{binds_reference, makes, First, no_first, declares_first, does_first, Stmt, block, declares, choice, choice_else}
 use Rattle.sl_syntax.specs.Typed.{while, for, range_for, break, continue, gives_back, does, Stmts, no_more, followed}
 use Rattle.sl_model.specs.Containers.{Part, cont_at, refers, begin_of, end_of}

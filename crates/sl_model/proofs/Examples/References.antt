@@ -12,8 +12,8 @@ use Rattle.sl_syntax.specs.declared.typed.element.Taken.TheVariants as taken
 use Rattle.sl_syntax.specs.declared.typed.operator.Operator.TheVariants as operators
 use Rattle.sl_syntax.specs.declared.typed.step.Fix.TheVariants.{Prefix}
 use Rattle.sl_syntax.specs.declared.typed.step.Step.TheVariants.{Up}
-use Rattle.sl_syntax.specs.Typed.{Left, literal, held, iterator, increment, move, call, scalar, reference, element, none, with, text, number, prints, evaluates}
-use Rattle.sl_syntax.specs.Typed.{assigns, updates, set_iterator, binds_reference, makes, block, declares, range_for, does, Stmt, Typed}
+use Rattle.sl_syntax.specs.Typed.{Left, literal, held, iterator, increment, move, call, scalar, reference, element, none, with, text, number, prints}
+use Rattle.sl_syntax.specs.Typed.{evaluates, assigns, updates, set_iterator, binds_reference, makes, block, declares, range_for, does, Stmt, Typed}
 use Rattle.sl_specs.specs.declared.rows.sequences.TheConstants as sequences
 use Rattle.sl_specs.specs.declared.rows.associative.TheConstants as keyed
 use Rattle.sl_specs.specs.Table.{table}
