@@ -9,7 +9,7 @@ use Rattle.sl_syntax.specs.Typed.{call, Left, scalar, reference, element}
 use Rattle.sl_syntax.specs.Typed.{Operands, none, with, Cond, read, not_read, test, always, Printed, text, endline, number as printed_number}
 use Rattle.sl_syntax.specs.Typed.{Effect, reads, prints, evaluates, assigns, updates, moves_to, Declaration, unset_scalar, set_scalar}
 use Rattle.sl_syntax.specs.Typed.{set_iterator, binds_reference, makes}
-use Rattle.sl_model.specs.FactOperands.{FactScope, fresh_iterator, fresh_scalar, iterator_of, is_number, end_of, row_of}
+use Rattle.sl_model.specs.FactOperands.{FactScope, fresh_iterator, fresh_scalar, iterator_of, is_number, end_of, table_row}
 use Rattle.sl_model.specs.FactRules.{bind_reference}
 use Rattle.sl_model.specs.Facts.{copy_iterator, forget_scalar}
 use Rattle.sl_model.specs.FactsOfContainers.{erase_tail, erase_at, erase_at_itself, insert_at}
@@ -58,7 +58,7 @@ held_idle s (element h ops) = evaluation_idle s (held (element h ops))
 
 expression_effect_idle : (s : FactScope) (e : Expr) → IsIdleStep (whole_expression s e)
 expression_effect_idle s (held l) = held_idle s l
-expression_effect_idle s (call h ops) = whole_idle s h ops (row_of h.callee) h.object (evaluation_idle s (call h ops))
+expression_effect_idle s (call h ops) = whole_idle s h ops (table_row h.callee) h.object (evaluation_idle s (call h ops))
 expression_effect_idle s e = evaluation_idle s e
 
 takes_idle : (s : FactScope) (it : ℕ) (e : Expr) → IsIdleStep (takes_iterator s it e)
@@ -82,7 +82,7 @@ back_idle s it h (with (iterator jt) rest) (Some x) (Some r) i = if_idle (jt == 
 back_idle s it h ops x r i = i
 
 moves_idle : (s : FactScope) (it : ℕ) (e : Expr) → IsIdleStep (moves_step s it e)
-moves_idle s it (call h ops) = back_idle s it h ops h.object (row_of h.callee) (takes_idle s it (call h ops))
+moves_idle s it (call h ops) = back_idle s it h ops h.object (table_row h.callee) (takes_idle s it (call h ops))
 moves_idle s it e = takes_idle s it e
 
 assigns_idle : (s : FactScope) (l : Left) (e : Expr) → IsIdleStep (assigns_step s l e)
@@ -118,7 +118,7 @@ rule_of_declaration_idle s (set_scalar ty e) = then_idle (evaluation_idle s e) (
 rule_of_declaration_idle s (set_iterator e) = takes_idle s (fresh_iterator s 0) e
 rule_of_declaration_idle s (binds_reference h ops) =
     then_idle (operands_idle s 1 ops) (rule_idle h.place (bind_reference (fresh_iterator s 0) (element_rule s 1 h ops)))
-rule_of_declaration_idle s (makes form h ops) = then_idle (operands_idle s 1 ops) (rule_idle h.place (makes_rule s form ops (row_of h.callee)))
+rule_of_declaration_idle s (makes form h ops) = then_idle (operands_idle s 1 ops) (rule_idle h.place (makes_rule s form ops (table_row h.callee)))
 
 pub declaration_idle : (s : FactScope) (d : Declaration) → IsIdleStep (declaration_step s d)
 declaration_idle s d = then_idle (rule_of_declaration_idle s d) (changes_idle (within (after_declaration d s)))

@@ -66,6 +66,6 @@ pub record Covers (names : List (List ℕ)) (r : List Warning) (t : Trap) : Type
 abbrev pub Reports : Typed → List Warning → Type 0
 Reports p r = (t : Trap) → CanTrap p t → Covers p.names r t
 
--- no run meets what has no meaning yet, as a call that the library doesn't have
+-- no run meets what has no meaning, as a call whose operands are none of its row's
 abbrev pub HasMeaning : Typed → Type 0
 HasMeaning p = (input : List ℤ) (picks : List ℕ) (steps : ℕ) (place : Place) → (run p input picks steps).end ≢ NoMeaning place

@@ -56,11 +56,11 @@ abbrev pub form_at : FactScope → ℕ → Option Form
 form_at s x = option_map (λ (k : ContainerSort). k.form) (slice_get s.containers x)
 
 -- the row of what is called
-unfoldable pub row_of : Callee → Option Row
+unfoldable pub table_row : Callee → Option Row
 unfolding table
-row_of (callees.Row n) = slice_get table n
-row_of (callees.Appends n) = slice_get table n
-row_of callee = None
+table_row (callees.Row n) = slice_get table n
+table_row (callees.Appends n) = slice_get table n
+table_row callee = None
 
 -- the row is a member call of this name, on this object
 abbrev pub object_of : Call → Option Row → Option ℕ → Option ℕ
@@ -69,7 +69,7 @@ object_of name r x = None
 
 -- the container that a member call of this name is on
 abbrev pub called_on : Call → Expr → Option ℕ
-called_on name (call h ops) = object_of name (row_of h.callee) h.object
+called_on name (call h ops) = object_of name (table_row h.callee) h.object
 called_on name e = None
 
 -- `c.begin()`, `c.end()`, `c.size()` and `c.empty()`

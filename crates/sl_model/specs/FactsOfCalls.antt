@@ -21,7 +21,7 @@ use Rattle.sl_syntax.specs.Typed.{Operands, none, with}
 use Rattle.sl_model.specs.Facts.{Facts, inside, sorted}
 use Rattle.sl_model.specs.FactRules.{FactRule, freely, no_rule, drop_container, drop_containers}
 use Rattle.sl_model.specs.FactRules.{drop_written}
-use Rattle.sl_model.specs.FactOperands.{FactScope, container_count, fresh_iterator, form_at, row_of, iterator_of, operand_at}
+use Rattle.sl_model.specs.FactOperands.{FactScope, container_count, fresh_iterator, form_at, table_row, iterator_of, operand_at}
 use Rattle.sl_model.specs.FactOperands.{operand_count, container_operands, WrittenRange, range_of, whole_of, more_than_size}
 use Rattle.sl_model.specs.FactsOfIterators.{begin, end, found, step_forward, step_back}
 use Rattle.sl_model.specs.FactsOfContainers.{push, pop, clear, reserve_more, sort}
@@ -188,7 +188,7 @@ row_rule s t ops (Some x) r (Some form) = member_rule s t x form r ops r.call
 
 -- a call that gives no element and moves no variable
 abbrev pub call_rule : FactScope → ℕ → Head → Operands → FactRule
-call_rule s t h ops = elim (row_of h.callee) [
+call_rule s t h ops = elim (table_row h.callee) [
   | None ↦ no_rule true (λ F. F)
   | Some r ↦ elim h.callee [
     | callees.Row n ↦ row_rule s t ops h.object r r.form

@@ -17,7 +17,7 @@ use Rattle.sl_syntax.specs.Typed.{Printed, text, endline, number as printed_numb
 use Rattle.sl_syntax.specs.Typed.{Declaration, unset_scalar, set_scalar, set_iterator, binds_reference, makes}
 use Rattle.sl_model.specs.Facts.{Facts, forget_scalar, copy_iterator, copy_scalar}
 use Rattle.sl_model.specs.FactRules.{FactRule, bind_reference, no_rule, drop_container}
-use Rattle.sl_model.specs.FactOperands.{FactScope, container_count, fresh_iterator, fresh_scalar, row_of, literal_of, size_of, end_of, scalar_of}
+use Rattle.sl_model.specs.FactOperands.{FactScope, container_count, fresh_iterator, fresh_scalar, table_row, literal_of, size_of, end_of, scalar_of}
 use Rattle.sl_model.specs.FactOperands.{iterator_of, operand_count, whole_of, is_number}
 use Rattle.sl_model.specs.FactsOfNumbers.{set_literal, take_size}
 use Rattle.sl_model.specs.FactsOfContainers.{declare, erase_at, erase_at_itself, insert_at, erase_tail}
@@ -64,7 +64,7 @@ takes_position_and_element ls = false
 -- the operands of `std::unique(x.begin(), x.end())` or `std::remove(x.begin(), x.end(), e)`
 abbrev pub tail_of : ℕ → Expr → Option Operands
 tail_of x (call h ops) =
-    if (is_row_call c.Unique (row_of h.callee) || is_row_call c.Remove (row_of h.callee)) && is_number x (whole_of ops) then Some ops else None
+    if (is_row_call c.Unique (table_row h.callee) || is_row_call c.Remove (table_row h.callee)) && is_number x (whole_of ops) then Some ops else None
 tail_of x e = None
 
 -- `erase_tail`, behind the operands of the inner call, or another call
@@ -90,7 +90,7 @@ whole_call s h ops r object otherwise = otherwise
 abbrev pub whole_expression : FactScope → Expr → Step
 whole_expression s (held (scalar x at)) = no_step
 whole_expression s (held (reference r at name part)) = no_step
-whole_expression s (call h ops) = whole_call s h ops (row_of h.callee) h.object (evaluation s (call h ops))
+whole_expression s (call h ops) = whole_call s h ops (table_row h.callee) h.object (evaluation s (call h ops))
 whole_expression s e = evaluation s e
 
 -- an iterator takes the value of an expression
@@ -117,7 +117,7 @@ takes_back s it h ops object r otherwise = otherwise
 
 -- `it = e`
 abbrev pub moves_step : FactScope → ℕ → Expr → Step
-moves_step s it (call h ops) = takes_back s it h ops h.object (row_of h.callee) (takes_iterator s it (call h ops))
+moves_step s it (call h ops) = takes_back s it h ops h.object (table_row h.callee) (takes_iterator s it (call h ops))
 moves_step s it e = takes_iterator s it e
 
 -- a left side takes a value
@@ -170,7 +170,7 @@ declaration_rule s (set_scalar ty e) = then_step (evaluation s e) (changes (take
 declaration_rule s (set_iterator e) = takes_iterator s (fresh_iterator s 0) e
 declaration_rule s (binds_reference h ops) =
     then_step (operands s 1 ops) (rule_step h.place (bind_reference (fresh_iterator s 0) (element_rule s 1 h ops)))
-declaration_rule s (makes form h ops) = then_step (operands s 1 ops) (rule_step h.place (makes_rule s form ops (row_of h.callee)))
+declaration_rule s (makes form h ops) = then_step (operands s 1 ops) (rule_step h.place (makes_rule s form ops (table_row h.callee)))
 
 -- a declaration
 abbrev pub declaration_step : FactScope → Declaration → Step

@@ -23,7 +23,7 @@ use Rattle.sl_syntax.specs.declared.typed.step.Fix.TheVariants as fixes
 use Rattle.sl_syntax.specs.Typed.{Expr, Operands, none, with}
 use Rattle.sl_model.specs.Facts.{Facts, inside, without, no_container, forget_iterator, copy_iterator}
 use Rattle.sl_model.specs.FactRules.{FactRule, ElementRule, no_need, no_outline, no_rule, is_on_order}
-use Rattle.sl_model.specs.FactOperands.{FactScope, container_count, fresh_iterator, row_of, object_of, begin_of, end_of, size_of, literal_of}
+use Rattle.sl_model.specs.FactOperands.{FactScope, container_count, fresh_iterator, table_row, object_of, begin_of, end_of, size_of, literal_of}
 use Rattle.sl_model.specs.FactOperands.{variable_of, scalar_of, iterator_of}
 use Rattle.sl_model.specs.FactsOfIterators.{step_forward, step_back, access}
 use Rattle.sl_model.specs.FactsOfNumbers.{test_literal, opposite, turned, test_below_size, test_not_size, test_empty, test_not_end, test_not_begin}
@@ -70,7 +70,7 @@ row_element s t ops object r = element_elsewhere
 -- a call that gives an element; t numbers its first operand
 abbrev pub element_rule : FactScope → ℕ → Head → Operands → ElementRule
 element_rule s t h ops = elim h.callee [
-  | callees.Row n ↦ row_element s t ops h.object (row_of h.callee)
+  | callees.Row n ↦ row_element s t ops h.object (table_row h.callee)
   | callees.Appends n ↦ element_elsewhere
   | callees.Operator o ↦ access (container_count s) (iterator_at s t ops 0)
   | callees.Hidden o ↦ element_elsewhere
@@ -142,7 +142,7 @@ operator_test s t ops o = no_test
 -- a test by a call of the library: of iterators, or `x.empty()`; t numbers its first operand
 abbrev pub call_test : FactScope → ℕ → Head → Operands → Option FactTest
 call_test s t h ops = elim h.callee [
-  | callees.Row n ↦ elim (object_of c.Empty (row_of h.callee) h.object) [ None ↦ None | Some x ↦ Some (tells_false no_need (test_empty x)) ]
+  | callees.Row n ↦ elim (object_of c.Empty (table_row h.callee) h.object) [ None ↦ None | Some x ↦ Some (tells_false no_need (test_empty x)) ]
   | callees.Appends n ↦ None
   | callees.Operator o ↦ Some (operator_test s t ops o)
   | callees.Hidden o ↦ None

@@ -11,7 +11,7 @@ use Rattle.std.specs.List.{list_any, list_all}
 use Rattle.sl_syntax.specs.declared.typed.parameter.ParameterKind.{ParameterKind}
 use Rattle.sl_syntax.specs.declared.typed.parameter.ParameterKind.TheVariants as parameter
 use Rattle.sl_syntax.specs.Typed.{Expr, container, Operands, none, with, Typed}
-use Rattle.sl_model.specs.FactOperands.{row_of}
+use Rattle.sl_model.specs.FactOperands.{table_row}
 use Rattle.sl_model.specs.FactsOfExpressions.{parameters_of}
 use Rattle.sl_model.specs.Sources.{Declared, Origin, from_container, from_iterator, Flow, CallSite, Walked, origins, origins_of_all, calls_in}
 use Rattle.sl_model.specs.Sources.{calls_in_left, calls_in_all}
@@ -172,7 +172,7 @@ with_new there (a ∷ more) = if list_any (same_copy a) there then with_new ther
 
 -- the pairs to which so many calls in turn lead from `main`, which has the empty pattern
 unfoldable pub copies_after : ℕ → Typed → List Copy
-unfolding row_of origins origins_of_all calls_in calls_in_left calls_in_all walk_stmt walk_stmts sources_along
+unfolding table_row origins origins_of_all calls_in calls_in_left calls_in_all walk_stmt walk_stmts sources_along
 copies_after zero p = record { function = p.main; pattern = [] } ∷ []
 copies_after (suc n) p = with_new (copies_after n p) (flat_map (called_by p) (copies_after n p))
 

@@ -7,7 +7,7 @@
 use Rattle.std.specs.Prelude.{ℕ, ◌+◌, ◌==◌, Bool, true, false, not, ◌&&◌, ◌||◌, List, [], ◌∷◌, Some, IsTrue}
 use Rattle.sl_syntax.specs.Typed.{Function, Typed}
 use Rattle.sl_model.specs.Facts.{Fact, given_by}
-use Rattle.sl_model.specs.FactOperands.{FactScope, row_of}
+use Rattle.sl_model.specs.FactOperands.{FactScope, table_row}
 use Rattle.sl_model.specs.FactSteps.{Given, Places, Heads, meet, covers}
 use Rattle.sl_model.specs.FactsOfExpressions.{expression, left_side, stepped, operands}
 use Rattle.sl_model.specs.FactScopes.{no_scope, after_parameters, speaks, all_of_references}
@@ -49,7 +49,7 @@ functions_carry p o h n (f ∷ fs) =
 
 -- the lists are an outline of the text that is open at these places
 unfoldable pub is_outline : Typed → Places → Heads → Bool
-unfolding row_of expression left_side stepped operands leaves_in leaves_in_left leaves_in_all leaves_in_stmt leaves_in_stmts carry carry_all
+unfolding table_row expression left_side stepped operands leaves_in leaves_in_left leaves_in_all leaves_in_stmt leaves_in_stmts carry carry_all
 is_outline p o h = functions_carry p o h 0 p.functions
 
 -- no place

@@ -17,7 +17,7 @@ use Rattle.sl_syntax.specs.Typed.{Operands, none, with, Cond, test, Printed, tex
 use Rattle.sl_syntax.specs.Typed.{Effect, reads, prints, evaluates, assigns, updates, moves_to, Declaration, unset_scalar, set_scalar}
 use Rattle.sl_syntax.specs.Typed.{set_iterator, binds_reference, makes, First, no_first, declares_first, does_first, Stmt, block, declares}
 use Rattle.sl_syntax.specs.Typed.{choice, choice_else, while, for, range_for, break, continue, gives_back, does, Stmts, no_more, followed, Typed}
-use Rattle.sl_model.specs.FactOperands.{row_of}
+use Rattle.sl_model.specs.FactOperands.{table_row}
 use Rattle.sl_model.specs.FactsOfExpressions.{parameters_of}
 
 -- the container, the text, and whether `[]` may stand on it
@@ -46,7 +46,7 @@ only_reads w name = false
 abbrev pub is_fine_call : Watched → Head → Bool
 is_fine_call w h = elim h.object [
   | None ↦ true
-  | Some x ↦ if x == w.container then elim (row_of h.callee) [ None ↦ false | Some r ↦ only_reads w r.call ] else true
+  | Some x ↦ if x == w.container then elim (table_row h.callee) [ None ↦ false | Some r ↦ only_reads w r.call ] else true
 ]
 
 -- an operand is another container, or none

@@ -18,7 +18,7 @@ use Rattle.sl_syntax.specs.Typed.{Expr, literal, held, iterator, convert, negate
 use Rattle.sl_syntax.specs.Typed.{increment, move, call, own_call, first, second, container, handed_scalar, Left, scalar, reference, element}
 use Rattle.sl_syntax.specs.Typed.{Operands, none, with, Printed, text, endline, number as printed_number}
 use Rattle.sl_syntax.specs.Typed.{Typed}
-use Rattle.sl_model.specs.FactOperands.{row_of}
+use Rattle.sl_model.specs.FactOperands.{table_row}
 use Rattle.sl_model.specs.FactsOfExpressions.{parameters_of}
 
 -- what is declared at a place: for each number in scope the container's place in the order of declarations, and likewise the iterator's;
@@ -85,7 +85,7 @@ gives_iterator t = false
 
 -- what is called gives an iterator
 abbrev pub is_iterator_call : Callee → Bool
-is_iterator_call (callees.Row n) = elim (row_of (callees.Row n)) [ None ↦ false | Some r ↦ gives_iterator r.gives ]
+is_iterator_call (callees.Row n) = elim (table_row (callees.Row n)) [ None ↦ false | Some r ↦ gives_iterator r.gives ]
 is_iterator_call (callees.Operator operators.Add) = true
 is_iterator_call (callees.Operator operators.Subtract) = true
 is_iterator_call callee = false

@@ -19,7 +19,7 @@ use Rattle.sl_syntax.specs.Typed.{Expr, literal, held, convert, comparison, incr
 use Rattle.sl_syntax.specs.Typed.{none, with, operands_from, stmts_from, evaluates, prints, number, set_scalar, set_iterator, makes, Stmt}
 use Rattle.sl_syntax.specs.Typed.{block, declares, does, Function, Typed}
 use Rattle.sl_model.specs.Facts.{Fact, given_by}
-use Rattle.sl_model.specs.FactOperands.{row_of}
+use Rattle.sl_model.specs.FactOperands.{table_row}
 use Rattle.sl_model.specs.FactSteps.{Heads, Given, Places}
 use Rattle.sl_model.specs.FactsOfExpressions.{expression, left_side, stepped, operands}
 use Rattle.sl_model.specs.FactScopes.{no_scope}
@@ -229,7 +229,7 @@ statements constants all = carry_all (no_scope (alone constants all)) no_carry (
 
 -- from no facts, statements of a `main` without loops have what they need; behind them these facts are given, and those aren't
 unfoldable pub shows : List ℤ → List Stmt → List Fact → List Fact → Bool
-unfolding row_of expression left_side stepped operands leaves_in leaves_in_left leaves_in_all leaves_in_stmt leaves_in_stmts carry carry_all
+unfolding table_row expression left_side stepped operands leaves_in leaves_in_left leaves_in_all leaves_in_stmt leaves_in_stmts carry carry_all
 shows constants all given dropped =
     let read = statements constants all in
     let start = Some (given_by []) in
