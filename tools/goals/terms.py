@@ -6,7 +6,7 @@ from dataclasses import dataclass
 
 from .tokens import Place
 
-WIDTH = 148
+WIDTH = 140
 STEP = 2
 CHUNK = 90
 
@@ -191,7 +191,7 @@ def recorded(fields: Sequence[tuple[str, Term]], indent: int) -> list[str]:
     for name, value in fields:
         head = " " * (indent + STEP) + f"{name} = "
         inner = written(value, len(head), indent + STEP)
-        lines += [head + inner[0], *inner[1:]]
+        lines += [(head + inner[0]).rstrip(), *inner[1:]]
         lines[-1] += ";"
     return [*lines, " " * indent + "}"]
 

@@ -18,3 +18,6 @@ pub mod Covers
 pub mod Texts
 pub mod Shapes
 pub mod Scoped
+pub mod Lists
+pub mod EndText
+pub mod Self
