@@ -40,5 +40,9 @@ pub mod RunGood
 pub mod Longer
 pub mod LongerExec
 pub mod LongerCalls
+-- ## Lists of numbers
+pub mod ListWords
+pub mod ListParts
+pub mod ListLaws
 -- ## Worked examples
 pub mod Examples

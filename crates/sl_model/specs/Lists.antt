@@ -4,7 +4,7 @@
 -- them; it may be empty. A word of an input is an int in decimal: digits, or a `-` and digits. A word of a schedule is digits, and a number
 -- below 2 to the 32. Leading zeros may stand, and `-0` is an int. A list has at most 100,000 numbers and 4,194,304 bytes.
 -- Bytes that are no list are bad at the first byte at which they can't be completed to one any more; where all of them can be, at their end.
-use Rattle.std.specs.Prelude.{ℕ, ◌+◌, ◌<◌, ◌≤◌, ◌^◌, ◌==◌, ◌≡◌, nat_lt, nat_le, Bool, not, ◌&&◌, ◌||◌, IsTrue, IsFalse, if◌then◌else◌}
+use Rattle.std.specs.Prelude.{ℕ, ◌+◌, ◌<◌, ◌≤◌, ◌^◌, ◌==◌, ◌≡◌, nat_lt, nat_le, Bool, true, false, ◌&&◌, ◌||◌, IsTrue, IsFalse, if◌then◌else◌}
 use Rattle.std.specs.Prelude.{List, [], ◌∷◌, ◌++◌, length, map, take, drop, filter, Option, Some, None, option_map, is_some, ℤ, pos, neg_ℤ}
 use Rattle.std.specs.List.{list_all, slice_split}
 use Rattle.std.specs.Str.Parse.{digits_value}
@@ -22,7 +22,8 @@ LIST_BYTES = 4194304
 
 -- there is a byte
 abbrev pub is_filled : List ℕ → Bool
-is_filled word = not (length word == 0)
+is_filled [] = false
+is_filled (b ∷ bs) = true
 
 -- the words of bytes: what stands between blanks
 abbrev pub words_of : List ℕ → List (List ℕ)
