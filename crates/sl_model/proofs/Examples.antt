@@ -15,3 +15,7 @@ pub mod Told
 pub mod Rows
 pub mod Cleared
 pub mod Scoped
+pub mod ListEdges
+pub mod ListLimits
+pub mod EndTexts
+pub mod Generated

@@ -40,7 +40,7 @@ pub mod RunGood
 pub mod Longer
 pub mod LongerExec
 pub mod LongerCalls
--- ## Lists of numbers
+-- ## Lists of numbers: words, parts between blanks, and laws
 pub mod ListWords
 pub mod ListParts
 pub mod ListLaws

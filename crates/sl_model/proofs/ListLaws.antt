@@ -1,12 +1,17 @@
 -- Bytes hold one list, or are bad at one offset, and not both; and what begins a list is what some bytes more make one.
 use Rattle.std.proofs.Common.{◌≡◌, ℕ, zero, suc, ◌+◌, ◌≤◌, ◌<◌, nat_le, Bool, true, false, ◌&&◌, ◌||◌, List, [], ◌∷◌, ◌++◌, length, map, take, drop}
-use Rattle.std.proofs.Common.{Option, Some, None, is_some, refl, ap, sym, ◌∙◌, subst, arith, ◌⊎◌, inl, inr, ⊎_elim, append-nil, append_assoc, length-append}
+use Rattle.std.proofs.Common.{All, get_or, ℤ, nat_lt, if◌then◌else◌}
+use Rattle.std.proofs.Common.{Option, Some, None, is_some, refl, ap, sym, ◌∙◌, arith, ◌⊎◌, inl, inr, ⊎_elim, append-nil, append_assoc, length-append}
 use Rattle.std.proofs.Common.{take-take, take_all, take-append-drop, ap₂}
 use Rattle.std.specs.List.{list_all}
-use Rattle.std.proofs.lemmas.Bool.{cases_lt, cases_Bool, leb-true, le-leb}
-use Rattle.sl_model.specs.Lists.{LIST_NUMBERS, LIST_BYTES, words_of, ListOf, is_list, begins_list, BadAt, at_byte, at_end}
+use Rattle.std.proofs.lemmas.List.Elements.{All-nil, All-cons}
+use Rattle.std.proofs.lemmas.Bool.{cases_lt, cases_Bool, leb-true, le-leb, ltb-true}
+use Rattle.sl_base.specs.declared.scalar.Scalar.TheVariants as t
+use Rattle.sl_model.specs.Covers.{IsInput, IsSchedule}
+use Rattle.sl_model.specs.Numbers.{fits}
+use Rattle.sl_model.specs.Lists.{natural_of, signed_of, passing, int_of, pick_of, LIST_NUMBERS, LIST_BYTES, words_of, ListOf, is_list, begins_list, BadAt, at_byte, at_end}
 use Rattle.sl_model.proofs.ListWords.{Completes, and_left, and_right, and_both}
-use Rattle.sl_model.proofs.ListParts.{parts_of, counted, told, Within, Completed, glue_none, carried, completed_parts}
+use Rattle.sl_model.proofs.ListParts.{parts_of, counted, told, Within, glue_none, carried, completed_parts}
 
 or_cases : (a b : Bool) → (a || b) ≡ true → (a ≡ true) ⊎ (b ≡ true)
 or_cases true b h = inl refl
@@ -21,15 +26,17 @@ or_right true b h = refl
 or_right false b h = h
 
 -- a list, by its parts
-in_parts : {A : Type 0} (number : List ℕ → Option A) (bytes : List ℕ) → is_list number bytes ≡ true
+pub in_parts : {A : Type 0} (number : List ℕ → Option A) (bytes : List ℕ) → is_list number bytes ≡ true
     → (length bytes ≤ LIST_BYTES) × (counted (parts_of bytes) ≤ LIST_NUMBERS) × (told number (parts_of bytes) ≡ true)
 in_parts number bytes h =
-    let r : (nat_le (counted (parts_of bytes)) LIST_NUMBERS && told number (parts_of bytes)) ≡ true = and_right (nat_le (length bytes) LIST_BYTES) _ h in
-    (leb-true (length bytes) LIST_BYTES (and_left (nat_le (length bytes) LIST_BYTES) _ h),
-    leb-true (counted (parts_of bytes)) LIST_NUMBERS (and_left (nat_le (counted (parts_of bytes)) LIST_NUMBERS) _ r),
-    and_right (nat_le (counted (parts_of bytes)) LIST_NUMBERS) _ r)
+    let r : (nat_le (counted (parts_of bytes)) LIST_NUMBERS && told number (parts_of bytes)) ≡ true
+    = and_right (nat_le (length bytes) LIST_BYTES) _ h in (
+      leb-true (length bytes) LIST_BYTES (and_left (nat_le (length bytes) LIST_BYTES) _ h),
+      leb-true (counted (parts_of bytes)) LIST_NUMBERS (and_left (nat_le (counted (parts_of bytes)) LIST_NUMBERS) _ r),
+      and_right (nat_le (counted (parts_of bytes)) LIST_NUMBERS) _ r,
+    )
 
-from_parts : {A : Type 0} (number : List ℕ → Option A) (bytes : List ℕ) → length bytes ≤ LIST_BYTES → counted (parts_of bytes) ≤ LIST_NUMBERS
+pub from_parts : {A : Type 0} (number : List ℕ → Option A) (bytes : List ℕ) → length bytes ≤ LIST_BYTES → counted (parts_of bytes) ≤ LIST_NUMBERS
     → told number (parts_of bytes) ≡ true → is_list number bytes ≡ true
 from_parts number bytes short few h = and_both (nat_le (length bytes) LIST_BYTES) _ (le-leb (length bytes) LIST_BYTES short)
     (and_both (nat_le (counted (parts_of bytes)) LIST_NUMBERS) _ (le-leb (counted (parts_of bytes)) LIST_NUMBERS few) h)
@@ -77,7 +84,8 @@ all_some number (w ∷ ws) (x ∷ xs) e =
     (and_both (is_some (number w)) _ (ap is_some first) r.0, ap suc r.1)
 
 -- bytes that hold the list of some numbers hold a list
-pub list_is : {A : Type 0} (number : List ℕ → Option A) (bytes : List ℕ) (numbers : List A) → ListOf number bytes numbers → is_list number bytes ≡ true
+pub list_is : {A : Type 0} (number : List ℕ → Option A) (bytes : List ℕ) (numbers : List A) → ListOf number bytes numbers
+    → is_list number bytes ≡ true
 list_is number bytes numbers l =
     let r = all_some number (words_of bytes) numbers l.each in from_parts number bytes l.short (omega (arith, l.few, r.1)) r.0
 
@@ -106,13 +114,14 @@ numbers_of number [] h = ([], refl)
 numbers_of number (w ∷ ws) h = first_number number w ws (number w) refl h (numbers_of number ws)
 
 -- bytes that hold a list hold that of some numbers
-pub list_of : {A : Type 0} (number : List ℕ → Option A) (bytes : List ℕ) → is_list number bytes ≡ true → (numbers : List A) × ListOf number bytes numbers
+pub list_of : {A : Type 0} (number : List ℕ → Option A) (bytes : List ℕ) → is_list number bytes ≡ true
+    → (numbers : List A) × ListOf number bytes numbers
 list_of number bytes h =
     let r = in_parts number bytes h in
     let n = numbers_of number (words_of bytes) r.2 in
     (n.0, record { short = r.0; few = omega (arith, r.1, (all_some number (words_of bytes) n.0 n.1).1); each = n.1 })
 
-not_true : (b : Bool) → (b ≡ true → ⊥) → b ≡ false
+pub not_true : (b : Bool) → (b ≡ true → ⊥) → b ≡ false
 not_true b never = ⊎_elim (λ (h : b ≡ true). absurd (never h)) (λ (h : b ≡ false). h) (cases_Bool b)
 
 -- what begins a list behind a bad byte
@@ -133,14 +142,16 @@ bad_is_none number completes bytes _ (at_byte i below front bad) =
 bad_is_none number completes bytes _ (at_end front bad) = bad
 
 -- bytes are bad at one offset
-pub one_offset : {A : Type 0} (number : List ℕ → Option A) → Completes number → (bytes : List ℕ) (i j : ℕ) → BadAt number bytes i → BadAt number bytes j
-    → i ≡ j
+pub one_offset : {A : Type 0} (number : List ℕ → Option A) → Completes number → (bytes : List ℕ) (i j : ℕ) → BadAt number bytes i
+    → BadAt number bytes j → i ≡ j
 one_offset number completes bytes _ _ (at_byte i below front bad) (at_byte j below' front' bad') =
     ⊎_elim (λ (lt : i < j). absurd (none_behind number completes bytes i j lt bad front'))
     (λ (le : j ≤ i). ⊎_elim (λ (lt : j < i). absurd (none_behind number completes bytes j i lt bad' front)) (λ (ge : i ≤ j). omega (arith, le, ge))
     (cases_lt j i)) (cases_lt i j)
-one_offset number completes bytes _ _ (at_byte i below front bad) (at_end front' bad') = absurd (none_in_all number completes bytes i below bad front')
-one_offset number completes bytes _ _ (at_end front bad) (at_byte j below' front' bad') = absurd (none_in_all number completes bytes j below' bad' front)
+one_offset number completes bytes _ _ (at_byte i below front bad) (at_end front' bad') =
+    absurd (none_in_all number completes bytes i below bad front')
+one_offset number completes bytes _ _ (at_end front bad) (at_byte j below' front' bad') =
+    absurd (none_in_all number completes bytes j below' bad' front)
 one_offset number completes bytes _ _ (at_end front bad) (at_end front' bad') = refl
 
 -- from an offset before which the bytes begin a list, they begin one on to their end, or are bad
@@ -160,3 +171,28 @@ list_or_bad number bytes = ⊎_elim
     (cases_Bool (is_list number bytes)))
     (λ (bad : (i : ℕ) × BadAt number bytes i). inr bad)
     (from_offset number bytes (length bytes) 0 (omega arith) refl)
+
+-- a number that passed a test passes it
+passed_test : {A : Type 0} (test : A → Bool) (c : Bool) (x y : A) → test x ≡ c → (if c then Some x else None) ≡ Some y → test y ≡ true
+passed_test test true x y e h = let same : x ≡ y = cc in ap test (sym same) ∙ e
+passed_test test false x y e h = absurd (cc)
+
+passing_passes : {A : Type 0} (test : A → Bool) (n : Option A) (y : A) → passing test n ≡ Some y → test y ≡ true
+passing_passes test None y h = absurd (cc)
+passing_passes test (Some x) y h = passed_test test (test x) x y refl h
+
+all_pass : {A : Type 0} (test : A → Bool) (read : List ℕ → Option A) (words : List (List ℕ)) (numbers : List A)
+    → map (λ w. passing test (read w)) words ≡ map Some numbers → All (λ x. test x ≡ true) numbers
+all_pass test read words [] e = All-nil (λ x. test x ≡ true)
+all_pass test read [] (x ∷ xs) e = absurd (cc)
+all_pass test read (w ∷ ws) (x ∷ xs) e =
+    All-cons (λ x. test x ≡ true) x xs (passing_passes test (read w) x (cc)) (all_pass test read ws xs (cc))
+
+-- what an input holds a run can read
+pub input_of_list : (bytes : List ℕ) (numbers : List ℤ) → ListOf int_of bytes numbers → IsInput numbers
+input_of_list bytes numbers l = all_pass (fits t.Int) signed_of (words_of bytes) numbers l.each
+
+-- what a schedule holds a run can pick
+pub schedule_of_list : (bytes numbers : List ℕ) → ListOf pick_of bytes numbers → IsSchedule numbers
+schedule_of_list bytes numbers l =
+    λ k d h. ltb-true (get_or numbers k d) 4294967296 (all_pass (λ n. nat_lt n 4294967296) natural_of (words_of bytes) numbers l.each k d h)

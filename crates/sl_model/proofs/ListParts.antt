@@ -1,6 +1,6 @@
 -- The parts between blanks: those of bytes that some more make numbers are numbers, or a 0 makes them so.
-use Rattle.std.proofs.Common.{◌≡◌, ℕ, ◌+◌, ◌≤◌, ◌<◌, Bool, true, false, ◌&&◌, List, [], ◌∷◌, ◌++◌, length, filter, Option, count_by, cond, is_some}
-use Rattle.std.proofs.Common.{refl, ap, sym, ◌∙◌, subst, arith, ◌⊎◌, inl, inr, ⊎_elim, append-nil, append_assoc}
+use Rattle.std.proofs.Common.{◌≡◌, ℕ, ◌+◌, ◌≤◌, ◌<◌, Bool, true, false, List, [], ◌∷◌, ◌++◌, length, filter, Option, count_by, cond, is_some}
+use Rattle.std.proofs.Common.{refl, ap, ◌∙◌, subst, arith, ◌⊎◌, inl, inr, ⊎_elim, append-nil, append_assoc}
 use Rattle.std.specs.List.{list_all, slice_split, onto_first}
 use Rattle.std.proofs.lemmas.List.Splits.{length-slice_split}
 use Rattle.sl_base.specs.Bytes.{is_blank}
@@ -67,8 +67,8 @@ carried number {parts = parts} {longer = longer} {longer' = longer'} {whole' = w
     subst (λ (x : List (List ℕ)). Completed number x longer' whole') e (subst (λ (x : List (List ℕ)). Completed number parts x whole') f
     (subst (λ (x : List (List ℕ)). Completed number parts longer x) g r))
 
-one_word : {A : Type 0} (number : List ℕ → Option A) (b : ℕ) (w : List ℕ) (whole : List (List ℕ)) → is_some (number (b ∷ w)) ≡ true → 0 < counted whole
-    → Within number ((b ∷ w) ∷ []) whole
+one_word : {A : Type 0} (number : List ℕ → Option A) (b : ℕ) (w : List ℕ) (whole : List (List ℕ)) → is_some (number (b ∷ w)) ≡ true
+    → 0 < counted whole → Within number ((b ∷ w) ∷ []) whole
 one_word number b w whole h few = (and_both (is_some (number (b ∷ w))) true h refl, omega (arith, few))
 
 -- at the end of the bytes

@@ -1,6 +1,7 @@
 -- Words of lists: what some bytes more make a number, a 0 makes one too.
-use Rattle.std.proofs.Common.{◌≡◌, ℕ, zero, suc, leb, ◌+◌, ◌≤◌, ◌<◌, ◌==◌, Bool, true, false, ◌&&◌, if◌then◌else◌, List, [], ◌∷◌, ◌++◌, length, drop, take, Option, Some, None}
-use Rattle.std.proofs.Common.{is_some, option_map, ℤ, pos, negsuc, neg_ℤ, refl, ap, sym, ◌∙◌, subst, arith, ◌⊎◌, inl, inr, nat_lt, le_trans}
+use Rattle.std.proofs.Common.{◌≡◌, ℕ, zero, suc, leb, ◌≤◌, ◌<◌, ◌==◌, Bool, true, false, ◌&&◌, if◌then◌else◌, List, [], ◌∷◌, ◌++◌, length}
+use Rattle.std.proofs.Common.{Option, Some, None}
+use Rattle.std.proofs.Common.{is_some, option_map, ℤ, pos, neg_ℤ, refl, sym, ◌∙◌, subst, arith, ◌⊎◌, inl, inr, nat_lt}
 use Rattle.std.specs.List.{list_all}
 use Rattle.std.specs.Str.Parse.{digits_value}
 use Rattle.std.proofs.Math.Seq.{take-append_seam}
@@ -60,14 +61,15 @@ front_digits w x h = and_left (list_all is_digit w) (list_all is_digit x) (sym (
 -- digits behind others make a number no smaller
 front_value : (w x : List ℕ) → digits_value 10 w ≤ digits_value 10 (w ++ x)
 front_value w x =
-    subst (λ (front : List ℕ). digits_value 10 front ≤ digits_value 10 (w ++ x)) (take-append_seam w x) (digits_value-take-le 10 (w ++ x) (length w) (omega arith))
+    subst (λ (front : List ℕ). digits_value 10 front ≤ digits_value 10 (w ++ x)) (take-append_seam w x)
+    (digits_value-take-le 10 (w ++ x) (length w) (omega arith))
 
 -- the front of digits whose number passes is digits whose number passes
 shorter : (test : ℕ → Bool) → Falls test → (b : ℕ) (w x : List ℕ) → is_some (passing test (natural_of ((b ∷ w) ++ x))) ≡ true
     → is_some (passing test (natural_of (b ∷ w))) ≡ true
 shorter test falls b w x h =
     let r : (list_all is_digit ((b ∷ w) ++ x) ≡ true) × (test (digits_value 10 ((b ∷ w) ++ x)) ≡ true)
-        = passed test (list_all is_digit ((b ∷ w) ++ x)) (digits_value 10 ((b ∷ w) ++ x)) h in
+    = passed test (list_all is_digit ((b ∷ w) ++ x)) (digits_value 10 ((b ∷ w) ++ x)) h in
     passes test (list_all is_digit (b ∷ w)) (digits_value 10 (b ∷ w)) (front_digits (b ∷ w) x r.0)
     (falls (digits_value 10 (b ∷ w)) (digits_value 10 ((b ∷ w) ++ x)) (front_value (b ∷ w) x) r.1)
 
@@ -100,7 +102,8 @@ negative_falls : Falls (λ n. fits t.Int (neg_ℤ (pos n)))
 negative_falls zero n le h = refl
 negative_falls (suc m) zero le h = absurd (omega arith)
 negative_falls (suc m) (suc n) le h =
-    let r : n ≤ 2147483647 = leb-true n 2147483647 (and_left (leb n 2147483647) true h) in and_true (leb m 2147483647) (le-leb m 2147483647 (omega arith))
+    let r : n ≤ 2147483647 = leb-true n 2147483647 (and_left (leb n 2147483647) true h) in
+    and_true (leb m 2147483647) (le-leb m 2147483647 (omega arith))
 
 -- what number a word is, where it is known whether it begins with a `-`
 abbrev signed_by : Bool → List ℕ → List ℕ → Option ℤ

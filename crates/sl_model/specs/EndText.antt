@@ -6,10 +6,9 @@
 use Rattle.std.specs.Prelude.{ℕ, ◌==◌, List, [], ◌∷◌, ◌++◌, slice_index_or, option_to_list, codes, decimal, if◌then◌else◌}
 use Rattle.std.specs.Fmt.{signed_decimal}
 use Rattle.std.specs.Io.BufRead.{ends_with_byte}
-use Rattle.sl_base.specs.declared.place.Place.{Place}
 use Rattle.sl_syntax.specs.Typed.{Typed}
 use Rattle.sl_model.specs.Covers.{named}
-use Rattle.sl_model.specs.Ends.{Trap, End, Done, Trapped, OutOfSteps, Language, Thrown, NoMeaning, Output, Finish}
+use Rattle.sl_model.specs.Ends.{Trap, End, Done, Trapped, OutOfSteps, Language, Thrown, NoMeaning, Finish}
 use Rattle.sl_model.specs.Texts.{kind_text, place_text, who_text, sites_text}
 
 -- the words for the faults of the language, by their numbers from 1 on
