@@ -9,7 +9,8 @@ use Rattle.std.proofs.lemmas.Bool.{cases_lt, cases_Bool, leb-true, le-leb, ltb-t
 use Rattle.sl_base.specs.declared.scalar.Scalar.TheVariants as t
 use Rattle.sl_model.specs.Covers.{IsInput, IsSchedule}
 use Rattle.sl_model.specs.Numbers.{fits}
-use Rattle.sl_model.specs.Lists.{natural_of, signed_of, passing, int_of, pick_of, LIST_NUMBERS, LIST_BYTES, words_of, ListOf, is_list, begins_list, BadAt, at_byte, at_end}
+use Rattle.sl_model.specs.Lists.{natural_of, signed_of, passing, int_of, pick_of, LIST_NUMBERS, LIST_BYTES, words_of, ListOf}
+use Rattle.sl_model.specs.Lists.{is_list, begins_list, BadAt, at_byte, at_end}
 use Rattle.sl_model.proofs.ListWords.{Completes, and_left, and_right, and_both}
 use Rattle.sl_model.proofs.ListParts.{parts_of, counted, told, Within, glue_none, carried, completed_parts}
 
