@@ -20,6 +20,8 @@ import argparse
 import sys
 from pathlib import Path
 
+sys.dont_write_bytecode = True
+
 from goals.cases import Case, read_cases
 from goals.files import Goal, file_of, goal_of, identifier
 from goals.refusal import Refused
