@@ -33,6 +33,7 @@ MODULES = {
         move call own_call first second container handed_scalar scalar reference element none with read not_read test always text endline
         number reads prints evaluates assigns updates moves_to unset_scalar set_scalar set_iterator binds_reference makes no_first
         declares_first does_first block declares choice choice_else while for range_for break continue gives_back does Typed""".split(),
+    "Rattle.sl_specs.specs.Table": ["table"],
     "Rattle.sl_model.specs.Ends": ["Done", "Trapped", "OutOfSteps", "Language", "Thrown"],
     "Rattle.sl_model.specs.Run": ["run"],
     "Rattle.sl_model.proofs.Examples.Short": ["at", "head", "all", "finish", "trap"],
@@ -91,15 +92,22 @@ def definition(goal: Goal) -> list[str]:
     return [f"abbrev pub {goal.name} : Typed", head + lines[0], *lines[1:]]
 
 
+def opened(goal: Goal) -> list[str]:
+    """The definitions that a goal has to open: by one numbers are printed, by the other calls find their row."""
+    calls_library = any(word in words_of(goal.tree) for word in ("callees.Row", "callees.Appends"))
+    return ["digits"] * needs_digits(goal) + ["table"] * calls_library
+
+
 def statement(goal: Goal) -> list[str]:
-    """The goal itself; numbers are printed by the definition `digits`, which a file that prints some has to open."""
+    """The goal itself."""
     head = f"{goal.name}_ends : "
     left, right = written(goal.run(), len(head), 2), written(goal.finish(), 6, 4)
     lines = [head + left[0], *left[1:], "    ≡ " + right[0], *right[1:]]
     if len(lines) == 2 and len(" ".join(lines)) <= WIDTH:
         lines = [lines[0] + " " + lines[1].strip()]
-    opened = ["unfolding digits"] if needs_digits(goal) else []
-    return [*lines, *opened, f"{goal.name}_ends = refl"]
+    if opened(goal):
+        lines.append("unfolding " + " ".join(opened(goal)))
+    return [*lines, f"{goal.name}_ends = refl"]
 
 
 def needs_digits(goal: Goal) -> bool:
@@ -114,7 +122,7 @@ def used(goals: list[Goal], with_goals: bool) -> set[str]:
         words |= set(words_of(goal.tree))
         if with_goals:
             words |= set(words_of(goal.run())) | set(words_of(goal.finish())) | {"◌≡◌", "refl"}
-            words |= {"digits"} if needs_digits(goal) else set()
+            words |= set(opened(goal))
     return words
 
 
