@@ -7,6 +7,7 @@ from dataclasses import dataclass
 
 from .cases import Case, run_words
 from .endings import Ending, ending_of
+from .refusal import Refused
 from .statements import tree_of
 from .terms import WIDTH, Bytes, Term, apply, integer, natural, row, words_of, written
 
@@ -25,12 +26,13 @@ ALIASES = {
     "sort": f"{DECLARED}.typed.variable.VariableKind.TheVariants",
 }
 MODULES = {
-    "Rattle.std.specs.Prelude": ["◌≡◌", "◌++◌", "refl", "true", "false", "[]", "◌∷◌", "Some", "None", "pos", "negsuc", "codes"],
+    "Rattle.std.specs.Prelude": ["◌≡◌", "◌++◌", "refl", "true", "false", "[]", "◌∷◌", "Some", "None", "pos",
+                                 "negsuc", "codes"],
     "Rattle.std.specs.Fmt": ["digits"],
     f"{DECLARED}.typed.step.Fix.TheVariants": ["Prefix", "Postfix"],
     f"{DECLARED}.typed.step.Step.TheVariants": ["Up", "Down"],
-    "Rattle.sl_syntax.specs.Typed": """literal held iterator convert negate logical_not logical_and logical_or arithmetic comparison increment
-        move call own_call first second container handed_scalar scalar reference element none with read not_read test always text endline
+    "Rattle.sl_syntax.specs.Typed": """literal held iterator convert negate logical_not logical_and logical_or arithmetic comparison
+        increment move call own_call first second container handed_scalar scalar reference element none with read not_read test always text endline
         number reads prints evaluates assigns updates moves_to unset_scalar set_scalar set_iterator binds_reference makes no_first
         declares_first does_first block declares choice choice_else while for range_for break continue gives_back does Typed""".split(),
     "Rattle.sl_specs.specs.Table": ["table"],
@@ -64,7 +66,10 @@ class Goal:
 def goal_of(case: Case, name: str) -> Goal:
     """A case as a goal."""
     source, inputs, picks, steps = run_words(case)
-    tree = tree_of(source)
+    try:
+        tree = tree_of(source)
+    except (AssertionError, IndexError, KeyError, ValueError) as why:
+        raise Refused(f"its text isn't one of the language: {why!r}") from why
     return Goal(name, case.name, source, tree.term, (inputs, picks, steps), ending_of(tree, case.out or b""))
 
 
