@@ -58,6 +58,12 @@ completed number completes bytes (m ∷ more) h =
     (carried number (glue_none (parts_of bytes)) (glue_none (parts_of (bytes ++ 48 ∷ []))) (glue_none (parts_of (bytes ++ m ∷ more)))
     (completed_parts number completes bytes (m ∷ more) [] (ap (told number) (glue_none (parts_of (bytes ++ m ∷ more))) ∙ r.2)))
 
+-- what begins a list is the front of one
+pub front_of_list : {A : Type 0} (number : List ℕ → Option A) (bytes : List ℕ) → begins_list number bytes ≡ true
+    → (more : List ℕ) × (is_list number (bytes ++ more) ≡ true)
+front_of_list number bytes h = ⊎_elim (λ (a : is_list number bytes ≡ true). ([], ap (is_list number) (append-nil bytes) ∙ a))
+    (λ (a : is_list number (bytes ++ 48 ∷ []) ≡ true). (48 ∷ [], a)) (or_cases (is_list number bytes) (is_list number (bytes ++ 48 ∷ [])) h)
+
 -- the front of what begins a list begins one
 pub front_begins : {A : Type 0} (number : List ℕ → Option A) → Completes number → (bytes more : List ℕ) → begins_list number (bytes ++ more) ≡ true
     → begins_list number bytes ≡ true
