@@ -3,7 +3,7 @@
 use crate::expected::expect_that;
 use sl_base::Scalar;
 use sl_intervals::{
-    Interval, SizeFact, SizeFacts, Sure, add, convert, join, less, meet, sub, widen,
+    Interval, SizeFact, SizeFacts, Sure, add, convert, div, join, less, meet, mul, rem, sub, widen,
 };
 
 #[test]
@@ -40,6 +40,30 @@ fn calls_of_intervals(rt: HostRuntime) {
         &rt,
         "a difference",
         (difference.value.low == -12) & (difference.value.high == 2),
+    );
+}
+
+#[test]
+fn calls_of_products(rt: HostRuntime) {
+    let low = Interval { low: -3, high: 4 };
+    let high = Interval { low: 2, high: 9 };
+    let product = mul(Scalar::Int, low, high);
+    expect_that(
+        &rt,
+        "a product",
+        (product.value.low == -27) & (product.value.high == 36),
+    );
+    let quotient = div(Scalar::Int, low, high);
+    expect_that(
+        &rt,
+        "a quotient",
+        (quotient.value.low == -1) & (quotient.value.high == 2),
+    );
+    let rest = rem(Scalar::Int, high, low);
+    expect_that(
+        &rt,
+        "a remainder that may fault",
+        matches!(rest.fault, Sure::May),
     );
 }
 

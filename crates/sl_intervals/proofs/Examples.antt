@@ -1,12 +1,13 @@
 -- Closed intervals and operators, each with the answer to which it computes.
-use Rattle.std.proofs.Common.{◌≡◌, ℤ, pos, negsuc, ◌≤ℤ◌, true, false, refl, inl, inr, arith}
+use Rattle.std.proofs.Common.{◌≡◌, pos, negsuc, true, false, refl, inl, inr, arith}
 use Rattle.std.proofs.lemmas.Int.{ints}
 use Rattle.sl_base.specs.declared.scalar.Scalar.TheVariants as kind
 use Rattle.sl_syntax.specs.declared.operator.Arithmetic.TheVariants as operator
-use Rattle.sl_model.specs.Numbers.{converted, operated}
+use Rattle.sl_model.specs.Numbers.{value, converted, operated}
 use Rattle.sl_intervals.specs.declared.interval.Interval.{Interval}
 use Rattle.sl_intervals.specs.declared.size_fact.SizeFact.TheVariants.{Nothing, Upto, Below}
 use Rattle.sl_intervals.specs.Intervals.{Holds, IsEmpty, LiesIn, NoFault, is_fault}
+use Rattle.sl_intervals.specs.Products.{least_product, greatest_product, IsPlain}
 use Rattle.sl_intervals.specs.SizeTable.{tells}
 
 -- from -3 to 4
@@ -58,6 +59,35 @@ no_size_faults a b x y p q = refl
 nothing_faults : (a : Interval) → NoFault (operated operator.Add kind.Int) none a
 unfolding none
 nothing_faults a x y p q = let l = p.low in let m = p.high in absurd (omega (arith, ints))
+
+-- products of numbers from -3 to 4 go from -12 to 16
+least_of_few : least_product few few ≡ negsuc 11
+unfolding few
+least_of_few = refl
+
+greatest_of_few : greatest_product few few ≡ pos 16
+unfolding few
+greatest_of_few = refl
+
+-- a product of int is never taken modulo
+int_is_plain : (a b : Interval) → IsPlain kind.Int a b
+int_is_plain a b = inl (λ e. cc)
+
+-- INT_MIN / -1 and INT_MIN % -1 are faults, and so is a divisor of 0; -7 / 2 is -3, and -7 % 2 is -1
+least_by_minus_one : is_fault (operated operator.Divide kind.Int (negsuc 2147483647) (negsuc 0)) ≡ true
+least_by_minus_one = refl
+
+rest_by_minus_one : is_fault (operated operator.Remainder kind.Int (negsuc 2147483647) (negsuc 0)) ≡ true
+rest_by_minus_one = refl
+
+by_zero : is_fault (operated operator.Divide kind.Size (pos 7) (pos 0)) ≡ true
+by_zero = refl
+
+minus_seven_by_two : operated operator.Divide kind.Int (negsuc 6) (pos 2) ≡ value (negsuc 2)
+minus_seven_by_two = refl
+
+rest_of_minus_seven : operated operator.Remainder kind.Int (negsuc 6) (pos 2) ≡ value (negsuc 0)
+rest_of_minus_seven = refl
 
 -- x < size(c) tells x <= size(c) too, and not the other way round
 below_tells_upto : tells Below Upto ≡ true

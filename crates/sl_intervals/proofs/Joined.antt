@@ -20,3 +20,7 @@ held_wider a r z p q h = let l = h.low in let m = h.high in record { low = omega
 -- an interval that isn't empty lies in a type by its ends
 pub within_of : (ty : Scalar) (a : Interval) → IsFilled a → LiesIn ty a → IsWithin ty a
 within_of ty a f h = ⊎_elim (λ (e : IsEmpty a). absurd (omega (arith, ints))) (λ (w : IsWithin ty a). w) h
+
+-- what is empty isn't filled
+pub no_filled : (a : Interval) → IsEmpty a → IsFilled a → ⊥
+no_filled a e f = omega (arith, ints)

@@ -79,11 +79,23 @@ difference_span a b s f g low high = record {
 }
 
 -- the one member
-only : (a : Interval) (x w : ℤ) → IsSingle a x → Holds a w → w ≡ x
+pub only : (a : Interval) (x w : ℤ) → IsSingle a x → Holds a w → w ≡ x
 only a x w s h = let l = s.low in let r = s.high in let p = h.low in let q = h.high in omega (arith, ints)
 
-its_own : (a : Interval) (x : ℤ) → IsSingle a x → Holds a x
+pub its_own : (a : Interval) (x : ℤ) → IsSingle a x → Holds a x
 its_own a x s = let l = s.low in let r = s.high in record { low = omega (arith, ints); high = omega (arith, ints) }
+
+-- an interval that is no wider than its results is exact on single numbers
+pub tight_exact : (op : ℤ → ℤ → Answer) (a b i : Interval) → ((x y z : ℤ) → Holds a x → Holds b y → op x y ≡ value z → Holds i z) → IsTight op a b i
+    → (x y z : ℤ) → IsSingle a x → IsSingle b y → op x y ≡ value z → IsSingle i z
+tight_exact op a b i holds tight x y z p q e =
+    let inside = holds x y z (its_own a x p) (its_own b y q) e in
+    let il = inside.low in let ih = inside.high in
+    let l = tight.low (omega (arith, ints)) in
+    let h = tight.high (omega (arith, ints)) in
+    let lx = only a x l.0 p l.2 in let ly = only b y l.1 q l.3 in let le = l.4 in
+    let hx = only a x h.0 p h.2 in let hy = only b y h.1 q h.3 in let he = h.4 in
+    record { low = cc; high = cc }
 
 -- no members, no results
 pub no_members : (op : ℤ → ℤ → Answer) (ty : Scalar) (a b : Interval) (r : Outcome) → (IsEmpty a ⊎ IsEmpty b) → IsEmpty r.value → r.fault ≡ Never

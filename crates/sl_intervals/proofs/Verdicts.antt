@@ -37,13 +37,13 @@ by_fit kind.Bool z signed = refl
 by_fit kind.Size z signed = absurd (signed refl)
 by_fit kind.Diff z signed = refl
 
-does_fit : (ty : Scalar) (z : ℤ) → lowest ty ≤ℤ z → z ≤ℤ highest ty → fits ty z ≡ true
+pub does_fit : (ty : Scalar) (z : ℤ) → lowest ty ≤ℤ z → z ≤ℤ highest ty → fits ty z ≡ true
 does_fit ty z p q = grind (arith, ints)
 
-is_under : (ty : Scalar) (z : ℤ) → z <ℤ lowest ty → fits ty z ≡ false
+pub is_under : (ty : Scalar) (z : ℤ) → z <ℤ lowest ty → fits ty z ≡ false
 is_under ty z p = grind (arith, ints)
 
-is_over : (ty : Scalar) (z : ℤ) → highest ty <ℤ z → fits ty z ≡ false
+pub is_over : (ty : Scalar) (z : ℤ) → highest ty <ℤ z → fits ty z ≡ false
 is_over ty z p = grind (arith, ints)
 
 -- a number of the type is its own result

@@ -1,5 +1,6 @@
 //! Results in a row, settled in a type.
 ghost use Rattle.std.specs.Prelude.{◌≡◌, ◌≢◌, ◌≤ℤ◌, ◌<ℤ◌};
+ghost use Rattle.std.specs.Int.{int_min, int_max};
 ghost use Rattle.sl_base.specs.declared.scalar.Scalar.{Scalar};
 ghost use Rattle.sl_model.specs.Numbers.{lowest, highest};
 ghost use Rattle.sl_intervals.specs.Intervals.{IsFilled, IsWithin};
@@ -39,11 +40,13 @@ fn outside(ty: Scalar, s: Interval) -> Sure
     Sure::Never
 }
 
-/// These numbers as results of a signed type: one that the type doesn't have is a fault.
-fn signed_results(ty: Scalar, s: Interval) -> Outcome
-    requires signed { ty ≢ Scalar.Size }
-    requires filled { IsFilled s }
-    ensures { IsSettled ty s result }
+/// Those of these numbers that the type has; of a signed type each other one is a fault.
+pub fn clamped(ty: Scalar, s: Interval) -> Outcome
+    requires { IsFilled s }
+    ensures settled { ty ≢ Scalar.Size → IsSettled ty s result }
+    ensures low { result.value.low ≡ int_max s.low (lowest ty) }
+    ensures high { result.value.high ≡ int_min s.high (highest ty) }
+    ensures fine { IsWithin ty s → result.fault ≡ Sure.Never }
 {
     Outcome {
         value: meet(s, between(least(ty), greatest(ty))),
@@ -68,9 +71,9 @@ pub fn results(ty: Scalar, s: Interval) -> Outcome
     ensures { IsSettled ty s result }
 {
     match ty {
-        Scalar::Int => signed_results(ty, s),
-        Scalar::Bool => signed_results(ty, s),
+        Scalar::Int => clamped(ty, s),
+        Scalar::Bool => clamped(ty, s),
         Scalar::Size => size_results(s),
-        Scalar::Diff => signed_results(ty, s),
+        Scalar::Diff => clamped(ty, s),
     }
 }

@@ -3,13 +3,12 @@ ghost use Rattle.std.specs.Prelude.{◌≡◌, ◌≢◌, ◌⊎◌, pos, negsuc
 ghost use Rattle.sl_base.specs.declared.scalar.Scalar.{Scalar};
 ghost use Rattle.sl_syntax.specs.declared.operator.Arithmetic.{Arithmetic};
 ghost use Rattle.sl_model.specs.Numbers.{operated};
-ghost use Rattle.sl_intervals.specs.Intervals.{IsEmpty, IsLimited, LiesIn};
+ghost use Rattle.sl_intervals.specs.Intervals.{IsLimited, LiesIn};
 ghost use Rattle.sl_intervals.specs.Outcomes.{IsOutcome, IsTight};
 
-use crate::interval::{Interval, between, empty};
-use crate::outcome::Outcome;
+use crate::interval::{Interval, between};
+use crate::outcome::{Outcome, no_outcome};
 use crate::settling::results;
-use crate::sure::Sure;
 use sl_base::Scalar;
 
 /// The exact sums.
@@ -30,17 +29,6 @@ fn exact_differences(a: Interval, b: Interval) -> Interval
     ensures high { result.high ≡ (a.high -ℤ b.low) }
 {
     between(a.low - b.high, a.high - b.low)
-}
-
-/// What an operator gives where there are no members.
-fn no_outcome() -> Outcome
-    ensures value { IsEmpty result.value }
-    ensures fault { result.fault ≡ Sure.Never }
-{
-    Outcome {
-        value: empty(),
-        fault: Sure::Never,
-    }
 }
 
 /// The sums of members.

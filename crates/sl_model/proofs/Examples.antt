@@ -14,6 +14,13 @@ pub mod Unbuilt
 pub mod Told
 pub mod Rows
 pub mod Cleared
+pub mod Appending
+pub mod Outcomes
+pub mod Sequences
+pub mod Keys
+pub mod Algorithms
+pub mod Moves
+pub mod Ranges
 pub mod Scoped
 pub mod ListEdges
 pub mod ListLimits

@@ -1,6 +1,6 @@
 -- What an expression, a library and a text's own functions keep of a state: it stays good and at its level, and what is given has
 -- the shape that is said and holds stamps that were used.
-use Rattle.std.proofs.Common.{◌≡◌, ℕ, ◌+◌, ◌<◌, ◌≤◌, Bool, true, false, List, [], ◌∷◌, Option, Some, None, length, ap, ◌∙◌, subst, arith}
+use Rattle.std.proofs.Common.{◌≡◌, ℕ, ◌<◌, ◌≤◌, Bool, true, false, List, [], ◌∷◌, Option, Some, None, length, ap, ◌∙◌, subst, arith}
 use Rattle.std.specs.Prelude.{ℤ, pos, slice_get}
 use Rattle.std.proofs.lemmas.Option.{slice_get-get_or}
 use Rattle.sl_base.specs.declared.place.Place.{Place}
@@ -11,33 +11,33 @@ use Rattle.sl_syntax.specs.declared.typed.step.Fix.{Fix}
 use Rattle.sl_syntax.specs.declared.typed.step.Fix.TheVariants.{Prefix, Postfix}
 use Rattle.sl_syntax.specs.Typed.{Left, scalar, reference, element, Function}
 use Rattle.sl_model.specs.Containers.{Memory}
-use Rattle.sl_model.specs.Values.{Value, nothing, number, iterator, pair, scalar_at, container_at, element_at, Args, LibOut, trapped, thrown, faulted}
+use Rattle.sl_model.specs.Values.{Value, nothing, number, iterator, pair, two, scalar_at, container_at, element_at, Args, LibOut, trapped}
+use Rattle.sl_model.specs.Values.{thrown, faulted}
 use Rattle.sl_model.specs.Values.{gives, unbuilt, Lib}
 use Rattle.sl_model.specs.State.{State, Frame, iter_of, stamp_of, set_iterator_at, scalar_value}
 use Rattle.sl_model.specs.Eval.{Out, Gives, Stops, Outs, AllGive, OneStops, Oracle, then_eval, with_number, then_number, add_value, then_rest}
 use Rattle.sl_model.specs.Eval.{then_call, branch, answered, if_set, read_at, settle_call, site_of, use_library, moved_to, chosen, first_of}
 use Rattle.sl_model.specs.Eval.{second_of}
 use Rattle.sl_model.specs.Good.{IsSound, AreApart}
-use Rattle.sl_model.specs.Shapes.{Shape, a_number, a_stamp, a_pair, an_element, Gift, a_value, the_scalar, Signature, HasShape, IsGiven}
+use Rattle.sl_model.specs.Shapes.{Shape, no_value, a_number, a_stamp, a_pair, two_stamps, an_element, Gift, a_value, the_scalar, the_container}
+use Rattle.sl_model.specs.Shapes.{Signature}
+use Rattle.sl_model.specs.Shapes.{HasShape, IsGiven, HasParts, shape_of_second}
 use Rattle.sl_model.specs.Shapes.{shape_of_result, AllSuit, containers_in}
-use Rattle.sl_model.proofs.Vanishing.{Leaves}
+use Rattle.sl_model.proofs.After.{Leaves}
+use Rattle.sl_model.proofs.Growing.{grown}
 use Rattle.sl_model.proofs.Levels.{Level, Now, apart_from_stacks, memory-now, set_iterator-now, Above, now_above, above_less}
 
--- the stamp of a value is below n
+-- the stamps of a value are below n
 abbrev pub IsUsed : ℕ → Value → Type 0
 IsUsed n (iterator stamp) = stamp < n
 IsUsed n (pair stamp b) = stamp < n
+IsUsed n (two stamp other) = (stamp < n) × (other < n)
 IsUsed n v = Unit {0}
 
 -- the stamps of values are below n
 abbrev pub AllUsed : ℕ → List Value → Type 0
 AllUsed n [] = Unit {0}
 AllUsed n (v ∷ vs) = IsUsed n v × AllUsed n vs
-
--- as many, or one more
-abbrev pub grown : Bool → ℕ → ℕ
-grown true n = n + 1
-grown false n = n
 
 -- What a call gives: the memory is sound and nothing has vanished, it has as many containers, or one more where the call makes
 -- one, no stamp is unused again, and the value has its shape and a stamp that was used.
@@ -107,6 +107,7 @@ used_more n m nothing more h = tt
 used_more n m (number z) more h = tt
 used_more n m (iterator x) more h = let r : x < n = h in omega arith
 used_more n m (pair x b) more h = let r : x < n = h in omega arith
+used_more n m (two x y) more h = let p : x < n = h.0 in let q : y < n = h.1 in (omega arith, omega arith)
 used_more n m (scalar_at l) more h = tt
 used_more n m (container_at l) more h = tt
 used_more n m (element_at j k part) more h = tt
@@ -139,6 +140,7 @@ module _ (L : Level) where
   at_number n next go (number z) s h k = k z s h
   at_number n next go (iterator x) s h k = k (pos 0) s h
   at_number n next go (pair x b) s h k = k (pos 0) s h
+  at_number n next go (two x b) s h k = k (pos 0) s h
   at_number n next go (scalar_at l) s h k = k (pos 0) s h
   at_number n next go (container_at l) s h k = k (pos 0) s h
   at_number n next go (element_at i j p) s h k = k (pos 0) s h
@@ -196,6 +198,7 @@ module _ (L : Level) where
   at_element n at (number z) s h = absurd h.given
   at_element n at (iterator x) s h = absurd h.given
   at_element n at (pair x b) s h = absurd h.given
+  at_element n at (two x b) s h = absurd h.given
   at_element n at (scalar_at l) s h = absurd h.given
   at_element n at (container_at l) s h = absurd h.given
   at_element n at (element_at i j p) s h = record { now = h.now; given = tt; used = tt }
@@ -209,6 +212,7 @@ module _ (L : Level) where
   at_read n at (scalar x p) (number z) s h = absurd h.given
   at_read n at (scalar x p) (iterator y) s h = absurd h.given
   at_read n at (scalar x p) (pair y b) s h = absurd h.given
+  at_read n at (scalar x p) (two y b) s h = absurd h.given
   at_read n at (scalar x p) (scalar_at l) s h = at_if_set n at (scalar_value s l) s h.now
   at_read n at (scalar x p) (container_at l) s h = absurd h.given
   at_read n at (scalar x p) (element_at i j part) s h = absurd h.given
@@ -232,29 +236,77 @@ module _ (L : Level) where
   at_moved n x at old (iterator new) s low h =
       gave_iterator n x old new (set_iterator_at at new s) low h.used (set_iterator-now L n at new s h.used h.now)
   at_moved n x at old (pair y b) s low h = absurd h.given
+  at_moved n x at old (two y b) s low h = absurd h.given
   at_moved n x at old (scalar_at l) s low h = absurd h.given
   at_moved n x at old (container_at l) s low h = absurd h.given
   at_moved n x at old (element_at i j p) s low h = absurd h.given
 
-  -- the first part of a pair
-  pub at_first : (n : ℕ) (v : Value) (s : State) → Gave L n (a_value a_pair) v s → Gave L n (a_value a_stamp) (first_of v) s
-  at_first n nothing s h = absurd h.given
-  at_first n (number z) s h = absurd h.given
-  at_first n (iterator x) s h = absurd h.given
-  at_first n (pair x b) s h = record { now = h.now; given = tt; used = h.used }
-  at_first n (scalar_at l) s h = absurd h.given
-  at_first n (container_at l) s h = absurd h.given
-  at_first n (element_at i j p) s h = absurd h.given
+  -- the first part of an iterator and a bool
+  first_of_pair : (n : ℕ) (v : Value) (s : State) → Gave L n (a_value a_pair) v s → Gave L n (a_value a_stamp) (first_of v) s
+  first_of_pair n nothing s h = absurd h.given
+  first_of_pair n (number z) s h = absurd h.given
+  first_of_pair n (iterator x) s h = absurd h.given
+  first_of_pair n (pair x b) s h = record { now = h.now; given = tt; used = h.used }
+  first_of_pair n (two x y) s h = absurd h.given
+  first_of_pair n (scalar_at l) s h = absurd h.given
+  first_of_pair n (container_at l) s h = absurd h.given
+  first_of_pair n (element_at i j p) s h = absurd h.given
 
-  -- the second part of a pair
-  pub at_second : (n : ℕ) (v : Value) (s : State) → Gave L n (a_value a_pair) v s → Gave L n (a_value a_number) (second_of v) s
-  at_second n nothing s h = absurd h.given
-  at_second n (number z) s h = absurd h.given
-  at_second n (iterator x) s h = absurd h.given
-  at_second n (pair x b) s h = record { now = h.now; given = tt; used = tt }
-  at_second n (scalar_at l) s h = absurd h.given
-  at_second n (container_at l) s h = absurd h.given
-  at_second n (element_at i j p) s h = absurd h.given
+  -- the first of two iterators
+  first_of_two : (n : ℕ) (v : Value) (s : State) → Gave L n (a_value two_stamps) v s → Gave L n (a_value a_stamp) (first_of v) s
+  first_of_two n nothing s h = absurd h.given
+  first_of_two n (number z) s h = absurd h.given
+  first_of_two n (iterator x) s h = absurd h.given
+  first_of_two n (pair x b) s h = absurd h.given
+  first_of_two n (two x y) s h = record { now = h.now; given = tt; used = h.used.0 }
+  first_of_two n (scalar_at l) s h = absurd h.given
+  first_of_two n (container_at l) s h = absurd h.given
+  first_of_two n (element_at i j p) s h = absurd h.given
+
+  -- the second part of an iterator and a bool
+  second_of_pair : (n : ℕ) (v : Value) (s : State) → Gave L n (a_value a_pair) v s → Gave L n (a_value a_number) (second_of v) s
+  second_of_pair n nothing s h = absurd h.given
+  second_of_pair n (number z) s h = absurd h.given
+  second_of_pair n (iterator x) s h = absurd h.given
+  second_of_pair n (pair x b) s h = record { now = h.now; given = tt; used = tt }
+  second_of_pair n (two x y) s h = absurd h.given
+  second_of_pair n (scalar_at l) s h = absurd h.given
+  second_of_pair n (container_at l) s h = absurd h.given
+  second_of_pair n (element_at i j p) s h = absurd h.given
+
+  -- the second of two iterators
+  second_of_two : (n : ℕ) (v : Value) (s : State) → Gave L n (a_value two_stamps) v s → Gave L n (a_value a_stamp) (second_of v) s
+  second_of_two n nothing s h = absurd h.given
+  second_of_two n (number z) s h = absurd h.given
+  second_of_two n (iterator x) s h = absurd h.given
+  second_of_two n (pair x b) s h = absurd h.given
+  second_of_two n (two x y) s h = record { now = h.now; given = tt; used = h.used.1 }
+  second_of_two n (scalar_at l) s h = absurd h.given
+  second_of_two n (container_at l) s h = absurd h.given
+  second_of_two n (element_at i j p) s h = absurd h.given
+
+  -- the first of two parts
+  pub at_first : (n : ℕ) (gift : Gift) (v : Value) (s : State) → HasParts gift → Gave L n gift v s → Gave L n (a_value a_stamp) (first_of v) s
+  at_first n (a_value no_value) v s parts h = absurd parts
+  at_first n (a_value a_number) v s parts h = absurd parts
+  at_first n (a_value a_stamp) v s parts h = absurd parts
+  at_first n (a_value a_pair) v s parts h = first_of_pair n v s h
+  at_first n (a_value two_stamps) v s parts h = first_of_two n v s h
+  at_first n (a_value an_element) v s parts h = absurd parts
+  at_first n (the_scalar x) v s parts h = absurd parts
+  at_first n (the_container x) v s parts h = absurd parts
+
+  -- the second of two parts
+  pub at_second : (n : ℕ) (gift : Gift) (v : Value) (s : State) → HasParts gift → Gave L n gift v s → Gave L n (a_value (shape_of_second gift))
+      (second_of v) s
+  at_second n (a_value no_value) v s parts h = absurd parts
+  at_second n (a_value a_number) v s parts h = absurd parts
+  at_second n (a_value a_stamp) v s parts h = absurd parts
+  at_second n (a_value a_pair) v s parts h = second_of_pair n v s h
+  at_second n (a_value two_stamps) v s parts h = second_of_two n v s h
+  at_second n (a_value an_element) v s parts h = absurd parts
+  at_second n (the_scalar x) v s parts h = absurd parts
+  at_second n (the_container x) v s parts h = absurd parts
 
   -- what is given stays so where a lesser number is asked for
   pub out_less : (n m : ℕ) (gift : Gift) (o : Out) → n ≤ m → OutAt L m gift o → OutAt L n gift o

@@ -9,11 +9,12 @@ use Rattle.sl_syntax.specs.declared.operator.Access.{Access}
 use Rattle.sl_syntax.specs.declared.typed.parameter.ParameterKind.{ParameterKind}
 use Rattle.sl_syntax.specs.declared.typed.parameter.ParameterKind.TheVariants as parameter
 use Rattle.sl_syntax.specs.Typed.{Function}
-use Rattle.sl_model.specs.Values.{Value, nothing, number, iterator, pair, scalar_at, container_at, element_at}
+use Rattle.sl_model.specs.Values.{Value, nothing, number, iterator, pair, two, scalar_at, container_at, element_at}
 use Rattle.sl_model.specs.State.{Frame, State, new_scalar, new_iterator, new_container}
 use Rattle.sl_model.specs.Calls.{no_frame, bind_one, bind_all, bound}
 use Rattle.sl_model.specs.Good.{AreBelow, AreApart}
-use Rattle.sl_model.specs.Shapes.{no_value, a_number, a_stamp, a_pair, an_element, Gift, a_value, the_scalar, the_container, IsGiven, Suits, AllSuit}
+use Rattle.sl_model.specs.Shapes.{no_value, a_number, a_stamp, a_pair, two_stamps, an_element, Gift, a_value, the_scalar, the_container, IsGiven}
+use Rattle.sl_model.specs.Shapes.{Suits, AllSuit}
 use Rattle.sl_model.specs.Shapes.{container_in, containers_in}
 use Rattle.sl_model.specs.Scoped.{Counts, no_counts, one_scalar, one_container, one_iterator, with_parameter, with_parameters}
 use Rattle.sl_model.proofs.Getting.{get_left, get_within, get_behind}
@@ -174,6 +175,7 @@ module _ (L : Level) (n : ℕ) (scalars_below : AreBelow L.frame.scalars L.scala
   one_by_value ty c xs s (number z) given used h = bind_number ty c xs s z h
   one_by_value ty c xs s (iterator y) given used h = absurd given
   one_by_value ty c xs s (pair y b) given used h = absurd given
+  one_by_value ty c xs s (two y b) given used h = absurd given
   one_by_value ty c xs s (scalar_at l) given used h = absurd given
   one_by_value ty c xs s (container_at l) given used h = absurd given
   one_by_value ty c xs s (element_at i j p) given used h = absurd given
@@ -185,6 +187,7 @@ module _ (L : Level) (n : ℕ) (scalars_below : AreBelow L.frame.scalars L.scala
   one_by_reference ty x c xs s (number z) given used h = absurd given
   one_by_reference ty x c xs s (iterator y) given used h = absurd given
   one_by_reference ty x c xs s (pair y b) given used h = absurd given
+  one_by_reference ty x c xs s (two y b) given used h = absurd given
   one_by_reference ty x c xs s (scalar_at l) given used h = bind_scalar ty c xs s x l given h
   one_by_reference ty x c xs s (container_at l) given used h = absurd given
   one_by_reference ty x c xs s (element_at i j p) given used h = absurd given
@@ -196,6 +199,7 @@ module _ (L : Level) (n : ℕ) (scalars_below : AreBelow L.frame.scalars L.scala
   one_container_in access form x c xs s apart (number z) given used h = absurd given
   one_container_in access form x c xs s apart (iterator y) given used h = absurd given
   one_container_in access form x c xs s apart (pair y b) given used h = absurd given
+  one_container_in access form x c xs s apart (two y b) given used h = absurd given
   one_container_in access form x c xs s apart (scalar_at l) given used h = absurd given
   one_container_in access form x c xs s apart (container_at l) given used h = bind_container c xs s x l given apart h
   one_container_in access form x c xs s apart (element_at i j p) given used h = absurd given
@@ -207,6 +211,7 @@ module _ (L : Level) (n : ℕ) (scalars_below : AreBelow L.frame.scalars L.scala
   one_iterator_in of_const form c xs s (number z) given used h = absurd given
   one_iterator_in of_const form c xs s (iterator y) given used h = bind_iterator c xs s y used h
   one_iterator_in of_const form c xs s (pair y b) given used h = absurd given
+  one_iterator_in of_const form c xs s (two y b) given used h = absurd given
   one_iterator_in of_const form c xs s (scalar_at l) given used h = absurd given
   one_iterator_in of_const form c xs s (container_at l) given used h = absurd given
   one_iterator_in of_const form c xs s (element_at i j p) given used h = absurd given
@@ -218,6 +223,7 @@ module _ (L : Level) (n : ℕ) (scalars_below : AreBelow L.frame.scalars L.scala
   bind_kind (parameter.Value ty) (a_value a_number) v c xs s suit given used apart h = one_by_value ty c xs s v given used h
   bind_kind (parameter.Value ty) (a_value a_stamp) v c xs s suit given used apart h = absurd suit
   bind_kind (parameter.Value ty) (a_value a_pair) v c xs s suit given used apart h = absurd suit
+  bind_kind (parameter.Value ty) (a_value two_stamps) v c xs s suit given used apart h = absurd suit
   bind_kind (parameter.Value ty) (a_value an_element) v c xs s suit given used apart h = absurd suit
   bind_kind (parameter.Value ty) (the_scalar x) v c xs s suit given used apart h = absurd suit
   bind_kind (parameter.Value ty) (the_container x) v c xs s suit given used apart h = absurd suit
@@ -225,6 +231,7 @@ module _ (L : Level) (n : ℕ) (scalars_below : AreBelow L.frame.scalars L.scala
   bind_kind (parameter.Reference ty) (a_value a_number) v c xs s suit given used apart h = absurd suit
   bind_kind (parameter.Reference ty) (a_value a_stamp) v c xs s suit given used apart h = absurd suit
   bind_kind (parameter.Reference ty) (a_value a_pair) v c xs s suit given used apart h = absurd suit
+  bind_kind (parameter.Reference ty) (a_value two_stamps) v c xs s suit given used apart h = absurd suit
   bind_kind (parameter.Reference ty) (a_value an_element) v c xs s suit given used apart h = absurd suit
   bind_kind (parameter.Reference ty) (the_scalar x) v c xs s suit given used apart h = one_by_reference ty x c xs s v given used h
   bind_kind (parameter.Reference ty) (the_container x) v c xs s suit given used apart h = absurd suit
@@ -232,6 +239,7 @@ module _ (L : Level) (n : ℕ) (scalars_below : AreBelow L.frame.scalars L.scala
   bind_kind (parameter.Container access form) (a_value a_number) v c xs s suit given used apart h = absurd suit
   bind_kind (parameter.Container access form) (a_value a_stamp) v c xs s suit given used apart h = absurd suit
   bind_kind (parameter.Container access form) (a_value a_pair) v c xs s suit given used apart h = absurd suit
+  bind_kind (parameter.Container access form) (a_value two_stamps) v c xs s suit given used apart h = absurd suit
   bind_kind (parameter.Container access form) (a_value an_element) v c xs s suit given used apart h = absurd suit
   bind_kind (parameter.Container access form) (the_scalar x) v c xs s suit given used apart h = absurd suit
   bind_kind (parameter.Container access form) (the_container x) v c xs s suit given used apart h =
@@ -241,6 +249,7 @@ module _ (L : Level) (n : ℕ) (scalars_below : AreBelow L.frame.scalars L.scala
   bind_kind (parameter.Iterator of_const form) (a_value a_stamp) v c xs s suit given used apart h =
       one_iterator_in of_const form c xs s v given used h
   bind_kind (parameter.Iterator of_const form) (a_value a_pair) v c xs s suit given used apart h = absurd suit
+  bind_kind (parameter.Iterator of_const form) (a_value two_stamps) v c xs s suit given used apart h = absurd suit
   bind_kind (parameter.Iterator of_const form) (a_value an_element) v c xs s suit given used apart h = absurd suit
   bind_kind (parameter.Iterator of_const form) (the_scalar x) v c xs s suit given used apart h = absurd suit
   bind_kind (parameter.Iterator of_const form) (the_container x) v c xs s suit given used apart h = absurd suit

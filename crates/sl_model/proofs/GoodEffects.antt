@@ -21,9 +21,10 @@ use Rattle.sl_model.specs.Exec.{begun, ended}
 use Rattle.sl_model.specs.Shapes.{Shape, a_number, a_stamp, Gift, a_value, Signature, gift_of, gifts_of}
 use Rattle.sl_model.specs.Scoped.{one_scalar, one_container, one_iterator, InExpr, InLeft, InCond, InPrinted, InPrint, InEffect, InDeclaration}
 use Rattle.sl_model.specs.Scoped.{with_declaration, InFirst, with_first, InLast}
+use Rattle.sl_model.proofs.Growing.{grown}
 use Rattle.sl_model.proofs.Levels.{Level, counts_of, Now, Above, apart_from_stacks, set_iterator-now, write-now, with_scalar, with_iterator}
 use Rattle.sl_model.proofs.Levels.{with_container, new_scalar-now, new_iterator-now, new_container-now, now_above}
-use Rattle.sl_model.proofs.Gifts.{KeepsGood, OwnKeepsGood, IsAnswer, grown, Gave, OutAt, OutsAt, gift_of_left, at_then_number, at_answer, at_read}
+use Rattle.sl_model.proofs.Gifts.{KeepsGood, OwnKeepsGood, IsAnswer, Gave, OutAt, OutsAt, gift_of_left, at_then_number, at_answer, at_read}
 use Rattle.sl_model.proofs.Gifts.{gave_as}
 use Rattle.sl_model.proofs.GoodEval.{at_eval, at_reach, at_all}
 use Rattle.sl_model.proofs.GoodFlow.{FlowIn, flow_then, flow_value, flow_number, flow_stamp, flow_either, flow_reads, Leads, Tests}

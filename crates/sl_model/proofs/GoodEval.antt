@@ -17,13 +17,13 @@ use Rattle.sl_model.specs.State.{State, scalar_of, cont_of, iter_of, stamp_of}
 use Rattle.sl_model.specs.Eval.{by_one, Out, Gives, World, then_eval, then_number, branch, answered, read_at, write_at, use_library, increased}
 use Rattle.sl_model.specs.Eval.{moved_to, chosen, eval, reach, eval_all, name_place}
 use Rattle.sl_model.specs.Good.{AreApart}
-use Rattle.sl_model.specs.Shapes.{Shape, no_value, a_number, a_stamp, a_pair, an_element, Gift, a_value, Signature, shape_of_result, gift_of}
+use Rattle.sl_model.specs.Shapes.{Shape, no_value, a_number, a_stamp, an_element, Gift, a_value, Signature, shape_of_result, gift_of, shape_of_second}
 use Rattle.sl_model.specs.Shapes.{gifts_of, AllSuit, containers_in}
 use Rattle.sl_model.specs.Scoped.{InExpr, InLeft, InOperands}
 use Rattle.sl_model.proofs.Levels.{Level, counts_of, Now, write-now}
 use Rattle.sl_model.proofs.Gifts.{AllUsed, KeepsGood, OwnKeepsGood, OutAt, AllGave, OutsAt, gift_of_left, stamp_used, now_again, at_then}
 use Rattle.sl_model.proofs.Gifts.{at_then_number, at_call, at_rest, gave_number, at_answer, at_branch, at_read, gave_chosen, at_moved, at_first}
-use Rattle.sl_model.proofs.Gifts.{at_second, out_less, gave_as, at_library}
+use Rattle.sl_model.proofs.Gifts.{at_second, out_less, at_library}
 
 -- where a scalar of a frame is
 scalar_there : (L : Level) (n : ℕ) (s : State) (x : ℕ) → x < length L.frame.scalars → Now L n s → slice_get L.frame.scalars x ≡ Some (scalar_of s x)
@@ -124,9 +124,9 @@ module _ (w : World) (g : Signature) (lib_keeps : KeepsGood g.shape g.makes w.li
     at_eval (own_call f at ops) n s i h = at_call L n (gifts_of g ops) (gift_of g (own_call f at ops)) (eval_all w ops s) (w.own f at)
         (at_all ops n s i.1 h) (λ vs s j. at_own n f at (gifts_of g ops) vs s (slice_get g.functions f) refl i.0.0 i.0.1 j)
     at_eval (first at a) n s i h = at_then L n (gift_of g a) (a_value a_stamp) (eval w a s) _ (at_eval a n s i.1 h)
-        (λ v s j. at_first L n v s (gave_as L n (gift_of g a) (a_value a_pair) v s i.0 j))
-    at_eval (second at a) n s i h = at_then L n (gift_of g a) (a_value a_number) (eval w a s) _ (at_eval a n s i.1 h)
-        (λ v s j. at_second L n v s (gave_as L n (gift_of g a) (a_value a_pair) v s i.0 j))
+        (λ v s j. at_first L n (gift_of g a) v s i.0 j)
+    at_eval (second at a) n s i h = at_then L n (gift_of g a) (a_value (shape_of_second (gift_of g a))) (eval w a s) _ (at_eval a n s i.1 h)
+        (λ v s j. at_second L n (gift_of g a) v s i.0 j)
     at_eval (container x) n s i h = record { now = h; given = cont_there L n s x i h; used = tt }
     at_eval (handed_scalar x) n s i h = record { now = h; given = scalar_there L n s x i h; used = tt }
 

@@ -1,7 +1,7 @@
 -- What statements are made of keeps a state good and at its level, where each part does.
 use Rattle.std.proofs.Common.{ℕ, zero, suc, ◌<◌, Bool, true, false, List, [], ◌∷◌}
 use Rattle.std.specs.Prelude.{ℤ, pos}
-use Rattle.sl_model.specs.Values.{Value, nothing, number, iterator, pair, scalar_at, container_at, element_at}
+use Rattle.sl_model.specs.Values.{Value, nothing, number, iterator, pair, two, scalar_at, container_at, element_at}
 use Rattle.sl_model.specs.Ends.{OutOfSteps}
 use Rattle.sl_model.specs.State.{State, scalar_of, set_scalar_at}
 use Rattle.sl_model.specs.Eval.{Out, Gives, Stops}
@@ -69,6 +69,7 @@ module _ (shape : Shape) where
     flow_number P Q go k (number z) s h = k z s h
     flow_number P Q go k (iterator x) s h = k (pos 0) s h
     flow_number P Q go k (pair x b) s h = k (pos 0) s h
+    flow_number P Q go k (two x b) s h = k (pos 0) s h
     flow_number P Q go k (scalar_at l) s h = k (pos 0) s h
     flow_number P Q go k (container_at l) s h = k (pos 0) s h
     flow_number P Q go k (element_at i j p) s h = k (pos 0) s h
@@ -81,6 +82,7 @@ module _ (shape : Shape) where
     flow_stamp P Q go k (number z) s h = absurd h.given
     flow_stamp P Q go k (iterator x) s h = k x s h.used h.now
     flow_stamp P Q go k (pair x b) s h = absurd h.given
+    flow_stamp P Q go k (two x b) s h = absurd h.given
     flow_stamp P Q go k (scalar_at l) s h = absurd h.given
     flow_stamp P Q go k (container_at l) s h = absurd h.given
     flow_stamp P Q go k (element_at i j p) s h = absurd h.given

@@ -1,8 +1,7 @@
 -- A range-for over a container in scope keeps a state good and at its level.
-use Rattle.std.proofs.Common.{◌≡◌, ℕ, suc, ◌+◌, ◌<◌, ◌≤◌, false, not, List, [], ◌∷◌, Some, None, length, ap, sym, ◌∙◌, subst, arith}
-use Rattle.std.specs.Prelude.{slice_get, slice_index}
-use Rattle.std.proofs.lemmas.Option.{slice_get-get_or, get_or_from_slice_get}
-use Rattle.sl_base.specs.declared.form.Form.TheVariants as f
+use Rattle.std.proofs.Common.{◌≡◌, ℕ, suc, ◌+◌, ◌<◌, ◌≤◌, false, not, List, [], ◌∷◌, None, length, ap, sym, ◌∙◌, subst, arith}
+use Rattle.std.specs.Prelude.{slice_index}
+use Rattle.std.proofs.lemmas.Option.{slice_get-get_or}
 use Rattle.sl_base.specs.declared.place.Place.{Place}
 use Rattle.sl_base.specs.declared.scalar.Scalar.TheVariants as t
 use Rattle.sl_syntax.specs.declared.operator.Comparison.TheVariants as c
@@ -10,7 +9,7 @@ use Rattle.sl_syntax.specs.declared.typed.callee.Callee.TheVariants as callees
 use Rattle.sl_syntax.specs.declared.typed.head.Head.{Head}
 use Rattle.sl_syntax.specs.declared.typed.operator.Operator.TheVariants as operators
 use Rattle.sl_model.specs.Numbers.{is_zero}
-use Rattle.sl_model.specs.Containers.{Cell, Memory, stamps, cont_at, begin_of, end_of}
+use Rattle.sl_model.specs.Containers.{Memory, begin_of, end_of}
 use Rattle.sl_model.specs.Values.{Value}
 use Rattle.sl_model.specs.State.{State, cont_of, set_scalar_at, set_iterator_at, new_iterator}
 use Rattle.sl_model.specs.Eval.{World, then_eval, read_at, use_library}
@@ -18,38 +17,16 @@ use Rattle.sl_model.specs.Exec.{Next, Meaning, flow_of, on_number, on_stamp, ask
 use Rattle.sl_model.specs.Good.{IsSound}
 use Rattle.sl_model.specs.Shapes.{Shape, a_number, a_stamp, an_element, a_value, Signature}
 use Rattle.sl_model.specs.Scoped.{one_scalar, one_iterator, with_range, AsksWell}
-use Rattle.sl_model.proofs.Getting.{get_some}
-use Rattle.sl_model.proofs.Standing.{stamps_of, end_stands}
+use Rattle.sl_model.proofs.Placing.{place_used, end_used}
 use Rattle.sl_model.proofs.Levels.{Level, counts_of, Now, Above, with_scalar, with_iterator, new_scalar-now, new_iterator-now, set_scalar-now}
 use Rattle.sl_model.proofs.Levels.{set_iterator-now}
 use Rattle.sl_model.proofs.Gifts.{AllUsed, KeepsGood, OutAt, at_then, at_element, gave_as, at_library}
 use Rattle.sl_model.proofs.GoodEffects.{counts_scalar, counts_iterator}
 use Rattle.sl_model.proofs.GoodFlow.{flow_value, flow_number, flow_stamp, flow_turns, Stays}
 
--- the end of a container that is there was used
-end_used : (m : Memory) (j : ℕ) → IsSound m → j < length m.conts → end_of m j < m.fresh
-end_used m j sound low = sound.used j (length (cont_at m j).cells) (end_of m j)
-    (record {
-      cont = cont_at m j;
-      there = slice_get-get_or m.conts j (record { form = f.Vector; cells = []; end = m.fresh; room = 0 }) low;
-      stands = end_stands (cont_at m j).cells (end_of m j);
-    })
-
 -- the first place of a container that is there was used
-pub begin_used : (m : Memory) (j : ℕ) → IsSound m → j < length m.conts → begin_of m j < m.fresh
-begin_used m j sound low = by_place (get_some (stamps (cont_at m j)) 0 (has_place (cont_at m j).cells (cont_at m j).end))
-  where
-    has_place : (cells : List Cell) (e : ℕ) → 0 < length (stamps_of cells e)
-    has_place [] e = omega arith
-    has_place (x ∷ cells) e = omega arith
-
-    by_place : (s : ℕ) × (slice_get (stamps (cont_at m j)) 0 ≡ Some s) → begin_of m j < m.fresh
-    by_place r = subst (λ (k : ℕ). k < m.fresh) (sym (get_or_from_slice_get (stamps (cont_at m j)) 0 r.0 m.fresh r.1))
-        (sound.used j 0 r.0 (record {
-          cont = cont_at m j;
-          there = slice_get-get_or m.conts j (record { form = f.Vector; cells = []; end = m.fresh; room = 0 }) low;
-          stands = r.1;
-        }))
+begin_used : (m : Memory) (j : ℕ) → IsSound m → j < length m.conts → begin_of m j < m.fresh
+begin_used m j sound low = place_used m j 0 sound (record { there = low; within = omega arith })
 
 -- the level in which the loop of a range-for begins
 abbrev pub level_range : Level → Level

@@ -13,7 +13,8 @@ use Rattle.sl_syntax.specs.Typed.{element, Operands, none, with}
 use Rattle.sl_base.specs.declared.scalar.Scalar.{Scalar}
 use Rattle.sl_syntax.specs.declared.operator.Arithmetic.TheVariants as o
 use Rattle.sl_model.specs.Containers.{Memory, Part, write_element}
-use Rattle.sl_model.specs.Values.{Value, nothing, number, iterator, pair, scalar_at, container_at, element_at, Args, LibOut, trapped, thrown, faulted}
+use Rattle.sl_model.specs.Values.{Value, nothing, number, iterator, pair, two, scalar_at, container_at, element_at, Args, LibOut, trapped}
+use Rattle.sl_model.specs.Values.{thrown, faulted}
 use Rattle.sl_model.specs.Values.{gives, unbuilt}
 use Rattle.sl_model.specs.State.{State, iter_of, stamp_of, set_scalar_at, scalar_value}
 use Rattle.sl_model.specs.Eval.{by_one, Out, Gives, Stops, Outs, AllGive, OneStops, World, then_eval, with_number, then_number, add_value, then_rest}
@@ -51,6 +52,7 @@ module _ (I : Memory → Type 0) where
   keeps_number go (number z) s h k = k z s h
   keeps_number go (iterator x) s h k = k (pos 0) s h
   keeps_number go (pair x b) s h k = k (pos 0) s h
+  keeps_number go (two x b) s h k = k (pos 0) s h
   keeps_number go (scalar_at l) s h k = k (pos 0) s h
   keeps_number go (container_at l) s h k = k (pos 0) s h
   keeps_number go (element_at i j p) s h k = k (pos 0) s h
@@ -97,6 +99,7 @@ module _ (I : Memory → Type 0) where
   keeps_read at (number z) s h = h
   keeps_read at (iterator x) s h = h
   keeps_read at (pair x b) s h = h
+  keeps_read at (two x b) s h = h
   keeps_read at (scalar_at l) s h = keeps_if_set at (scalar_value s l) s h
   keeps_read at (container_at l) s h = h
   keeps_read at (element_at i j p) s h = h
@@ -115,6 +118,7 @@ module _ (I : Memory → Type 0) where
   keeps_moved x at old (number z) s h = h
   keeps_moved x at old (iterator n) s h = h
   keeps_moved x at old (pair n b) s h = h
+  keeps_moved x at old (two n b) s h = h
   keeps_moved x at old (scalar_at l) s h = h
   keeps_moved x at old (container_at l) s h = h
   keeps_moved x at old (element_at i j p) s h = h
@@ -142,6 +146,7 @@ module _ (I : Memory → Type 0) where
     keeps_write (number y) z s h = h
     keeps_write (iterator x) z s h = h
     keeps_write (pair x b) z s h = h
+    keeps_write (two x b) z s h = h
     keeps_write (scalar_at l) z s h = keeps_set l z s h
     keeps_write (container_at l) z s h = h
     keeps_write (element_at i j p) z s h = write_keeps s.memory i j p z h

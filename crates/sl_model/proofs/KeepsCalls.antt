@@ -7,7 +7,7 @@ use Rattle.sl_syntax.specs.declared.typed.parameter.ParameterKind.{ParameterKind
 use Rattle.sl_syntax.specs.declared.typed.parameter.ParameterKind.TheVariants as parameter
 use Rattle.sl_syntax.specs.Typed.{Function, Typed}
 use Rattle.sl_model.specs.Containers.{Memory, Part, write_element, end_from}
-use Rattle.sl_model.specs.Values.{Value, nothing, number, iterator, pair, scalar_at, container_at, element_at, Args, Lib}
+use Rattle.sl_model.specs.Values.{Value, nothing, number, iterator, pair, two, scalar_at, container_at, element_at, Args, Lib}
 use Rattle.sl_model.specs.State.{State, leave}
 use Rattle.sl_model.specs.Eval.{Out, Gives, Stops, World}
 use Rattle.sl_model.specs.Exec.{Flow, Next, Broke, Continued, Returned, Over, exec}
@@ -23,6 +23,7 @@ module _ (I : Memory → Type 0) where
   in_one (parameter.Value ty) (number z) s h = h
   in_one (parameter.Value ty) (iterator x) s h = h
   in_one (parameter.Value ty) (pair x b) s h = h
+  in_one (parameter.Value ty) (two x b) s h = h
   in_one (parameter.Value ty) (scalar_at l) s h = h
   in_one (parameter.Value ty) (container_at l) s h = h
   in_one (parameter.Value ty) (element_at i j p) s h = h
@@ -30,6 +31,7 @@ module _ (I : Memory → Type 0) where
   in_one (parameter.Reference ty) (number z) s h = h
   in_one (parameter.Reference ty) (iterator x) s h = h
   in_one (parameter.Reference ty) (pair x b) s h = h
+  in_one (parameter.Reference ty) (two x b) s h = h
   in_one (parameter.Reference ty) (scalar_at l) s h = h
   in_one (parameter.Reference ty) (container_at l) s h = h
   in_one (parameter.Reference ty) (element_at i j p) s h = h
@@ -37,6 +39,7 @@ module _ (I : Memory → Type 0) where
   in_one (parameter.Container a f) (number z) s h = h
   in_one (parameter.Container a f) (iterator x) s h = h
   in_one (parameter.Container a f) (pair x b) s h = h
+  in_one (parameter.Container a f) (two x b) s h = h
   in_one (parameter.Container a f) (scalar_at l) s h = h
   in_one (parameter.Container a f) (container_at l) s h = h
   in_one (parameter.Container a f) (element_at i j p) s h = h
@@ -44,6 +47,7 @@ module _ (I : Memory → Type 0) where
   in_one (parameter.Iterator b f) (number z) s h = h
   in_one (parameter.Iterator b f) (iterator x) s h = h
   in_one (parameter.Iterator b f) (pair x c) s h = h
+  in_one (parameter.Iterator b f) (two x c) s h = h
   in_one (parameter.Iterator b f) (scalar_at l) s h = h
   in_one (parameter.Iterator b f) (container_at l) s h = h
   in_one (parameter.Iterator b f) (element_at i j p) s h = h

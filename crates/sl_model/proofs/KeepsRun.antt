@@ -15,7 +15,7 @@ use Rattle.sl_syntax.specs.Typed.{prints, evaluates, assigns, updates, moves_to,
 use Rattle.sl_syntax.specs.Typed.{makes, First, no_first, declares_first, does_first, Stmt, block, declares, choice, choice_else, while, for}
 use Rattle.sl_syntax.specs.Typed.{range_for, break, continue, gives_back, does, Stmts, no_more, followed}
 use Rattle.sl_model.specs.Containers.{Memory, Part, write_element, end_from}
-use Rattle.sl_model.specs.Values.{Value, nothing, number, iterator, pair, scalar_at, container_at, element_at, Args}
+use Rattle.sl_model.specs.Values.{Value, nothing, number, iterator, pair, two, scalar_at, container_at, element_at, Args}
 use Rattle.sl_model.specs.State.{State, scalar_of, iter_of, cont_of, set_scalar_at, set_iterator_at, new_scalar, new_iterator, new_container}
 use Rattle.sl_model.specs.Ends.{OutOfSteps, NoMeaning}
 use Rattle.sl_model.specs.Eval.{Out, Gives, Stops, World, eval, reach, eval_all, then_eval, then_number, then_call, read_at, write_at, use_library}
@@ -51,6 +51,7 @@ module _ (I : Memory → Type 0) where
   in_number go k (number z) s h = k z s h
   in_number go k (iterator x) s h = k (pos 0) s h
   in_number go k (pair x b) s h = k (pos 0) s h
+  in_number go k (two x b) s h = k (pos 0) s h
   in_number go k (scalar_at l) s h = k (pos 0) s h
   in_number go k (container_at l) s h = k (pos 0) s h
   in_number go k (element_at i j p) s h = k (pos 0) s h
@@ -61,6 +62,7 @@ module _ (I : Memory → Type 0) where
   in_stamp go k (number z) s h = k 0 s h
   in_stamp go k (iterator x) s h = k x s h
   in_stamp go k (pair x b) s h = k 0 s h
+  in_stamp go k (two x b) s h = k 0 s h
   in_stamp go k (scalar_at l) s h = k 0 s h
   in_stamp go k (container_at l) s h = k 0 s h
   in_stamp go k (element_at i j p) s h = k 0 s h

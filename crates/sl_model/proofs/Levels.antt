@@ -5,8 +5,8 @@ use Rattle.std.specs.List.{slice_get, slice_set}
 use Rattle.std.proofs.Math.ListN.{length-set}
 use Rattle.std.proofs.lemmas.List.{length-take-le}
 use Rattle.sl_base.specs.declared.scalar.Scalar.{Scalar}
-use Rattle.sl_model.specs.Containers.{Memory, Part, cells_with, write_element}
-use Rattle.sl_model.specs.Values.{Value, nothing, number, iterator, pair, scalar_at, container_at, element_at}
+use Rattle.sl_model.specs.Containers.{Memory, Part, cont_with, write_element}
+use Rattle.sl_model.specs.Values.{Value, nothing, number, iterator, pair, two, scalar_at, container_at, element_at}
 use Rattle.sl_model.specs.State.{Slot, Frame, State, set_scalar_at, set_iterator_at, new_scalar, new_iterator, new_container, leave}
 use Rattle.sl_model.specs.Eval.{write_at}
 use Rattle.sl_model.specs.Good.{IsSound, IsGood}
@@ -149,13 +149,13 @@ written_as_many : (m : Memory) (j k : ℕ) (part : Part) (z : ℤ) → (length (
 written_as_many m j k part z = elim (slice_get m.conts j)
     as (λ o. (length (elim o as (λ _. Memory) [
       | None ↦ m
-      | Some c ↦ record m { conts = slice_set m.conts j (record c { cells = cells_with c.cells k part z }) }
+      | Some c ↦ record m { conts = slice_set m.conts j (cont_with c k part z) }
     ]).conts ≡ length m.conts)
     × ((elim o as (λ _. Memory) [
       | None ↦ m
-      | Some c ↦ record m { conts = slice_set m.conts j (record c { cells = cells_with c.cells k part z }) }
+      | Some c ↦ record m { conts = slice_set m.conts j (cont_with c k part z) }
     ]).fresh ≡ m.fresh))
-    [ None ↦ (refl, refl) | Some c ↦ (length-set m.conts j (record c { cells = cells_with c.cells k part z }), refl) ]
+    [ None ↦ (refl, refl) | Some c ↦ (length-set m.conts j (cont_with c k part z), refl) ]
 
 -- a number is written at a place
 pub write-now : (L : Level) (n : ℕ) (v : Value) (z : ℤ) (s : State) → Now L n s → Now L n (write_at v z s)
@@ -163,6 +163,7 @@ write-now L n nothing z s h = h
 write-now L n (number y) z s h = h
 write-now L n (iterator x) z s h = h
 write-now L n (pair x b) z s h = h
+write-now L n (two x b) z s h = h
 write-now L n (scalar_at l) z s h = set_scalar-now L n l z s h
 write-now L n (container_at l) z s h = h
 write-now L n (element_at j k part) z s h = let r = written_as_many s.memory j k part z in

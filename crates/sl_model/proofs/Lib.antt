@@ -1,26 +1,45 @@
--- ## Containers: which stamps stand where
+-- ## Containers: which marks stand where
 pub mod Getting
-pub mod Standing
-pub mod Located
-pub mod Buried
--- ## What making, ending and writing do to a memory
-pub mod Making
-pub mod Ending
-pub mod Writing
--- ## What a change does to a container and to a memory
-pub mod CameFrom
 pub mod Apart
-pub mod Shifted
-pub mod Sourced
-pub mod Changed
+pub mod Located
+pub mod Columns
+pub mod ColumnLaws
+pub mod Buried
+pub mod OneChange
+pub mod TwoChanges
+pub mod WithEnd
+-- ## What making, ending, writing and changes do to a memory
 pub mod After
+pub mod AfterTwo
+pub mod Making
+pub mod Writing
+pub mod Ending
+-- ## Which changes are fair
+pub mod Places
+pub mod Counts
+pub mod FairChanges
+pub mod FairRearrangements
 pub mod AfterEdit
-pub mod Vanishing
-pub mod Reviewed
--- ## Each row and each library: memory stays sound, and no stamp vanishes
+pub mod KeyCounts
+pub mod FineEffects
+-- ## Each row and each library: memory stays sound, and no mark vanishes
 pub mod Keeps
 pub mod KeepsRun
 pub mod KeepsCalls
+-- ## What each row gives
+pub mod Called
+pub mod Growing
+pub mod Placing
+pub mod Tells
+pub mod ContainersTell
+pub mod AlgorithmsTell
+pub mod OutputsTell
+pub mod AlgorithmRowsTell
+-- ## Each row is fine: its effect leaves a sound memory sound, and no mark vanishes
+pub mod FineRows
+pub mod FineContainers
+pub mod TableRows
+pub mod FineAlgorithms
 pub mod LibrarySound
 pub mod RunSound
 -- ## Scoped texts: each state of a run is good

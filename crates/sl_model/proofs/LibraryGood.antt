@@ -1,154 +1,115 @@
--- The library keeps what holds of all states of a run: each row gives its shape and a stamp that was used, and it makes a
--- container or leaves as many.
-use Rattle.std.proofs.Common.{◌≡◌, ℕ, ◌+◌, ◌≤◌, Bool, true, false, List, [], ◌∷◌, ◌++◌, Option, Some, None, length, length-append, refl, arith}
-use Rattle.std.proofs.Common.{if◌then◌else◌}
-use Rattle.std.specs.Prelude.{ℤ, pos, nat_lt}
-use Rattle.std.proofs.Math.ListN.{length-set}
-use Rattle.sl_base.specs.declared.limits.TheConstants.{ELEMENTS}
+-- The library keeps what holds of all states of a run: each row gives its shape and stamps that were used, and it makes a container
+-- or leaves as many.
+use Rattle.std.proofs.Common.{◌≡◌, ℕ, Bool, true, false, List, Option, Some, None, length, refl, ap, ◌∙◌, subst}
+use Rattle.sl_base.specs.declared.form.Form.{Form}
+use Rattle.sl_specs.specs.Rows.{Row as TableRow, Line, rows_on}
+use Rattle.sl_specs.specs.ContainerLines.{container_lines}
+use Rattle.sl_specs.specs.MultiLines.{multi_lines}
+use Rattle.sl_specs.specs.AlgorithmRows.{algorithm_rows}
+use Rattle.sl_specs.specs.Table.{table}
 use Rattle.sl_syntax.specs.declared.typed.callee.Callee.{Callee}
-use Rattle.sl_syntax.specs.declared.typed.callee.Callee.TheVariants as callees
-use Rattle.sl_syntax.specs.declared.typed.operator.Operator.{Operator}
-use Rattle.sl_syntax.specs.declared.typed.operator.Operator.TheVariants as operators
 use Rattle.sl_model.specs.Containers.{Memory}
-use Rattle.sl_model.specs.Values.{Value, Args, LibOut, trapped, thrown, faulted, gives, unbuilt}
-use Rattle.sl_model.specs.Situation.{Situation, own, own_size, place_of, number_of}
-use Rattle.sl_model.specs.Needs.{first_failure, all_failures, dereference_fails}
-use Rattle.sl_model.specs.Rows.{throws, edits, Row, inserts, grown_picks, insertion, make, begin, push_back, dereference, int_at, table, row_numbered}
-use Rattle.sl_model.specs.Rows.{row_of_operator}
-use Rattle.sl_model.specs.Library.{carried_out, called_row, lib}
+use Rattle.sl_model.specs.Forms.{holds_equal_keys}
+use Rattle.sl_model.specs.Values.{Args, LibOut, trapped}
+use Rattle.sl_model.specs.Situation.{Situation}
+use Rattle.sl_model.specs.Needs.{first_failure}
+use Rattle.sl_model.specs.Actions.{Answer, nothing, gives_number, gives_place, gives_place_and, gives_places, gives_element, Stop, never, exception}
+use Rattle.sl_model.specs.Actions.{overflow}
+use Rattle.sl_model.specs.Rows.{Row, meaning_of, row_of}
+use Rattle.sl_model.specs.Library.{value_in, form_of, carried_out, row_out, called_row, lib}
 use Rattle.sl_model.specs.Good.{IsSound}
-use Rattle.sl_model.specs.Shapes.{Shape, no_value, a_stamp, an_element, HasShape, shape_of_operator, shape_of_row, row_makes, lib_shape, lib_makes}
-use Rattle.sl_model.proofs.Getting.{get_within}
+use Rattle.sl_model.specs.Shapes.{Shape, HasShape, is_new_one, shape_of_row, row_makes, lib_shape, lib_makes}
 use Rattle.sl_model.proofs.Keeps.{InAnswer}
-use Rattle.sl_model.proofs.LibrarySound.{HasObject, row_by, situation, AllRows, IfRow, row_in-holds, lib-leaves}
-use Rattle.sl_model.proofs.Vanishing.{Leaves}
-use Rattle.sl_model.proofs.Gifts.{IsUsed, grown, IsAnswer, KeepsGood}
-use Rattle.sl_model.proofs.GoodRange.{begin_used}
+use Rattle.sl_model.proofs.After.{Leaves}
+use Rattle.sl_model.proofs.LibrarySound.{lib-leaves}
+use Rattle.sl_model.proofs.Called.{IsCalled, situation, row_by}
+use Rattle.sl_model.proofs.Growing.{grown, does-grows}
+use Rattle.sl_model.proofs.Placing.{IsPlaced, place_used}
+use Rattle.sl_model.proofs.Tells.{shape_of_answer, memory_after, Tells, RowTells, LineTells, AllOf, all_rows_on, all_lines}
+use Rattle.sl_model.proofs.TableRows.{all_table, row-holds}
+use Rattle.sl_model.proofs.ContainersTell.{container-tells, multi-tells}
+use Rattle.sl_model.proofs.AlgorithmRowsTell.{algorithm-tells, appending-tells, operator-tells}
+use Rattle.sl_model.proofs.Gifts.{IsUsed, IsAnswer, KeepsGood}
 
--- what a call gives, but for what it leaves of the memory
-pub record Tells (shape : Shape) (makes_one : Bool) (m : Memory) (v : Value) (t : Memory) : Type 0 where
-  pub many : length t.conts ≡ grown makes_one (length m.conts)
-  pub later : m.fresh ≤ t.fresh
-  pub shaped : HasShape shape v
-  pub used : IsUsed t.fresh v
+-- a row of the table tells what it gives
+abbrev TableRowTells : Bool → TableRow → Type 0
+TableRowTells appends r = RowTells (meaning_of appends r)
 
--- where a call gives something
-abbrev pub IsTold : Shape → Bool → Memory → LibOut → Type 0
-IsTold shape makes_one m (gives v t picks) = Tells shape makes_one m v t
-IsTold shape makes_one m (trapped k a) = Unit {0}
-IsTold shape makes_one m thrown = Unit {0}
-IsTold shape makes_one m (faulted w) = Unit {0}
-IsTold shape makes_one m unbuilt = Unit {0}
+-- the rows of a form do
+form-tells : (appends equal : Bool) (form : Form) (lines : List Line) → holds_equal_keys form ≡ equal → AllOf (LineTells equal) lines
+    → AllOf (TableRowTells appends) (rows_on form lines)
+form-tells appends equal form lines e h = all_rows_on (TableRowTells appends) form lines (all_lines equal form lines e h)
 
--- together with what is left of the memory
-both_hold : (shape : Shape) (makes_one : Bool) (m : Memory) (site : ℕ) (o : LibOut) → InAnswer (Leaves m site) o
-    → IsTold shape makes_one m o → IsAnswer shape makes_one m site o
-both_hold shape makes_one m site (gives v t picks) leaves h =
-    record { leaves = leaves; many = h.many; later = h.later; shaped = h.shaped; used = h.used }
-both_hold shape makes_one m site (trapped k a) leaves h = tt
-both_hold shape makes_one m site thrown leaves h = tt
-both_hold shape makes_one m site (faulted w) leaves h = tt
-both_hold shape makes_one m site unbuilt leaves h = tt
-
--- a row tells its shape and whether it makes a container, where its needs hold
-abbrev TellsRow : Shape → Bool → Row → Type 0
-TellsRow shape makes_one r = (s : Situation) → IsSound s.memory → HasObject r.object s → first_failure (all_failures r.needs s) ≡ None
-    → IsTold shape makes_one s.memory (carried_out r s (r.effect s))
-
--- a row on what it is called with
-row-told : (shape : Shape) (makes_one : Bool) (r : Row) (a : Args) (m : Memory) (picks : List ℕ) → TellsRow shape makes_one r → IsSound m
-    → IsTold shape makes_one m (called_row (Some r) a m picks)
-row-told shape makes_one r a m picks tells sound = row_by (IsTold shape makes_one m) r a m picks tt
-    (λ j there. by_failure (situation a m picks j) there (first_failure (all_failures r.needs (situation a m picks j))) refl (sound_in j))
-  where
-    sound_in : (j : ℕ) → IsSound (situation a m picks j).memory
-    sound_in j = sound
-
-    by_failure : (s : Situation) → HasObject r.object s → (o : Option (ℕ × ℕ)) → first_failure (all_failures r.needs s) ≡ o → IsSound s.memory
-        → IsTold shape makes_one s.memory (elim o as (λ _. LibOut) [ Some x ↦ trapped x.0 x.1 | None ↦ carried_out r s (r.effect s) ])
-    by_failure s there (Some x) e sound = tt
-    by_failure s there None e sound = tells s sound there e
-
--- a new vector
-make-told : TellsRow no_value true make
-make-told s sound there none = record { many = length-append s.memory.conts _; later = omega arith; shaped = tt; used = tt }
-
--- begin()
-begin-told : TellsRow a_stamp false begin
-begin-told s sound there none = record {
-  many = refl;
-  later = omega arith;
-  shaped = tt;
-  used = begin_used s.memory s.object sound (get_within s.memory.conts s.object (own s) there);
-}
-
--- push_back(x), whatever comes into the vector
-inserts-told : (s : Situation) (from : ℕ) (come : List (ℤ × ℤ)) → IsTold no_value false s.memory (carried_out push_back s (inserts s from come))
-inserts-told s from come = by_test (nat_lt ELEMENTS (own_size s + length come))
-  where
-    by_test : (b : Bool) → IsTold no_value false s.memory
-        (carried_out push_back s (if b then throws else edits (grown_picks (own s) (length come)) (insertion (own s) from come s.picks)))
-    by_test true = tt
-    by_test false = record { many = length-set s.memory.conts s.object _; later = omega arith; shaped = tt; used = tt }
-
--- push_back(x)
-push_back-told : TellsRow no_value false push_back
-push_back-told s sound there none = inserts-told s (own_size s) ((number_of s 1, pos 0) ∷ [])
-
--- *it
-dereference-told : TellsRow an_element false dereference
-dereference-told s sound there none = record {
-  many = refl;
-  later = omega arith;
-  shaped = by_place (place_of s 1) none;
-  used = by_use (place_of s 1);
-}
-  where
-    by_place : (o : Option (ℕ × ℕ)) → first_failure (dereference_fails s.memory o 1 ++ []) ≡ None → HasShape an_element (int_at o)
-    by_place None e = absurd (cc)
-    by_place (Some p) e = tt
-
-    by_use : (o : Option (ℕ × ℕ)) → IsUsed s.memory.fresh (int_at o)
-    by_use None = tt
-    by_use (Some p) = tt
-
--- a row tells the shape and the making that it says
-abbrev TellsItself : Row → Type 0
-TellsItself r = TellsRow r.shape r.makes_one r
+-- and those of the algorithms
+algorithms-tell : (appends : Bool) → AllOf (TableRowTells appends) algorithm_rows
+algorithms-tell true = appending-tells
+algorithms-tell false = algorithm-tells
 
 -- each row of the table does
-table-told : AllRows TellsItself table
-table-told = (make-told, (begin-told, (push_back-told, tt)))
+table-tells : (appends : Bool) → AllOf (TableRowTells appends) table
+table-tells appends = all_table (TableRowTells appends)
+    (λ form e. form-tells appends false form container_lines e container-tells)
+    (λ form e. form-tells appends true form multi_lines e multi-tells)
+    (algorithms-tell appends)
 
--- a row, if it is there, on what it is called with
-option-told : (o : Option Row) (a : Args) (m : Memory) (picks : List ℕ) → IfRow TellsItself o → IsSound m
-    → IsTold (shape_of_row o) (row_makes o) m (called_row o a m picks)
-option-told None a m picks tells sound = tt
-option-told (Some r) a m picks tells sound = row-told r.shape r.makes_one r a m picks tells sound
+-- the row of what is called
+row-tells : (callee : Callee) (r : Row) → row_of callee ≡ Some r → RowTells r
+row-tells = row-holds RowTells table-tells operator-tells
 
--- each row of an operator
-operator-told : (o : Operator) (a : Args) (m : Memory) (picks : List ℕ) → IsSound m
-    → IsTold (shape_of_operator o) false m (called_row (row_of_operator o) a m picks)
-operator-told operators.Dereference a m picks sound = row-told an_element false dereference a m picks dereference-told sound
-operator-told operators.ArrowFirst a m picks sound = tt
-operator-told operators.ArrowSecond a m picks sound = tt
-operator-told operators.Increment a m picks sound = tt
-operator-told operators.Decrement a m picks sound = tt
-operator-told operators.Add a m picks sound = tt
-operator-told operators.Subtract a m picks sound = tt
-operator-told operators.AddAssign a m picks sound = tt
-operator-told operators.SubtractAssign a m picks sound = tt
-operator-told operators.Difference a m picks sound = tt
-operator-told (operators.Compare c) a m picks sound = tt
+-- what is given has the shape of the answer
+answer_shaped : (m : Memory) (answer : Answer) → HasShape (shape_of_answer answer) (value_in m answer)
+answer_shaped m nothing = tt
+answer_shaped m (gives_number z) = tt
+answer_shaped m (gives_place j k) = tt
+answer_shaped m (gives_place_and j k b) = tt
+answer_shaped m (gives_places j k i) = tt
+answer_shaped m (gives_element j k part) = tt
 
--- each call of the library
-lib-told : (c : Callee) (a : Args) (m : Memory) (picks : List ℕ) → IsSound m → IsTold (lib_shape c) (lib_makes c) m (lib c a m picks)
-lib-told (callees.Row n) a m picks sound = option-told (row_numbered n) a m picks (row_in-holds TellsItself table n table-told) sound
-lib-told (callees.Appends n) a m picks sound = tt
-lib-told (callees.Operator o) a m picks sound = operator-told o a m picks sound
-lib-told (callees.Hidden o) a m picks sound = operator-told o a m picks sound
+-- its stamps were used
+answer_used : (m : Memory) (answer : Answer) → IsSound m → IsPlaced m answer → IsUsed m.fresh (value_in m answer)
+answer_used m nothing sound h = tt
+answer_used m (gives_number z) sound h = tt
+answer_used m (gives_place j k) sound h = place_used m j k sound h
+answer_used m (gives_place_and j k b) sound h = place_used m j k sound h
+answer_used m (gives_places j k i) sound h = (place_used m j k sound h.0, place_used m j i sound h.1)
+answer_used m (gives_element j k part) sound h = tt
+
+-- what a row gives that is carried out
+carried-good : (r : Row) (s : Situation) (stop : Stop) → Tells r s → InAnswer (Leaves s.memory s.site) (carried_out r s stop)
+    → IsAnswer r.shape (is_new_one r.object) s.memory s.site (carried_out r s stop)
+carried-good r s never h leaves =
+    let grows = does-grows (form_of r.object s) r.class s (r.action.effect s) in
+    record {
+      leaves = leaves;
+      many = grows.many ∙ ap (λ b. grown b (length s.memory.conts)) h.makes;
+      later = grows.later;
+      shaped = subst (λ (x : Shape). HasShape x (value_in (memory_after r s) (r.action.answer s))) h.shaped
+          (answer_shaped (memory_after r s) (r.action.answer s));
+      used = answer_used (memory_after r s) (r.action.answer s) leaves.sound h.placed;
+    }
+carried-good r s exception h leaves = tt
+carried-good r s overflow h leaves = tt
+
+-- what a row gives
+out-good : (r : Row) (s : Situation) → RowTells r → IsCalled r s → InAnswer (Leaves s.memory s.site) (row_out r s)
+    → IsAnswer r.shape (is_new_one r.object) s.memory s.site (row_out r s)
+out-good r s tells called leaves = by_failure (first_failure (r.fails s)) refl leaves
+  where
+    out_by : Option (ℕ × ℕ) → LibOut
+    out_by o = elim o as (λ _. LibOut) [ Some x ↦ trapped x.0 x.1 | None ↦ carried_out r s (r.action.stops s) ]
+
+    by_failure : (o : Option (ℕ × ℕ)) → first_failure (r.fails s) ≡ o → InAnswer (Leaves s.memory s.site) (out_by o)
+        → IsAnswer r.shape (is_new_one r.object) s.memory s.site (out_by o)
+    by_failure (Some x) e h = tt
+    by_failure None e h = carried-good r s (r.action.stops s) (tells s called e) h
+
+-- what a row gives, if it is there, on what it is called with
+called-good : (o : Option Row) (a : Args) (m : Memory) (picks : List ℕ) → ((r : Row) → o ≡ Some r → RowTells r)
+    → InAnswer (Leaves m a.site) (called_row o a m picks) → IsAnswer (shape_of_row o) (row_makes o) m a.site (called_row o a m picks)
+called-good None a m picks tells leaves = tt
+called-good (Some r) a m picks tells leaves = row_by (λ out. InAnswer (Leaves m a.site) out → IsAnswer r.shape (is_new_one r.object) m a.site out)
+    r a m picks (λ h. tt) (λ j called. out-good r (situation a m picks j) (tells r refl) called) leaves
 
 -- the library keeps what holds of all states of a run
 pub lib-good : KeepsGood lib_shape lib_makes lib
-lib-good c a m picks sound used =
-    both_hold (lib_shape c) (lib_makes c) m a.site (lib c a m picks) (lib-leaves c a m picks sound) (lib-told c a m picks sound)
+lib-good callee a m picks sound used = called-good (row_of callee) a m picks (row-tells callee) (lib-leaves callee a m picks sound)

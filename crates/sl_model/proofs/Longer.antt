@@ -10,7 +10,8 @@ use Rattle.sl_syntax.specs.Typed.{comparison, increment, move, call, own_call, f
 use Rattle.sl_syntax.specs.Typed.{element, Operands, none, with}
 use Rattle.sl_syntax.specs.declared.operator.Arithmetic.TheVariants as o
 use Rattle.sl_model.specs.Numbers.{Answer, value, fault, is_zero, truth, converted, operated, compared}
-use Rattle.sl_model.specs.Values.{Value, nothing, number, iterator, pair, scalar_at, container_at, element_at, Lib, LibOut, trapped, thrown, faulted}
+use Rattle.sl_model.specs.Values.{Value, nothing, number, iterator, pair, two, scalar_at, container_at, element_at, Lib, LibOut, trapped, thrown}
+use Rattle.sl_model.specs.Values.{faulted}
 use Rattle.sl_model.specs.Values.{gives as lib_gives, unbuilt}
 use Rattle.sl_model.specs.Ends.{End, OutOfSteps}
 use Rattle.sl_model.specs.State.{State, Slot, set_scalar_at, set_iterator_at}
@@ -56,6 +57,7 @@ with_number-later go same nothing s = same (pos 0) s
 with_number-later go same (number z) s = same z s
 with_number-later go same (iterator x) s = same (pos 0) s
 with_number-later go same (pair x b) s = same (pos 0) s
+with_number-later go same (two x b) s = same (pos 0) s
 with_number-later go same (scalar_at l) s = same (pos 0) s
 with_number-later go same (container_at l) s = same (pos 0) s
 with_number-later go same (element_at i j p) s = same (pos 0) s
@@ -98,6 +100,7 @@ read_at-later at nothing s = gives _ s
 read_at-later at (number z) s = gives _ s
 read_at-later at (iterator x) s = gives _ s
 read_at-later at (pair x b) s = gives _ s
+read_at-later at (two x b) s = gives _ s
 read_at-later at (scalar_at l) s = if_set-later at _ s
 read_at-later at (container_at l) s = gives _ s
 read_at-later at (element_at i j p) s = gives _ s
@@ -116,6 +119,7 @@ write_at-more k nothing z s = refl
 write_at-more k (number y) z s = refl
 write_at-more k (iterator x) z s = refl
 write_at-more k (pair x b) z s = refl
+write_at-more k (two x b) z s = refl
 write_at-more k (scalar_at l) z s = set_scalar_at-more k l z s
 write_at-more k (container_at l) z s = refl
 write_at-more k (element_at i j p) z s = refl
@@ -139,6 +143,7 @@ moved_to-later x at old nothing s = gives _ s
 moved_to-later x at old (number z) s = gives _ s
 moved_to-later x at old (iterator new) s = gives _ (set_iterator_at at new s)
 moved_to-later x at old (pair y b) s = gives _ s
+moved_to-later x at old (two y b) s = gives _ s
 moved_to-later x at old (scalar_at l) s = gives _ s
 moved_to-later x at old (container_at l) s = gives _ s
 moved_to-later x at old (element_at i j p) s = gives _ s

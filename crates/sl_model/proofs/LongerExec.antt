@@ -11,7 +11,7 @@ use Rattle.sl_syntax.specs.Typed.{evaluates, assigns, updates, moves_to, Declara
 use Rattle.sl_syntax.specs.Typed.{First, no_first, declares_first, does_first, Stmt, block, declares, choice, choice_else, while, for, range_for}
 use Rattle.sl_syntax.specs.Typed.{break, continue, gives_back, does, Stmts, no_more, followed}
 use Rattle.sl_model.specs.Numbers.{is_zero, converted, operated}
-use Rattle.sl_model.specs.Values.{Value, nothing, number, iterator, pair, scalar_at, container_at, element_at}
+use Rattle.sl_model.specs.Values.{Value, nothing, number, iterator, pair, two, scalar_at, container_at, element_at}
 use Rattle.sl_model.specs.Ends.{End, OutOfSteps, NoMeaning}
 use Rattle.sl_model.specs.State.{State, scalar_of, cont_of, iter_of, set_scalar_at, set_iterator_at, new_scalar, new_iterator, new_container, leave}
 use Rattle.sl_model.specs.Eval.{Out, World, use_library, write_at, name_place}
@@ -81,6 +81,7 @@ on_number-later go other same nothing s = same (pos 0) s
 on_number-later go other same (number z) s = same z s
 on_number-later go other same (iterator x) s = same (pos 0) s
 on_number-later go other same (pair x b) s = same (pos 0) s
+on_number-later go other same (two x b) s = same (pos 0) s
 on_number-later go other same (scalar_at l) s = same (pos 0) s
 on_number-later go other same (container_at l) s = same (pos 0) s
 on_number-later go other same (element_at i j p) s = same (pos 0) s
@@ -90,6 +91,7 @@ on_stamp-later go same nothing s = same 0 s
 on_stamp-later go same (number z) s = same 0 s
 on_stamp-later go same (iterator x) s = same x s
 on_stamp-later go same (pair x b) s = same 0 s
+on_stamp-later go same (two x b) s = same 0 s
 on_stamp-later go same (scalar_at l) s = same 0 s
 on_stamp-later go same (container_at l) s = same 0 s
 on_stamp-later go same (element_at i j p) s = same 0 s

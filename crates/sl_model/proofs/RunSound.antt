@@ -13,7 +13,7 @@ use Rattle.sl_model.specs.Eval.{World, eval}
 use Rattle.sl_model.specs.Exec.{exec}
 use Rattle.sl_model.specs.Calls.{call_of}
 use Rattle.sl_model.specs.Run.{empty_state, first_place}
-use Rattle.sl_model.specs.Good.{IsSound}
+use Rattle.sl_model.specs.Good.{AreKeptApart, IsSound}
 use Rattle.sl_model.proofs.Ending.{end_from-sound}
 use Rattle.sl_model.proofs.Writing.{write-sound}
 use Rattle.sl_model.proofs.Keeps.{InAnswer, InOut, keeps_eval}
@@ -21,15 +21,18 @@ use Rattle.sl_model.proofs.KeepsRun.{InFlow, in_exec}
 use Rattle.sl_model.proofs.KeepsCalls.{in_call}
 use Rattle.sl_model.proofs.LibrarySound.{KeepsMemory, sound-answer, lib-leaves}
 
+-- in no lists nothing stands
+nothing_apart : AreKeptApart [] [] 0
+nothing_apart = record {
+  once = λ j k i h s a b. absurd (let e = a.1 in cc);
+  used = λ j k s a. absurd (let e = a.1 in cc);
+  dropped = λ s site d. absurd (let e = d.1 in cc);
+  dead = λ j k s site a d. let e = a.1 in cc;
+}
+
 -- the memory without containers is sound
 pub empty-sound : IsSound empty_memory
-empty-sound = record {
-  once = λ j k i h s a b. absurd (let e = a.there in cc);
-  used = λ j k s a. absurd (let e = a.there in cc);
-  dropped = λ s site d. absurd (let e = d.1 in cc);
-  dead = λ j k s site a d. let e = a.there in cc;
-  small = λ j c h. absurd (cc);
-}
+empty-sound = record { stamps_apart = nothing_apart; refers_apart = nothing_apart; small = λ j c h. absurd (cc) }
 
 -- a library that keeps memory leaves each sound memory sound
 leaves-sound : (l : Lib) → KeepsMemory l → (c : Callee) (a : Args) (m : Memory) (picks : List ℕ) → IsSound m

@@ -20,7 +20,7 @@ use Rattle.sl_syntax.specs.Typed.{Expr, literal, held, iterator as iterator_held
 use Rattle.sl_syntax.specs.Typed.{comparison, increment, move, call, own_call, first, second, container, handed_scalar, Left, scalar, reference}
 use Rattle.sl_syntax.specs.Typed.{element, Operands, none, with}
 use Rattle.sl_model.specs.Containers.{element as element_of, write_element}
-use Rattle.sl_model.specs.Values.{Value, number, iterator, pair, scalar_at, container_at, element_at, LibOut, Lib, trapped, thrown, faulted, gives}
+use Rattle.sl_model.specs.Values.{Value, number, iterator, pair, two, scalar_at, container_at, element_at, LibOut, Lib, trapped, thrown, faulted, gives}
 use Rattle.sl_model.specs.Values.{unbuilt}
 use Rattle.sl_model.specs.Ends.{End, Trapped, Language, Thrown, NoMeaning, trap_of}
 use Rattle.sl_model.specs.State.{State, scalar_of, cont_of, iter_of, scalar_value, set_scalar_at, set_iterator_at, stamp_of}
@@ -137,14 +137,16 @@ abbrev pub moved_to : Fix → ℕ → ℕ → Value → State → Out
 moved_to x at old (iterator new) s = Gives (chosen x (iterator old) (iterator new)) (set_iterator_at at new s)
 moved_to x at old v s = Gives v s
 
--- the two parts of a pair
+-- the first part of a pair
 abbrev pub first_of : Value → Value
 first_of (pair stamp b) = iterator stamp
+first_of (two stamp other) = iterator stamp
 first_of v = v
 
--- the bool of a pair, as a number
+-- the second part of a pair: an iterator, or a bool as a number
 abbrev pub second_of : Value → Value
 second_of (pair stamp b) = number (truth b)
+second_of (two stamp other) = iterator other
 second_of v = v
 
 -- the place of a variable's or a reference's name; what a call gives is set

@@ -2,76 +2,72 @@
 --
 -- Restates ISO/IEC 14882:2017, [structure.specifications] and [res.on.required]: a call whose "Requires" doesn't hold has no
 -- meaning, else it throws or has its effects and its result.
--- Chosen here: needs come first, by ascending kind and then argument; then exceptions; then the effect. A call that no row takes is
--- unbuilt: a number or an operator without a row, an object that isn't there, is of another form or is too many,
--- another number or sort of operands.
-use Rattle.std.specs.Prelude.{ℕ, ◌&&◌, Bool, true, false, List, [], ◌∷◌, length, Option, Some, None, slice_get, if◌then◌else◌}
-use denote.Enum.Bare.{sameb}
-use Rattle.sl_base.specs.contracts.form.Form.{the_type}
+-- Chosen here: needs come first, by ascending kind and then argument; then exceptions; then the effect. A call that no row takes has
+-- no meaning: a number without a row, an object that isn't there, is of another form or is too many, another number or sort of
+-- operands. No well typed text has one.
+use Rattle.std.specs.Prelude.{ℕ, List, length, Option, Some, None, slice_get, slice_index_or, if◌then◌else◌}
 use Rattle.sl_base.specs.declared.form.Form.{Form}
-use Rattle.sl_model.specs.Containers.{Cont, Memory, made}
-use Rattle.sl_model.specs.Schedule.{after_picks}
-use Rattle.sl_model.specs.Edits.{change_of, after}
-use Rattle.sl_model.specs.Values.{Value, number, iterator, Args, LibOut, trapped, thrown, gives, unbuilt, Lib}
-use Rattle.sl_model.specs.Situation.{Situation, own}
-use Rattle.sl_model.specs.Needs.{first_failure, all_failures}
-use Rattle.sl_model.specs.Rows.{Sort, a_number, an_iterator, Effect, throws, keeps, makes, edits, Row, row_of}
+use Rattle.sl_model.specs.Containers.{Memory, stamp_at}
+use Rattle.sl_model.specs.Values.{Value, nothing as no_result, number, iterator, pair, two, element_at, Args, LibOut, trapped, thrown, faulted, gives}
+use Rattle.sl_model.specs.Values.{unbuilt, Lib}
+use Rattle.sl_model.specs.Operands.{is_of_form, are_of}
+use Rattle.sl_model.specs.Situation.{Situation, own, container_of_value}
+use Rattle.sl_model.specs.Needs.{first_failure}
+use Rattle.sl_model.specs.Actions.{Answer, nothing, gives_number, gives_place, gives_place_and, gives_places, gives_element}
+use Rattle.sl_model.specs.Actions.{Stop, never, exception, overflow}
+use Rattle.sl_model.specs.Effects.{Left, does}
+use Rattle.sl_model.specs.Rows.{Object, of_form, new_one, of_first, Row, row_of}
 
--- two forms are one
-abbrev pub same_form : Form → Form → Bool
-same_form = sameb the_type
+-- what is given in the memory after a call
+abbrev pub value_in : Memory → Answer → Value
+value_in m nothing = no_result
+value_in m (gives_number z) = number z
+value_in m (gives_place j k) = iterator (stamp_at m j k)
+value_in m (gives_place_and j k b) = pair (stamp_at m j k) b
+value_in m (gives_places j k i) = two (stamp_at m j k) (stamp_at m j i)
+value_in m (gives_element j k part) = element_at j k part
 
--- a value is of a sort
-abbrev pub is_of : Sort → Value → Bool
-is_of a_number (number z) = true
-is_of an_iterator (iterator stamp) = true
-is_of sort v = false
+-- a call has a container for its object, or it hasn't
+abbrev pub object_in : Memory → Object → Option ℕ → List Value → Option ℕ
+object_in m (of_form form) None vs = None
+object_in m (of_form form) (Some j) vs = if is_of_form form (slice_get m.conts j) then Some j else None
+object_in m (new_one form) None vs = Some (length m.conts)
+object_in m (new_one form) (Some j) vs = None
+object_in m of_first None vs = Some (container_of_value m (slice_index_or vs 0 no_result))
+object_in m of_first (Some j) vs = None
 
--- the values are of these sorts, one each
-abbrev pub are_of : List Sort → List Value → Bool
-are_of [] [] = true
-are_of (sort ∷ sorts) (v ∷ vs) = is_of sort v && are_of sorts vs
-are_of sorts vs = false
+-- the form on which an effect is carried out
+abbrev pub form_of : Object → Situation → Form
+form_of (of_form form) s = form
+form_of (new_one form) s = form
+form_of of_first s = (own s).form
 
--- the number j, where there is a container of a form
-abbrev pub of_form : Form → ℕ → Option Cont → Option ℕ
-of_form form j None = None
-of_form form j (Some c) = if same_form c.form form then Some j else None
+-- what is left and what is given
+abbrev pub returns : Row → Situation → Left → LibOut
+returns r s left = gives (value_in left.memory (r.action.answer s)) left.memory left.picks
 
--- the object of a call: a container of the form that is asked for, or the next one where none is asked for
-abbrev pub object_in : Memory → Option Form → Option ℕ → Option ℕ
-object_in m None None = Some (length m.conts)
-object_in m None (Some j) = None
-object_in m (Some form) None = None
-object_in m (Some form) (Some j) = of_form form j (slice_get m.conts j)
-
--- a value with the memory after a call and the picks that are left
-abbrev pub returns : Row → Situation → ℕ → Memory → LibOut
-returns r s n m = gives (r.result s m) m (after_picks n s.picks)
-
--- an effect is carried out
-abbrev pub carried_out : Row → Situation → Effect → LibOut
-carried_out r s throws = thrown
-carried_out r s keeps = returns r s 0 s.memory
-carried_out r s (makes n form room) = returns r s n (made form room s.memory)
-carried_out r s (edits n e) = returns r s n (after (change_of r.class (own s) e) s.memory s.object (own s) s.site)
+-- the effect is carried out, where nothing stops the run
+abbrev pub carried_out : Row → Situation → Stop → LibOut
+carried_out r s never = returns r s (does (form_of r.object s) r.class s (r.action.effect s))
+carried_out r s exception = thrown
+carried_out r s overflow = faulted 1
 
 -- the first failure, else the effect
 abbrev pub row_out : Row → Situation → LibOut
-row_out r s = elim (first_failure (all_failures r.needs s)) [ Some f ↦ trapped f.0 f.1 | None ↦ carried_out r s (r.effect s) ]
+row_out r s = elim (first_failure (r.fails s)) [ Some f ↦ trapped f.0 f.1 | None ↦ carried_out r s (r.action.stops s) ]
 
 -- a row on an object, where the operands are its
 abbrev pub on_object : Row → Args → Memory → List ℕ → Option ℕ → LibOut
 on_object r a m picks None = unbuilt
 on_object r a m picks (Some j) =
-    if are_of r.operands a.values
+    if are_of m r.operands a.values
     then row_out r (record { memory = m; object = j; values = a.values; picks = picks; site = a.site })
     else unbuilt
 
 -- a row on what it is called with
 abbrev pub called_row : Option Row → Args → Memory → List ℕ → LibOut
 called_row None a m picks = unbuilt
-called_row (Some r) a m picks = on_object r a m picks (object_in m r.object a.object)
+called_row (Some r) a m picks = on_object r a m picks (object_in m r.object a.object a.values)
 
 -- a call of the library
 abbrev pub lib : Lib

@@ -24,7 +24,7 @@ use Rattle.sl_syntax.specs.Typed.{Effect, reads, prints, evaluates, assigns, upd
 use Rattle.sl_syntax.specs.Typed.{binds_reference, makes, First, no_first, declares_first, does_first, Stmt, block, declares, choice, choice_else}
 use Rattle.sl_syntax.specs.Typed.{while, for, range_for, break, continue, gives_back, does, Stmts, no_more, followed, Function, Typed}
 use Rattle.sl_model.specs.Good.{AreBelow, AreApart}
-use Rattle.sl_model.specs.Shapes.{Shape, no_value, a_number, a_stamp, a_pair, an_element, Gift, a_value, Signature, shape_of_result, gift_of}
+use Rattle.sl_model.specs.Shapes.{Shape, no_value, a_number, a_stamp, an_element, Gift, a_value, HasParts, Signature, shape_of_result, gift_of}
 use Rattle.sl_model.specs.Shapes.{gifts_of, AllSuit, containers_in, signature_of}
 
 -- how many variables of each sort are in scope
@@ -79,8 +79,8 @@ abbrev mutual
   InExpr g c (move x it h ops) = (it < c.iters) × ((g.shape h.callee ≡ a_stamp) × (IsCall g c false h × InOperands g c ops))
   InExpr g c (call h ops) = IsCall g c false h × InOperands g c ops
   InExpr g c (own_call f at ops) = IsOwnCall g f (gifts_of g ops) × InOperands g c ops
-  InExpr g c (first at a) = (gift_of g a ≡ a_value a_pair) × InExpr g c a
-  InExpr g c (second at a) = (gift_of g a ≡ a_value a_pair) × InExpr g c a
+  InExpr g c (first at a) = HasParts (gift_of g a) × InExpr g c a
+  InExpr g c (second at a) = HasParts (gift_of g a) × InExpr g c a
   InExpr g c (container x) = x < c.conts
   InExpr g c (handed_scalar x) = x < c.scalars
 

@@ -5,19 +5,16 @@
 -- [iterator.requirements.general].
 -- Chosen here: types are told apart as far as their values are, so all types of numbers have one shape. For a call of the
 -- library, the shape goes by what is called, and so does whether it makes a container.
-use Rattle.std.specs.Prelude.{◌≡◌, ℕ, Bool, false, List, [], ◌∷◌, ◌++◌, Option, Some, None, slice_get}
+use Rattle.std.specs.Prelude.{◌≡◌, ℕ, Bool, true, false, List, [], ◌∷◌, ◌++◌, Option, Some, None, slice_get}
 use Rattle.sl_syntax.specs.declared.typed.callee.Callee.{Callee}
-use Rattle.sl_syntax.specs.declared.typed.callee.Callee.TheVariants as callees
-use Rattle.sl_syntax.specs.declared.typed.operator.Operator.{Operator}
-use Rattle.sl_syntax.specs.declared.typed.operator.Operator.TheVariants as operators
 use Rattle.sl_syntax.specs.declared.typed.parameter.ParameterKind.{ParameterKind}
 use Rattle.sl_syntax.specs.declared.typed.parameter.ParameterKind.TheVariants as parameter
-use Rattle.sl_syntax.specs.Typed.{Expr, iterator as iterator_held, move, call, own_call, first, container, handed_scalar, Operands, none, with}
+use Rattle.sl_syntax.specs.Typed.{Expr, iterator as iterator_held, move, call, own_call, first, second, container, handed_scalar, Operands, none, with}
 use Rattle.sl_syntax.specs.Typed.{Function, Typed}
-use Rattle.sl_model.specs.Values.{Value, nothing, number, iterator, pair, scalar_at, container_at, element_at}
+use Rattle.sl_model.specs.Values.{Value, nothing, number, iterator, pair, two, scalar_at, container_at, element_at}
 use Rattle.sl_model.specs.State.{Frame}
-use Rattle.sl_model.specs.Rows.{Row, row_numbered}
-pub use Rattle.sl_model.specs.Values.{Shape, no_value, a_number, a_stamp, a_pair, an_element}
+use Rattle.sl_model.specs.Rows.{Object, new_one, Row, row_of}
+pub use Rattle.sl_model.specs.Values.{Shape, no_value, a_number, a_stamp, a_pair, two_stamps, an_element}
 
 -- what an expression gives: a value of a shape, or a variable by its number
 pub data Gift : Type 0 where
@@ -38,6 +35,7 @@ HasShape no_value nothing = Unit {0}
 HasShape a_number (number z) = Unit {0}
 HasShape a_stamp (iterator stamp) = Unit {0}
 HasShape a_pair (pair stamp b) = Unit {0}
+HasShape two_stamps (two stamp other) = Unit {0}
 HasShape an_element (element_at j k part) = Unit {0}
 HasShape shape v = ⊥
 
@@ -58,6 +56,11 @@ shape_of_result k = no_value
 abbrev pub shape_of_call : List Function → ℕ → Shape
 shape_of_call functions f = elim (slice_get functions f) [ None ↦ no_value | Some h ↦ shape_of_result h.result ]
 
+-- the shape of the second part of what is given
+abbrev pub shape_of_second : Gift → Shape
+shape_of_second (a_value two_stamps) = a_stamp
+shape_of_second gift = a_number
+
 -- what an expression gives
 abbrev pub gift_of : Signature → Expr → Gift
 gift_of g (iterator_held x) = a_value a_stamp
@@ -65,9 +68,16 @@ gift_of g (move x it h ops) = a_value a_stamp
 gift_of g (call h ops) = a_value (g.shape h.callee)
 gift_of g (own_call f at ops) = a_value (shape_of_call g.functions f)
 gift_of g (first at a) = a_value a_stamp
+gift_of g (second at a) = a_value (shape_of_second (gift_of g a))
 gift_of g (container x) = the_container x
 gift_of g (handed_scalar x) = the_scalar x
 gift_of g a = a_value a_number
+
+-- what is given has two parts
+abbrev pub HasParts : Gift → Type 0
+HasParts (a_value a_pair) = Unit {0}
+HasParts (a_value two_stamps) = Unit {0}
+HasParts gift = ⊥
 
 -- what operands give
 abbrev pub gifts_of : Signature → Operands → List Gift
@@ -98,43 +108,28 @@ abbrev pub containers_in : List Gift → List ℕ
 containers_in [] = []
 containers_in (gift ∷ gifts) = container_in gift ++ containers_in gifts
 
--- the shape of what an operator gives
-abbrev pub shape_of_operator : Operator → Shape
-shape_of_operator operators.Dereference = an_element
-shape_of_operator operators.ArrowFirst = an_element
-shape_of_operator operators.ArrowSecond = an_element
-shape_of_operator operators.Increment = a_stamp
-shape_of_operator operators.Decrement = a_stamp
-shape_of_operator operators.Add = a_stamp
-shape_of_operator operators.Subtract = a_stamp
-shape_of_operator operators.AddAssign = a_stamp
-shape_of_operator operators.SubtractAssign = a_stamp
-shape_of_operator operators.Difference = a_number
-shape_of_operator (operators.Compare c) = a_number
-
 -- the shape of what a row gives, if it is there
 abbrev pub shape_of_row : Option Row → Shape
 shape_of_row None = no_value
 shape_of_row (Some r) = r.shape
 
+-- an object is a new container
+abbrev pub is_new_one : Object → Bool
+is_new_one (new_one form) = true
+is_new_one object = false
+
 -- a row, if it is there, makes a container
 abbrev pub row_makes : Option Row → Bool
 row_makes None = false
-row_makes (Some r) = r.makes_one
+row_makes (Some r) = is_new_one r.object
 
 -- the shape of what a call of the library gives
 abbrev pub lib_shape : Callee → Shape
-lib_shape (callees.Row n) = shape_of_row (row_numbered n)
-lib_shape (callees.Appends n) = no_value
-lib_shape (callees.Operator o) = shape_of_operator o
-lib_shape (callees.Hidden o) = shape_of_operator o
+lib_shape callee = shape_of_row (row_of callee)
 
 -- a call of the library makes a container
 abbrev pub lib_makes : Callee → Bool
-lib_makes (callees.Row n) = row_makes (row_numbered n)
-lib_makes (callees.Appends n) = false
-lib_makes (callees.Operator o) = false
-lib_makes (callees.Hidden o) = false
+lib_makes callee = row_makes (row_of callee)
 
 -- what is known of the calls in a text
 abbrev pub signature_of : (Callee → Shape) → (Callee → Bool) → Typed → Signature

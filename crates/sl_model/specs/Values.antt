@@ -13,6 +13,8 @@ pub data Value : Type 0 where
   iterator : ℕ → Value
   -- an iterator with a bool
   pair : ℕ → Bool → Value
+  -- two iterators
+  two : ℕ → ℕ → Value
   scalar_at : ℕ → Value
   container_at : ℕ → Value
   -- a number of the element at an index of a container
@@ -25,6 +27,8 @@ pub data Shape : Type 0 where
   -- an iterator
   a_stamp : Shape
   a_pair : Shape
+  -- two iterators
+  two_stamps : Shape
   -- the place of an element
   an_element : Shape
 

@@ -1,24 +1,30 @@
 //! Laws of the definitions that a reviewer would ask for.
-ghost use Rattle.std.specs.Prelude.{◌≡◌, ◌≢◌, ◌+◌, ◌<◌, ◌≤◌, ◌↔◌, IsTrue, ℕ, ℤ, List, [], ◌∷◌, length, slice_get};
+ghost use Rattle.std.specs.Prelude.{◌≡◌, ◌≢◌, ◌+◌, ◌<◌, ◌≤◌, ◌↔◌, IsTrue, ℕ, ℤ, List, [], ◌∷◌, length, slice_get, false, Some};
 ghost use Rattle.sl_syntax.specs.declared.typed.callee.Callee.{Callee};
 ghost use Rattle.sl_syntax.specs.Typed.{Typed};
-ghost use Rattle.sl_model.specs.Containers.{Cont, Memory, Dropped, size, stamps};
+ghost use Rattle.sl_model.specs.Containers.{Cont, Memory, Dropped, Lost, size, stamps, refers};
 ghost use Rattle.sl_specs.specs.declared.class.Class.TheVariants.{VectorInsert};
-ghost use Rattle.sl_model.specs.Edits.{Change, Edit, kills, after};
+ghost use Rattle.sl_specs.specs.declared.rows.sequences.TheConstants.{VECTOR_PUSH_BACK};
+ghost use Rattle.sl_model.specs.Classes.{Edit, kills, loses};
+ghost use Rattle.sl_model.specs.Edits.{Change, after};
 ghost use Rattle.sl_model.specs.Situation.{Situation, own_size};
-ghost use Rattle.sl_model.specs.Rows.{edits, push_back};
+ghost use Rattle.sl_model.specs.Actions.{edits};
+ghost use Rattle.sl_model.specs.SequenceActions.{push_back};
+ghost use Rattle.sl_model.specs.Rows.{Row, row_numbered};
 ghost use Rattle.sl_model.specs.Values.{Args, Value, gives};
 ghost use Rattle.sl_model.specs.Library.{lib};
-ghost use Rattle.sl_model.specs.Good.{IsAt, IsGood, IsSound, NoneVanishes};
+ghost use Rattle.sl_model.specs.Good.{IsAt, IsGood, IsSound, NoneVanishes, RefersTo};
 ghost use Rattle.sl_model.specs.Scoped.{IsScoped};
 ghost use Rattle.sl_model.specs.Shapes.{lib_makes, lib_shape};
 ghost use Rattle.sl_model.specs.Ends.{OutOfSteps};
 ghost use Rattle.sl_model.specs.Run.{end_state, main_out, run};
 
 /// One element comes in at the end of a vector of n elements, as `push_back` does it. Where there is room for it, the
-/// end is invalidated and no other place; where there is none, every place is.
+/// iterators at the end are invalidated and at no other place; where there is none, those at every place are. A
+/// reference is invalidated where the iterators at its element are.
 pub fn push_back_kills()
-    ensures class { push_back.class ≡ VectorInsert }
+    ensures row { (r : Row) → row_numbered false VECTOR_PUSH_BACK ≡ Some r →
+        (r.class ≡ VectorInsert) × (r.action ≡ push_back) }
     ensures edit { (s : Situation) (picks : ℕ) (e : Edit) → push_back.effect s ≡ edits picks e →
         (e.from ≡ own_size s) × (e.gone ≡ 0) × (length e.come ≡ 1) }
     ensures with_room { (n room new_room k : ℕ) (x : ℤ × ℤ) → n + 1 ≤ room → k ≤ n →
@@ -26,18 +32,25 @@ pub fn push_back_kills()
         ↔ (k ≡ n)) }
     ensures grown { (n room new_room k : ℕ) (x : ℤ × ℤ) → room < n + 1 → k ≤ n →
         IsTrue (kills VectorInsert n room (record { from = n; gone = 0; come = x ∷ []; room = new_room }) k) }
+    ensures references { (n room k : ℕ) (e : Edit) → loses VectorInsert n room e k ≡ kills VectorInsert n room e k }
 {}
 
-/// In a sound memory a stamp stands at one place at most, and one that was dropped stands nowhere.
+/// In a sound memory a stamp stands at one place at most, and one that was dropped stands nowhere; and so does a refer.
 pub fn one_place()
     ensures once { (m : Memory) → IsSound m → (j k i h s : ℕ) → IsAt m j k s → IsAt m i h s → (j ≡ i) × (k ≡ h) }
     ensures nowhere { (m : Memory) → IsSound m → (s site : ℕ) → Dropped m s site → (j k : ℕ) → IsAt m j k s → ⊥ }
+    ensures refers_once { (m : Memory) → IsSound m → (j k i h r : ℕ) → RefersTo m j k r → RefersTo m i h r →
+        (j ≡ i) × (k ≡ h) }
+    ensures refers_nowhere { (m : Memory) → IsSound m → (r site : ℕ) → Lost m r site → (j k : ℕ) →
+        RefersTo m j k r → ⊥ }
 {}
 
 /// What a change invalidates is dropped with the site of the change.
 pub fn dropped_has_its_site()
-    ensures { (ch : Change) (m : Memory) (j k s site : ℕ) (c : Cont) → slice_get m.conts j ≡ Some c →
+    ensures stamps { (ch : Change) (m : Memory) (j k s site : ℕ) (c : Cont) → slice_get m.conts j ≡ Some c →
         slice_get (stamps c) k ≡ Some s → IsTrue (ch.kill k) → Dropped (after ch m j c site) s site }
+    ensures refers { (ch : Change) (m : Memory) (j k r site : ℕ) (c : Cont) → slice_get m.conts j ≡ Some c →
+        slice_get (refers c) k ≡ Some r → IsTrue (ch.lose k) → Lost (after ch m j c site) r site }
 {}
 
 /// What stood before a call of the library stands after it, or it was dropped at the call's site.

@@ -15,13 +15,14 @@ use Rattle.sl_syntax.specs.declared.typed.operator.Operator.TheVariants as opera
 use Rattle.sl_syntax.specs.Typed.{makes, none, with, literal, iterator as iterator_operand, held, element, call, evaluates, set_iterator, set_scalar}
 use Rattle.sl_syntax.specs.SubsetView.{stmt_of, free_call, member_call, vector_row, begin_row, push_back_row}
 use Rattle.sl_model.specs.Containers.{Cont, size, cont_at, killer}
+use Rattle.sl_model.specs.Numbers.{converted}
 use Rattle.sl_model.specs.Schedule.{pick}
 use Rattle.sl_model.specs.Values.{Value, number, iterator, nothing, LibOut, thrown, trapped, gives}
 use Rattle.sl_model.specs.Ends.{Trapped, OutOfSteps, End}
 use Rattle.sl_model.specs.State.{State, cont_of, iter_of, stamp_of, new_iterator}
 use Rattle.sl_model.specs.Eval.{Oracle, settle_call}
 use Rattle.sl_model.specs.Exec.{Flow, Next, Over, Meaning, tick, exec, flow_of, on_stamp, declared, affect}
-use Rattle.sl_model.specs.Rows.{grown_picks}
+use Rattle.sl_model.specs.Effects.{picks_with}
 use Rattle.sl_model.specs.Library.{lib}
 use Rattle.sl_model.specs.Covers.{Tells}
 use Rattle.sl_tool.specs.declared.analysis.Warning.{Warning}
@@ -32,9 +33,10 @@ use Rattle.sl_tool.specs.Means.Analysis.{fault_in, told_at}
 use Rattle.sl_tool.specs.Means.Told.{warning_of}
 use Rattle.sl_tool.proofs.Describes.{Describes, Stays}
 use Rattle.sl_tool.proofs.Lists.{there, get_or-there}
-use Rattle.sl_tool.proofs.Calls.{lib-begin, lib-push_back, pushed_back, lib-star_valid, lib-star_invalid, at_element, cont_at-there}
+use Rattle.sl_tool.proofs.Calls.{lib-vector, lib-begin, lib-push_back, bare, pushing, pushed_back, lib-star_valid, lib-star_invalid}
+use Rattle.sl_tool.proofs.Calls.{starring, at_element, cont_at-there}
 use Rattle.sl_tool.proofs.Kept.{kept-vector, kept-begin, kept-valid, kept-push, after_push}
-use Rattle.sl_tool.proofs.Steps.{world_of, vector_in, located, push_flow, star_flow}
+use Rattle.sl_tool.proofs.Steps.{world_of, vector_in, located, vector_flow, push_flow, star_flow}
 use Rattle.sl_tool.proofs.Exactly.{IsPlain, IsGone, stands_still, full-vector, full-begin, full-valid, full-push}
 use Rattle.sl_model.proofs.Located.{locate-at, locate-dropped}
 use Rattle.sl_model.proofs.Buried.{dropped-killer}
@@ -77,12 +79,14 @@ pub plain-vector : (k : Known) (own : Oracle) (place named : Place) (n : ℕ) (s
     → GoesOn (with_vector k) n (exec (world_of own) (stmt_of (Vector place named)) s)
 plain-vector k own place named n s p =
     steps-on (GoesOn (with_vector k) n) (declared (world_of own) (makes f.Vector (free_call (callees.Row vector_row) place []) none)) n s
-    p.steps (λ m left. record {
+    p.steps (λ m left.
+    subst (λ (out : LibOut). GoesOn (with_vector k) n (vector_flow place (record s { steps = m }) out)) (sym (lib-vector s.memory s.picks))
+    (record {
       described = kept-vector k s.memory s.frame s.iters (pick s.picks) p.described;
       full = full-vector k s.memory s.iters (pick s.picks) (ap pick p.picks) p.full;
       picks = none_left 1 s.picks p.picks;
       steps = left;
-    })
+    }))
 
 pub plain-begin : (k : Known) (own : Oracle) (place named : Place) (v name n : ℕ) (s : State) → IsPlain k (n + 1) s → v < length k.filled
     → GoesOn (with_iterator k v) n (exec (world_of own) (stmt_of (Begin place v name named)) s)
@@ -94,7 +98,7 @@ plain-begin k own place named v name n s p lt =
     steps-on (GoesOn (with_iterator k v) n) (declared (world_of own) (set_iterator (call h none))) n s p.steps (λ m left.
     let now : State = record s { steps = m } in
     subst (λ (out : LibOut). GoesOn (with_iterator k v) n (flow_of (settle_call h [] out now) (on_stamp (λ stamp t. Next (new_iterator stamp t)))))
-    (sym (ap (λ (j : ℕ). lib (callees.Row begin_row) (record { site = 0; object = Some j; values = [] }) s.memory s.picks) at
+    (sym (ap (λ (j : ℕ). lib (callees.Row begin_row) (bare (Some j)) s.memory s.picks) at
     ∙ lib-begin s.memory v c.0 s.picks c.1 (d.forms v c.0 c.1)))
     (record {
       described = kept-begin k s.memory s.frame s.iters v c.0 d c.1;
@@ -111,12 +115,12 @@ push_plain k h vs n s v c z site p at few = by_size (nat_lt ELEMENTS (size c + 1
   where
     by_size : (b : Bool) → nat_lt ELEMENTS (size c + 1) ≡ b
         → GoesOn (with_push k v site) n
-        (push_flow h vs s (if b then thrown else gives nothing (after_push s.memory v c z s.picks site) (drop (grown_picks c 1) s.picks)))
+        (push_flow h vs s (if b then thrown else gives nothing (after_push s.memory v c z s.picks site) (drop (picks_with c.form c 1) s.picks)))
     by_size true e = absurd (let old = p.full.few v c at in let more = ltb-true ELEMENTS (size c + 1) e in omega arith)
     by_size false e = record {
       described = kept-push k s.memory s.frame s.iters v c z s.picks site p.described at (ltb-false ELEMENTS (size c + 1) e);
       full = full-push k s.memory s.frame s.iters v c z s.picks site p.described at p.picks p.full;
-      picks = none_left (grown_picks c 1) s.picks p.picks;
+      picks = none_left (picks_with c.form c 1) s.picks p.picks;
       steps = p.steps;
     }
 
@@ -131,9 +135,10 @@ plain-push k own place v name site z n s p lt few =
     steps-on (GoesOn (with_push k v site) n) (affect (world_of own) (evaluates (call h (with (literal t.Int (pos z)) none)))) n s p.steps (λ m left.
     let now : State = record s { steps = m } in
     subst (λ (out : LibOut). GoesOn (with_push k v site) n (push_flow h (number (pos z) ∷ []) now out))
-    (sym (ap (λ (j : ℕ). lib (callees.Row push_back_row) (record { site = site; object = Some j; values = number (pos z) ∷ [] }) s.memory s.picks) at
+    (sym (ap (λ (j : ℕ). lib (callees.Row push_back_row) (pushing site j (pos z)) s.memory s.picks) at
     ∙ lib-push_back s.memory v c.0 (pos z) s.picks site c.1 (d.forms v c.0 c.1)))
-    (push_plain k h (number (pos z) ∷ []) n now v c.0 (pos z) site (record { described = d; full = p.full; picks = p.picks; steps = left }) c.1 few))
+    (push_plain k h (number (pos z) ∷ []) n now v c.0 (converted t.Int (pos z)) site
+    (record { described = d; full = p.full; picks = p.picks; steps = left }) c.1 few))
 
 -- `*` of an iterator that was dropped
 star_gone : (names : List (List ℕ)) (place : Place) (name stamp site x : ℕ) (xs killers : List ℕ) (s : State) → killers ≡ x ∷ xs
@@ -179,7 +184,7 @@ star_here names k place name it stamp n standing s filled p at stays e =
 
 -- what the library gives at `*` of an iterator
 abbrev star_out : ℕ → State → LibOut
-star_out stamp s = lib (callees.Operator operators.Dereference) (record { site = 0; object = None; values = iterator stamp ∷ [] }) s.memory s.picks
+star_out stamp s = lib (callees.Operator operators.Dereference) (starring stamp) s.memory s.picks
 
 -- `*` of an iterator, by the calls that are behind its standing
 star_plain : (names : List (List ℕ)) (k : Known) (place : Place) (name it stamp n : ℕ) (standing : Standing) (s : State) (killers : List ℕ)

@@ -4,10 +4,13 @@ use Rattle.std.proofs.Common.{arith, ◌≡◌, ℕ, ◌+◌, ◌-◌, ◌≤◌
 use Rattle.std.specs.Prelude.{slice_get, nat_lt, Contains, ℤ}
 use Rattle.std.proofs.lemmas.Option.{slice_get_within}
 use Rattle.std.proofs.lemmas.Bool.{cases_eq, lt-ltb, cond-true}
+use Rattle.sl_base.specs.declared.form.Form.{Form}
 use Rattle.sl_base.specs.declared.form.Form.TheVariants as f
 use Rattle.sl_model.specs.Containers.{Memory, Cont, size, made, killer}
 use Rattle.sl_specs.specs.declared.class.Class.TheVariants.{VectorInsert}
-use Rattle.sl_model.specs.Edits.{change_of, changed, kills}
+use Rattle.sl_model.specs.Classes.{kills}
+use Rattle.sl_model.specs.Edits.{change_of, changed}
+use Rattle.sl_model.specs.Effects.{room_with}
 use Rattle.sl_model.specs.Schedule.{pick}
 use Rattle.sl_model.specs.Good.{IsAt, IsSound}
 use Rattle.sl_model.specs.State.{State, Frame}
@@ -49,7 +52,7 @@ stands_still k m frame iters i stamp standing d at known none = elim (d.stands i
 
 -- A new vector.
 pub full-vector : (k : Known) (m : Memory) (iters : List ℕ) (room : ℕ) → room ≡ 0 → IsFull k m iters
-    → IsFull (with_vector k) (made f.Vector room m) iters
+    → IsFull (with_vector k) (made f.Vector room [] m) iters
 full-vector k m iters room none d =
     let new : Cont = record { form = f.Vector; cells = []; end = m.fresh; room = room } in
     record {
@@ -94,9 +97,10 @@ full_kills : (c : Cont) (z : ℤ) (picks : List ℕ) → c.room ≡ size c → k
 full_kills c z picks full = cond-true (nat_lt c.room (size c + 1)) true _ (lt-ltb c.room (size c + 1) (omega arith))
 
 -- the room that a full vector has after that
-full_room : (c : Cont) (z : ℤ) (picks : List ℕ) → c.room ≡ size c → picks ≡ [] → (push_edit c z picks).room ≡ size c + 1
-full_room c z picks full none =
-    cond-true (nat_lt c.room (size c + 1)) (size c + 1 + pick picks) c.room (lt-ltb c.room (size c + 1) (omega arith))
+full_room : (c : Cont) (z : ℤ) (picks : List ℕ) → c.form ≡ f.Vector → c.room ≡ size c → picks ≡ [] → (push_edit c z picks).room ≡ size c + 1
+full_room c z picks form full none =
+    ap (λ (g : Form). room_with g c 1 picks) form
+    ∙ cond-true (nat_lt c.room (size c + 1)) (size c + 1 + pick picks) c.room (lt-ltb c.room (size c + 1) (omega arith))
     ∙ ap (λ (ps : List ℕ). size c + 1 + pick ps) none
     ∙ (let e : size c + 1 + 0 ≡ size c + 1 = omega arith in e)
 
@@ -127,14 +131,14 @@ pub full-push : (k : Known) (m : Memory) (frame : Frame) (iters : List ℕ) (v :
     → Describes k m frame iters → slice_get m.conts v ≡ Some c → picks ≡ [] → IsFull k m iters
     → IsFull (with_push k v site) (after_push m v c z picks site) iters
 full-push k m frame iters v c z picks site d there none h =
-    let new : Cont = changed m.fresh (change_of VectorInsert c (push_edit c z picks)) c c in
+    let new : Cont = changed m.fresh (change_of VectorInsert c (push_edit c z picks)) c in
     let sized : size new ≡ size c + 1 = size-after VectorInsert m c (push_edit c z picks) (omega arith)
     ∙ (let e : size c + 1 - 0 ≡ size c + 1 = omega arith in e) in
     let more : length (k.pushes ++ record { vector = v; site = site } ∷ []) ≡ length k.pushes + 1 =
     length-more k.pushes (record { vector = v; site = site }) in
     record {
       full = λ j x at. elim (written m.conts v new x j at) [
-        | inl same ↦ rw same.1 (full_room c z picks (h.full v c there) none ∙ sym sized)
+        | inl same ↦ rw same.1 (full_room c z picks (d.forms v c there) (h.full v c there) none ∙ sym sized)
         | inr old ↦ h.full j x old.1
       ];
       few = λ j x at. elim (written m.conts v new x j at) [

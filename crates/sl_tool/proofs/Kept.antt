@@ -13,10 +13,11 @@ use Rattle.sl_base.specs.declared.form.Form.TheVariants as f
 use Rattle.sl_base.specs.declared.limits.TheConstants.{ELEMENTS}
 use Rattle.sl_model.specs.Containers.{Memory, Cont, size, stamps, made, begin_of}
 use Rattle.sl_specs.specs.declared.class.Class.TheVariants.{VectorInsert}
-use Rattle.sl_model.specs.Edits.{numbers, Edit, change_of, after, changed, kills, shifted, vector_insert_kills}
+use Rattle.sl_model.specs.Classes.{Edit, kills, vector_insert_kills}
+use Rattle.sl_model.specs.Edits.{numbers, change_of, after, changed, shifted}
 use Rattle.sl_model.specs.Good.{IsAt, IsSound}
 use Rattle.sl_model.specs.State.{Frame}
-use Rattle.sl_model.specs.Rows.{insertion}
+use Rattle.sl_model.specs.Effects.{insertion}
 use Rattle.sl_tool.specs.declared.analysis.Standing.{Standing}
 use Rattle.sl_tool.specs.Means.Analysis.{Known, is_filled, killers_of, with_vector, with_push, with_iterator, found_valid}
 use Rattle.sl_tool.proofs.Describes.{Describes, IsHere, Stays}
@@ -37,11 +38,11 @@ frame-more xs x at n e q = rw (e, q, length-more xs x) (numbers-more (length xs)
 
 -- A new vector.
 pub kept-vector : (k : Known) (m : Memory) (frame : Frame) (iters : List ℕ) (room : ℕ) → Describes k m frame iters
-    → Describes (with_vector k) (made f.Vector room m) (record frame { conts = frame.conts ++ length m.conts ∷ [] }) iters
+    → Describes (with_vector k) (made f.Vector room [] m) (record frame { conts = frame.conts ++ length m.conts ∷ [] }) iters
 kept-vector k m frame iters room d =
     let new : Cont = record { form = f.Vector; cells = []; end = m.fresh; room = room } in
     record {
-      sound = made-sound f.Vector room m d.sound;
+      sound = made-sound f.Vector room [] m d.sound (omega arith);
       vectors = length-more m.conts new ∙ ap (λ n. n + 1) d.vectors ∙ sym (length-more k.filled false);
       iterators = d.iterators;
       conts_frame = frame-more k.filled false frame.conts (length m.conts) d.conts_frame d.vectors;
@@ -54,7 +55,7 @@ kept-vector k m frame iters room d =
       ];
       stands = λ i stamp standing at known. elim (d.stands i stamp standing at known) [
         | inl stays ↦ inl (record {
-          here = made-at f.Vector room m standing.vector 0 stamp stays.here;
+          here = made-at f.Vector room [] m standing.vector 0 stamp stays.here;
           same = get_or_append_left k.filled (false ∷ []) false standing.vector
               (let lt = slice_get_within m.conts standing.vector stays.here.cont stays.here.there in let e = d.vectors in omega arith) ∙ stays.same;
           still = stays.still;
@@ -201,9 +202,10 @@ pub kept-push : (k : Known) (m : Memory) (frame : Frame) (iters : List ℕ) (v :
     → Describes k m frame iters → slice_get m.conts v ≡ Some c → size c + 1 ≤ ELEMENTS
     → Describes (with_push k v site) (after_push m v c z picks site) frame iters
 kept-push k m frame iters v c z picks site d there few =
-    let new : Cont = changed m.fresh (change_of VectorInsert c (push_edit c z picks)) c c in
+    let new : Cont = changed m.fresh (change_of VectorInsert c (push_edit c z picks)) c in
     record {
-      sound = after-sound VectorInsert m v c (push_edit c z picks) site d.sound there (omega arith) few;
+      sound = after-sound VectorInsert m v c (push_edit c z picks) site d.sound there (omega arith)
+          (λ k low high. absurd (omega arith)) (omega arith);
       vectors = length-set m.conts v new ∙ d.vectors ∙ sym (length-set k.filled v true);
       iterators = d.iterators;
       conts_frame = d.conts_frame ∙ ap (λ n. numbers 0 n) (sym (length-set k.filled v true));

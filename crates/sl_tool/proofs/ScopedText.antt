@@ -7,6 +7,7 @@ use Rattle.sl_syntax.specs.declared.subset.Stmt.TheVariants.{Vector, PushBack, B
 use Rattle.sl_syntax.specs.declared.subset.Text.{Text}
 use Rattle.sl_syntax.specs.SubsetView.{stmts_of, main_of, typed_of}
 use Rattle.sl_base.specs.declared.limits.TheConstants.{CALLS}
+use Rattle.sl_specs.specs.Table.{table}
 use Rattle.sl_model.specs.Calls.{call_of}
 use Rattle.sl_model.specs.Library.{lib}
 use Rattle.sl_model.specs.Run.{empty_state, first_place}
@@ -21,6 +22,7 @@ use Rattle.sl_tool.proofs.Founded.{uses-declared}
 in_scope : (functions : List Function) (ss : List Stmt) (scalars vectors iterators : ℕ) → UsesDeclared vectors iterators ss
     → InStmts (record { shape = lib_shape; makes = lib_makes; functions = functions }) a_number
     (record { scalars = scalars; conts = vectors; iters = iterators }) (stmts_of ss)
+unfolding table
 in_scope functions [] scalars vectors iterators u = tt
 in_scope functions (Vector place named ∷ ss) scalars vectors iterators u = (((refl, tt), tt), in_scope functions ss scalars (vectors + 1) iterators u)
 in_scope functions (PushBack place v name site z ∷ ss) scalars vectors iterators u =

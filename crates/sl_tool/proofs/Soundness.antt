@@ -7,17 +7,16 @@ use Rattle.sl_syntax.specs.declared.subset.Stmt.TheVariants.{Vector, PushBack, B
 use Rattle.sl_syntax.specs.declared.subset.Text.{Text}
 use Rattle.sl_syntax.specs.Typed.{Function}
 use Rattle.sl_syntax.specs.SubsetView.{stmt_of, stmts_of, typed_of, main_of, brace_site}
-use Rattle.sl_model.specs.Containers.{empty_memory}
-use Rattle.sl_model.specs.Good.{IsAt}
 use Rattle.sl_model.specs.Ends.{Trap}
 use Rattle.sl_model.specs.State.{State}
 use Rattle.sl_model.specs.Eval.{Oracle}
 use Rattle.sl_model.specs.Exec.{Flow, Next, Broke, Continued, Returned, Over, exec, exec_all, scoped}
 use Rattle.sl_model.specs.Calls.{called, call_of}
-use Rattle.sl_model.specs.Values.{Value, nothing, number, iterator, pair, scalar_at, container_at, element_at}
+use Rattle.sl_model.specs.Values.{Value, nothing, number, iterator, pair, two, scalar_at, container_at, element_at}
 use Rattle.sl_model.specs.Run.{done_with, empty_state, finished, run}
 use Rattle.sl_model.specs.Library.{lib}
 use Rattle.sl_model.specs.Covers.{Covers, Reports, Safe, HasMeaning, Warning as WarningValue}
+use Rattle.sl_model.proofs.RunSound.{empty-sound}
 use Rattle.sl_tool.specs.declared.analysis.Warning.{Warning}
 use Rattle.sl_tool.specs.Means.Analysis.{Known, nothing_known, standing_at, is_filled, warned, warnings_of, with_vector, with_push, with_iterator}
 use Rattle.sl_tool.specs.Means.Analysis.{found_valid}
@@ -57,20 +56,11 @@ walk names own (Dereference place it name named ∷ ss) k s d u =
     (λ t e. walk names own ss (found_valid k it (standing_at k it)) t e
     (same_uses _ _ _ _ ss refl (sym (length-set k.iterators it (valid k (standing_at k it)))) u.1))
 
-none_at : (j k s : ℕ) → IsAt empty_memory j k s → ⊥
-none_at j k s h = let e = h.there in cc
-
 -- a run begins where nothing is known
 pub begins : (input : List ℤ) (picks : List ℕ) (steps : ℕ) → let s : State = empty_state input picks steps in
     Describes nothing_known s.memory s.frame s.iters
 begins input picks steps = record {
-  sound = record {
-    once = λ j k i h s a b. absurd (none_at j k s a);
-    used = λ j k s a. absurd (none_at j k s a);
-    dropped = λ s site d. absurd (let e = d.1 in cc);
-    dead = λ j k s site a d. none_at j k s a;
-    small = λ j c e. absurd cc;
-  };
+  sound = empty-sound;
   vectors = refl;
   iterators = refl;
   conts_frame = refl;
@@ -87,6 +77,7 @@ done_told names ws nothing = tt
 done_told names ws (number z) = tt
 done_told names ws (iterator x) = tt
 done_told names ws (pair x b) = tt
+done_told names ws (two x y) = tt
 done_told names ws (scalar_at l) = tt
 done_told names ws (container_at l) = tt
 done_told names ws (element_at i k p) = tt

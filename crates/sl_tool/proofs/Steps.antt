@@ -14,15 +14,16 @@ use Rattle.sl_syntax.specs.declared.typed.operator.Operator.TheVariants as opera
 use Rattle.sl_syntax.specs.Typed.{makes, none, with, literal, iterator as iterator_operand, held, element, call, evaluates, set_iterator, set_scalar}
 use Rattle.sl_syntax.specs.SubsetView.{stmt_of, free_call, member_call, vector_row, begin_row, push_back_row}
 use Rattle.sl_model.specs.Containers.{Memory, Cont, size, cont_at, killer, key_part}
+use Rattle.sl_model.specs.Numbers.{converted}
 use Rattle.sl_model.specs.Schedule.{pick}
 use Rattle.sl_model.specs.Edits.{numbers}
 use Rattle.sl_model.specs.Values.{Value, number, iterator, nothing, element_at, LibOut, thrown, trapped, gives}
 use Rattle.sl_model.specs.Good.{IsAt}
 use Rattle.sl_model.specs.Ends.{Trap}
-use Rattle.sl_model.specs.State.{State, Frame, cont_of, iter_of, stamp_of, new_scalar, new_iterator}
+use Rattle.sl_model.specs.State.{State, Frame, cont_of, iter_of, stamp_of, new_scalar, new_iterator, new_container}
 use Rattle.sl_model.specs.Eval.{Oracle, World, then_eval, settle_call, read_at}
 use Rattle.sl_model.specs.Exec.{Flow, Next, exec, flow_of, on_number, on_stamp, declared, affect}
-use Rattle.sl_model.specs.Rows.{grown_picks}
+use Rattle.sl_model.specs.Effects.{picks_with}
 use Rattle.sl_model.specs.Library.{lib}
 use Rattle.sl_model.specs.Covers.{Covers}
 use Rattle.sl_tool.specs.declared.analysis.Standing.{Standing}
@@ -32,7 +33,8 @@ use Rattle.sl_tool.specs.Means.Told.{report_of}
 use Rattle.sl_tool.proofs.Describes.{Describes, Stays}
 use Rattle.sl_tool.proofs.Goes.{Goes, ticked}
 use Rattle.sl_tool.proofs.Lists.{there, get_or-there, number-at}
-use Rattle.sl_tool.proofs.Calls.{lib-begin, lib-push_back, pushed_back, lib-star_valid, lib-star_invalid, at_element, cont_at-there}
+use Rattle.sl_tool.proofs.Calls.{lib-vector, lib-begin, lib-push_back, bare, pushing, pushed_back, lib-star_valid, lib-star_invalid}
+use Rattle.sl_tool.proofs.Calls.{starring, at_element, cont_at-there}
 use Rattle.sl_tool.proofs.Kept.{kept-vector, kept-begin, kept-valid, kept-push, after_push}
 use Rattle.sl_model.proofs.Located.{locate-at, locate-dropped}
 use Rattle.sl_model.proofs.Buried.{dropped-killer}
@@ -41,11 +43,17 @@ use Rattle.sl_model.proofs.Buried.{dropped-killer}
 abbrev pub world_of : Oracle → World
 world_of own = record { lib = lib; own = own }
 
+-- what follows the making of a vector
+abbrev pub vector_flow : Place → State → LibOut → Flow
+vector_flow place s out = flow_of (settle_call (free_call (callees.Row vector_row) place []) [] out s)
+    (λ v t. Next (new_container (length s.memory.conts) t))
+
 pub goes-vector : (names : List (List ℕ)) (k : Known) (own : Oracle) (place named : Place) (s : State) → Describes k s.memory s.frame s.iters
     → Goes names (with_vector k) true [] (exec (world_of own) (stmt_of (Vector place named)) s)
 goes-vector names k own place named s d = ticked names (with_vector k) true []
-    (declared (world_of own) (makes f.Vector (free_call (callees.Row vector_row) place []) none)) s
-    (λ n. (refl, kept-vector k s.memory s.frame s.iters (pick s.picks) d))
+    (declared (world_of own) (makes f.Vector (free_call (callees.Row vector_row) place []) none)) s (λ n.
+    subst (λ (out : LibOut). Goes names (with_vector k) true [] (vector_flow place (record s { steps = n }) out))
+    (sym (lib-vector s.memory s.picks)) (refl, kept-vector k s.memory s.frame s.iters (pick s.picks) d))
 
 -- a vector that is in scope is there, at the location of its number
 pub vector_in : (k : Known) (m : Memory) (frame : Frame) (iters : List ℕ) (v : ℕ) → Describes k m frame iters → v < length k.filled → (c : Cont)
@@ -65,7 +73,7 @@ push_case : (names : List (List ℕ)) (k : Known) (h : Head) (vs : List Value) (
 push_case names k h vs s v c z site d at = by_size (nat_lt ELEMENTS (size c + 1)) refl
   where
     by_size : (b : Bool) → nat_lt ELEMENTS (size c + 1) ≡ b → Goes names (with_push k v site) true []
-        (push_flow h vs s (if b then thrown else gives nothing (after_push s.memory v c z s.picks site) (drop (grown_picks c 1) s.picks)))
+        (push_flow h vs s (if b then thrown else gives nothing (after_push s.memory v c z s.picks site) (drop (picks_with c.form c 1) s.picks)))
     by_size true e = tt
     by_size false e = (refl, kept-push k s.memory s.frame s.iters v c z s.picks site d at (ltb-false ELEMENTS (size c + 1) e))
 
@@ -79,9 +87,9 @@ goes-push_back names k own place v name site z s d lt =
     ticked names (with_push k v site) true [] (affect (world_of own) (evaluates (call h (with (literal t.Int (pos z)) none)))) s (λ n.
     let now : State = record s { steps = n } in
     subst (λ (out : LibOut). Goes names (with_push k v site) true [] (push_flow h (number (pos z) ∷ []) now out))
-    (sym (ap (λ (j : ℕ). lib (callees.Row push_back_row) (record { site = site; object = Some j; values = number (pos z) ∷ [] }) s.memory s.picks) at
+    (sym (ap (λ (j : ℕ). lib (callees.Row push_back_row) (pushing site j (pos z)) s.memory s.picks) at
     ∙ lib-push_back s.memory v c.0 (pos z) s.picks site c.1 (d.forms v c.0 c.1)))
-    (push_case names k h (number (pos z) ∷ []) now v c.0 (pos z) site d c.1))
+    (push_case names k h (number (pos z) ∷ []) now v c.0 (converted t.Int (pos z)) site d c.1))
 
 pub goes-begin : (names : List (List ℕ)) (k : Known) (own : Oracle) (place named : Place) (v name : ℕ) (s : State)
     → Describes k s.memory s.frame s.iters → v < length k.filled
@@ -94,7 +102,7 @@ goes-begin names k own place named v name s d lt =
     let now : State = record s { steps = n } in
     subst (λ (out : LibOut). Goes names (with_iterator k v) true []
     (flow_of (settle_call h [] out now) (on_stamp (λ stamp t. Next (new_iterator stamp t)))))
-    (sym (ap (λ (j : ℕ). lib (callees.Row begin_row) (record { site = 0; object = Some j; values = [] }) s.memory s.picks) at
+    (sym (ap (λ (j : ℕ). lib (callees.Row begin_row) (bare (Some j)) s.memory s.picks) at
     ∙ lib-begin s.memory v c.0 s.picks c.1 (d.forms v c.0 c.1)))
     (refl, kept-begin k s.memory s.frame s.iters v c.0 d c.1))
 
@@ -193,7 +201,7 @@ goes-star names k own place named it name s d lt =
     let now : State = record s { steps = n } in
     subst (λ (x : ℕ). Goes names (found_valid k it standing) standing.at_element (dereferenced k place name standing)
     (star_flow place name x now
-    (lib (callees.Operator operators.Dereference) (record { site = 0; object = None; values = iterator x ∷ [] }) s.memory s.picks)))
+    (lib (callees.Operator operators.Dereference) (starring x) s.memory s.picks)))
     (sym same)
     (⊎_elim
     (λ (stays : Stays s.memory stamp.0 (is_filled k standing.vector) (killers_of k standing) standing).

@@ -9,6 +9,7 @@ use Rattle.sl_syntax.specs.declared.operator.Comparison.TheVariants as c
 use Rattle.sl_syntax.specs.declared.typed.parameter.ParameterKind.TheVariants as parameter
 use Rattle.sl_syntax.specs.Typed.{literal, held, arithmetic, comparison, own_call, container, handed_scalar, scalar, none, with, test, text, number}
 use Rattle.sl_syntax.specs.Typed.{reads, prints, evaluates, assigns, updates, set_scalar, block, declares, choice, gives_back, does, Typed}
+use Rattle.sl_specs.specs.Table.{table}
 use Rattle.sl_model.specs.Ends.{Done, Trapped, OutOfSteps, Language}
 use Rattle.sl_model.specs.Run.{run}
 use Rattle.sl_model.proofs.Examples.Short.{at, all, vector, push, start, deref, main_of, text_of, finish, trap}
@@ -234,8 +235,9 @@ right_first = text_of (
 
 -- the right side grows the vector before the left side is evaluated
 right_first_traps : run right_first [] [] 100 ≡ finish (Trapped (trap (at 9 3) 1 (codes "*") 1 (Some 1) (Some 0))) [] 0
+unfolding table
 right_first_traps = refl
 
 right_first_with_room : run right_first [] (2 ∷ []) 100 ≡ finish (Done (pos 0)) (codes "5") 0
-unfolding digits
+unfolding digits table
 right_first_with_room = refl

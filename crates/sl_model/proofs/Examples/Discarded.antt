@@ -7,6 +7,7 @@ use Rattle.sl_syntax.specs.declared.typed.step.Fix.TheVariants.{Prefix}
 use Rattle.sl_syntax.specs.declared.typed.step.Step.TheVariants.{Up}
 use Rattle.sl_syntax.specs.Typed.{literal, held, arithmetic, comparison, increment, scalar, test, evaluates, unset_scalar, set_scalar, declares, does}
 use Rattle.sl_syntax.specs.Typed.{does_first, for, Typed}
+use Rattle.sl_specs.specs.Table.{table}
 use Rattle.sl_model.specs.Ends.{Done, Language, Trapped}
 use Rattle.sl_model.specs.Run.{run}
 use Rattle.sl_model.proofs.Examples.Short.{at, vector, push, start, deref, alone, finish, trap}
@@ -88,4 +89,5 @@ star_alone = alone (Some 1) (
 
 -- a discarded call is a call
 star_alone_fails : run star_alone [] [] 100 ≡ finish (Trapped (trap (at 5 3) 1 (codes "*") 1 (Some 1) (Some 0))) [] 0
+unfolding table
 star_alone_fails = refl

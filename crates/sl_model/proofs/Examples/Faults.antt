@@ -10,6 +10,7 @@ use Rattle.sl_syntax.specs.declared.typed.step.Step.TheVariants.{Up, Down}
 use Rattle.sl_syntax.specs.Typed.{literal, held, convert, arithmetic, comparison, increment, own_call, handed_scalar, scalar, none, with, test}
 use Rattle.sl_syntax.specs.Typed.{number, reads, prints, evaluates, assigns, updates, unset_scalar, set_scalar, block, declares, choice, while}
 use Rattle.sl_syntax.specs.Typed.{gives_back, does, Stmt, Typed}
+use Rattle.sl_specs.specs.Table.{table}
 use Rattle.sl_model.specs.Ends.{Done, OutOfSteps, Language}
 use Rattle.sl_model.specs.Run.{run}
 use Rattle.sl_model.proofs.Examples.Short.{at, all, vector, push, start, deref, main_of, text_of, alone, finish}
@@ -145,9 +146,9 @@ through_iterator = alone (Some 1) (
 
 -- 21 + 21 and 1, and 43 * 99999999 is no int
 through_iterator_faults : run through_iterator [] [] 100 ≡ finish (Language (at 8 7) 1) (codes "43") 0
-unfolding digits
+unfolding digits table
 through_iterator_faults = refl
 
 through_iterator_in_six_steps : run through_iterator [] [] 6 ≡ finish OutOfSteps (codes "43") 0
-unfolding digits
+unfolding digits table
 through_iterator_in_six_steps = refl

@@ -11,7 +11,8 @@ use Rattle.sl_syntax.specs.declared.typed.step.Step.TheVariants.{Up, Down}
 use Rattle.sl_syntax.specs.Typed.{literal, held, arithmetic, comparison, increment, call, scalar, none, with, read, test, always, number, prints}
 use Rattle.sl_syntax.specs.Typed.{evaluates, assigns, updates, moves_to, unset_scalar, set_scalar, no_first, declares_first, does_first, block}
 use Rattle.sl_syntax.specs.Typed.{declares, choice, while, for, range_for, break, continue, gives_back, does, Stmt, Typed}
-use Rattle.sl_model.specs.Ends.{Done, Trapped, OutOfSteps, NoMeaning}
+use Rattle.sl_specs.specs.Table.{table}
+use Rattle.sl_model.specs.Ends.{Done, Trapped, OutOfSteps}
 use Rattle.sl_model.specs.Run.{run}
 use Rattle.sl_model.proofs.Examples.Short.{at, head, all, vector, push, start, deref, main_of, text_of, alone, finish, trap}
 
@@ -142,20 +143,22 @@ grows_in_loop = alone (Some 2) (
 
 -- no turn, and so no growth
 grows_in_loop_not : run grows_in_loop [] [] 100 ≡ finish (Done (pos 0)) (codes "0") 0
-unfolding digits
+unfolding digits table
 grows_in_loop_not = refl
 
 grows_in_loop_traps : run grows_in_loop (pos 7 ∷ []) [] 100 ≡ finish (Trapped (trap (at 7 16) 1 (codes "*") 1 (Some 2) (Some 1))) [] 0
+unfolding table
 grows_in_loop_traps = refl
 
 -- three elements in a room of 3
 grows_in_loop_with_room : run grows_in_loop (pos 7 ∷ pos 8 ∷ []) (3 ∷ []) 100 ≡ finish (Done (pos 0)) (codes "0") 0
-unfolding digits
+unfolding digits table
 grows_in_loop_with_room = refl
 
 -- the fourth one grows
 grows_in_loop_past_the_room : run grows_in_loop (pos 7 ∷ pos 8 ∷ pos 9 ∷ []) (3 ∷ []) 100
     ≡ finish (Trapped (trap (at 7 16) 1 (codes "*") 1 (Some 2) (Some 1))) [] 0
+unfolding table
 grows_in_loop_past_the_room = refl
 
 -- the loop's body of `moved_in_loop`
@@ -185,11 +188,12 @@ moved_in_loop = alone (Some 1) (
     []) (at 10 1) (at 6 7 ∷ at 10 1 ∷ []) (codes "v" ∷ codes "x" ∷ codes "it" ∷ [])
 
 moved_in_loop_is_done : run moved_in_loop (pos 4 ∷ pos 5 ∷ []) [] 100 ≡ finish (Done (pos 0)) (codes "4") 0
-unfolding digits
+unfolding digits table
 moved_in_loop_is_done = refl
 
 -- no turn: the iterator is the end
 moved_in_loop_traps : run moved_in_loop [] [] 100 ≡ finish (Trapped (trap (at 9 16) 4 (codes "*") 1 (Some 2) None)) [] 0
+unfolding table
 moved_in_loop_traps = refl
 
 -- int main() {
@@ -202,6 +206,7 @@ range = alone (Some 0) (
     range_for 0 taken.Value 0 (at 3 3) 0 (does (prints (number (held (scalar 0 (at 3 32))) ∷ []))) ∷
     []) (at 4 1) (at 4 1 ∷ []) (codes "v" ∷ [])
 
--- the library has no `!=` yet, by which a range-for begins
-range_has_no_meaning : run range [] [] 100 ≡ finish (NoMeaning (at 3 3)) [] 0
-range_has_no_meaning = refl
+-- no element: the body doesn't run
+range_is_done : run range [] [] 100 ≡ finish (Done (pos 0)) [] 0
+unfolding table
+range_is_done = refl

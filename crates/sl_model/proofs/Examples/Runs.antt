@@ -10,6 +10,7 @@ use Rattle.sl_syntax.specs.Typed.{literal, held, iterator, call, element, none, 
 use Rattle.sl_syntax.specs.Typed.{does, no_more, followed, Typed}
 use Rattle.sl_syntax.specs.declared.subset.Stmt.TheVariants.{Vector, PushBack, Begin, Dereference}
 use Rattle.sl_syntax.specs.SubsetView.{main_of}
+use Rattle.sl_specs.specs.Table.{table}
 use Rattle.sl_model.specs.Values.{thrown, faulted, unbuilt}
 use Rattle.sl_model.specs.Ends.{Done, Trapped, OutOfSteps, Language, Thrown, NoMeaning}
 use Rattle.sl_model.specs.Run.{run, run_over}
@@ -70,24 +71,30 @@ growth = record {
 
 -- no room is left over, so that the second `push_back` grows
 growth_traps : run growth [] (0 ∷ 0 ∷ []) 100 ≡ finish (Trapped (trap (at 6 11) 1 (codes "*") 1 (Some 1) (Some 1))) [] 0
+unfolding table
 growth_traps = refl
 
 -- no number is left to pick
 growth_traps_by_default : run growth [] [] 100 ≡ finish (Trapped (trap (at 6 11) 1 (codes "*") 1 (Some 1) (Some 1))) [] 0
+unfolding table
 growth_traps_by_default = refl
 
 -- the first `push_back` grows to a room of 2
 growth_with_room : run growth [] (0 ∷ 1 ∷ []) 100 ≡ finish (Done (pos 0)) [] 0
+unfolding table
 growth_with_room = refl
 
 -- the vector has room from the start
 growth_with_room_at_once : run growth [] (5 ∷ []) 5 ≡ finish (Done (pos 0)) [] 0
+unfolding table
 growth_with_room_at_once = refl
 
 growth_in_four_steps : run growth [] (5 ∷ []) 4 ≡ finish OutOfSteps [] 0
+unfolding table
 growth_in_four_steps = refl
 
 growth_in_two_steps : run growth [] (5 ∷ []) 2 ≡ finish OutOfSteps [] 0
+unfolding table
 growth_in_two_steps = refl
 
 -- the tree is the one that the code's typed text stands for

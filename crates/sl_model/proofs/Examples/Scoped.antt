@@ -14,6 +14,7 @@ use Rattle.sl_syntax.specs.declared.typed.step.Step.TheVariants.{Up}
 use Rattle.sl_syntax.specs.Typed.{Expr, literal, held, call, own_call, comparison, increment, scalar, container, handed_scalar, none, with, test}
 use Rattle.sl_syntax.specs.Typed.{evaluates, assigns, set_scalar, makes, declares_first, block, declares, for, range_for, does, no_more, followed}
 use Rattle.sl_syntax.specs.Typed.{Function, Typed}
+use Rattle.sl_specs.specs.Table.{table}
 use Rattle.sl_model.specs.Good.{AreApart}
 use Rattle.sl_model.specs.Shapes.{Signature, lib_shape, lib_makes, signature_of}
 use Rattle.sl_model.specs.Scoped.{Counts, InExpr, AsksWell, IsScopedFunction, IsScoped}
@@ -30,6 +31,7 @@ one_function p h e scoped zero k g =
 one_function p h e scoped (suc i) k g = absurd (let q : None ≡ Some k = sym (ap (λ l. slice_get l (suc i)) e) ∙ g in cc)
 
 growth_is_scoped : IsScoped lib_shape lib_makes growth
+unfolding table
 growth_is_scoped = record {
   bodies = one_function growth _ refl (
     ((refl, tt), tt),
@@ -121,6 +123,7 @@ take_is_scoped : IsScopedFunction calls take
 take_is_scoped = (((omega arith), (omega arith)), tt)
 
 user_is_scoped : IsScopedFunction calls user
+unfolding table
 user_is_scoped = (
   ((refl, tt), tt),
   (

@@ -11,6 +11,7 @@ use Rattle.sl_syntax.specs.declared.typed.step.Step.TheVariants.{Up}
 use Rattle.sl_syntax.specs.Typed.{literal, held, arithmetic, comparison, increment, call, own_call, scalar, none, with, test, number, prints}
 use Rattle.sl_syntax.specs.Typed.{evaluates, assigns, moves_to, set_scalar, declares_first, block, declares, choice, while, for, break, gives_back}
 use Rattle.sl_syntax.specs.Typed.{does, Stmt, Typed}
+use Rattle.sl_specs.specs.Table.{table}
 use Rattle.sl_model.specs.Ends.{Done, Trapped, OutOfSteps}
 use Rattle.sl_model.specs.Run.{run}
 use Rattle.sl_model.proofs.Examples.Short.{at, head, all, vector, push, start, deref, read_from, main_of, text_of, alone, finish, trap}
@@ -94,10 +95,11 @@ another_dies = alone (Some 3) (
 
 -- the brace invalidates iterators of its own containers alone, and a block takes no step
 another_dies_prints : run another_dies [] [] 7 ≡ finish (Done (pos 0)) (codes "1") 0
-unfolding digits
+unfolding digits table
 another_dies_prints = refl
 
 another_dies_in_six_steps : run another_dies [] [] 6 ≡ finish OutOfSteps [] 0
+unfolding table
 another_dies_in_six_steps = refl
 
 -- the inner block of `left_early`
@@ -142,6 +144,7 @@ left_early = alone (Some 4) (
 
 -- `break` leaves two blocks: the vector dies at the brace of the inner one
 left_early_traps : run left_early [] [] 100 ≡ finish (Trapped (trap (at 14 11) 1 (codes "*") 1 (Some 1) (Some 2))) [] 0
+unfolding table
 left_early_traps = refl
 
 -- int first_of(int n) {
@@ -182,15 +185,15 @@ local_dies = text_of (
 
 -- the number is read before the vector dies, and the caller's iterator is another one
 local_dies_prints : run local_dies [] [] 100 ≡ finish (Done (pos 0)) (codes "781") 0
-unfolding digits
+unfolding digits table
 local_dies_prints = refl
 
 -- four statements of `main`, and four of each call
 local_dies_in_twelve_steps : run local_dies [] [] 12 ≡ finish (Done (pos 0)) (codes "781") 0
-unfolding digits
+unfolding digits table
 local_dies_in_twelve_steps = refl
 
 -- out of steps in the second call, when the first number is written
 local_dies_in_eleven_steps : run local_dies [] [] 11 ≡ finish OutOfSteps (codes "7") 0
-unfolding digits
+unfolding digits table
 local_dies_in_eleven_steps = refl

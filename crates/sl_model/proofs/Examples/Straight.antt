@@ -2,6 +2,7 @@
 -- made and one for each growth, in the order of the text.
 use Rattle.std.specs.Prelude.{◌≡◌, refl, [], ◌∷◌, ◌++◌, Some, None, pos, codes}
 use Rattle.sl_syntax.specs.Typed.{Typed}
+use Rattle.sl_specs.specs.Table.{table}
 use Rattle.sl_model.specs.Ends.{Done, Trapped, OutOfSteps}
 use Rattle.sl_model.specs.Run.{run}
 use Rattle.sl_model.proofs.Examples.Short.{at, vector, push, start, read_from, alone, finish, trap}
@@ -17,17 +18,21 @@ no_element =
 
 -- the iterator is valid, but it is the end
 no_element_traps : run no_element [] [] 100 ≡ finish (Trapped (trap (at 4 11) 4 (codes "*") 1 (Some 1) None)) [] 0
+unfolding table
 no_element_traps = refl
 
 -- whatever the room is
 no_element_traps_with_room : run no_element [] (5 ∷ []) 100 ≡ finish (Trapped (trap (at 4 11) 4 (codes "*") 1 (Some 1) None)) [] 0
+unfolding table
 no_element_traps_with_room = refl
 
 -- three steps are due, and the last one traps
 no_element_in_three_steps : run no_element [] [] 3 ≡ finish (Trapped (trap (at 4 11) 4 (codes "*") 1 (Some 1) None)) [] 0
+unfolding table
 no_element_in_three_steps = refl
 
 no_element_in_two_steps : run no_element [] [] 2 ≡ finish OutOfSteps [] 0
+unfolding table
 no_element_in_two_steps = refl
 
 no_element_in_no_step : run no_element [] [] 0 ≡ finish OutOfSteps [] 0
@@ -46,10 +51,12 @@ end_kept = alone (Some 1) (vector (at 2 3) ∷ start (at 3 15) 0 0 ∷ push (at 
 
 -- the vector grows, and each iterator is invalidated, the end too
 end_kept_traps : run end_kept [] [] 100 ≡ finish (Trapped (trap (at 5 11) 1 (codes "*") 1 (Some 1) (Some 0))) [] 0
+unfolding table
 end_kept_traps = refl
 
 -- there is room, but the end is invalidated also then
 end_kept_traps_with_room : run end_kept [] (5 ∷ []) 100 ≡ finish (Trapped (trap (at 5 11) 1 (codes "*") 1 (Some 1) (Some 0))) [] 0
+unfolding table
 end_kept_traps_with_room = refl
 
 -- int main() {
@@ -67,9 +74,11 @@ used_twice = alone (Some 2)
     (at 8 1) (at 3 5 ∷ at 4 5 ∷ at 8 1 ∷ []) (codes "v" ∷ codes "it" ∷ [])
 
 used_twice_is_done : run used_twice [] [] 6 ≡ finish (Done (pos 0)) [] 0
+unfolding table
 used_twice_is_done = refl
 
 used_twice_in_five_steps : run used_twice [] [] 5 ≡ finish OutOfSteps [] 0
+unfolding table
 used_twice_in_five_steps = refl
 
 -- int main() {
@@ -88,9 +97,11 @@ used_between = alone (Some 2)
 
 -- the first use is good, and the second one traps
 used_between_traps : run used_between [] (0 ∷ 0 ∷ []) 100 ≡ finish (Trapped (trap (at 7 11) 1 (codes "*") 1 (Some 1) (Some 1))) [] 0
+unfolding table
 used_between_traps = refl
 
 used_between_with_room : run used_between [] (5 ∷ []) 100 ≡ finish (Done (pos 0)) [] 0
+unfolding table
 used_between_with_room = refl
 
 -- int main() {
@@ -109,14 +120,17 @@ third = alone (Some 3)
 
 -- rooms 0, 1, 2 and, where the schedule is too short, 3: each `push_back` grows
 third_traps : run third [] (0 ∷ 0 ∷ []) 100 ≡ finish (Trapped (trap (at 7 11) 1 (codes "*") 1 (Some 1) (Some 2))) [] 0
+unfolding table
 third_traps = refl
 
 -- the second growth gives a room of 3
 third_with_room : run third [] (0 ∷ 0 ∷ 1 ∷ []) 100 ≡ finish (Done (pos 0)) [] 0
+unfolding table
 third_with_room = refl
 
 -- the first growth gives a room of 2, and the second one of 3: the schedule is too short
 third_too_short : run third [] (0 ∷ 1 ∷ []) 100 ≡ finish (Trapped (trap (at 7 11) 1 (codes "*") 1 (Some 1) (Some 2))) [] 0
+unfolding table
 third_too_short = refl
 
 -- int main() {
@@ -138,24 +152,30 @@ two = alone (Some 3)
 
 -- w grows, which v's iterator doesn't feel
 two_traps : run two [] [] 100 ≡ finish (Trapped (trap (at 10 11) 1 (codes "*") 1 (Some 3) (Some 2))) [] 0
+unfolding table
 two_traps = refl
 
 -- the room is v's alone
 two_traps_with_room_in_v : run two [] (9 ∷ 0 ∷ []) 100 ≡ finish (Trapped (trap (at 10 11) 1 (codes "*") 1 (Some 3) (Some 2))) [] 0
+unfolding table
 two_traps_with_room_in_v = refl
 
 -- the room is w's alone
 two_with_room_in_w : run two [] (0 ∷ 9 ∷ []) 100 ≡ finish (Done (pos 0)) [] 0
+unfolding table
 two_with_room_in_w = refl
 
 -- v's growth takes the third pick, and w's first growth the fourth, which leaves room for one element more
 two_with_room_from_growth : run two [] (0 ∷ 0 ∷ 0 ∷ 1 ∷ []) 100 ≡ finish (Done (pos 0)) [] 0
+unfolding table
 two_with_room_from_growth = refl
 
 two_in_nine_steps : run two [] (0 ∷ 9 ∷ []) 9 ≡ finish (Done (pos 0)) [] 0
+unfolding table
 two_in_nine_steps = refl
 
 two_in_eight_steps : run two [] (0 ∷ 9 ∷ []) 8 ≡ finish OutOfSteps [] 0
+unfolding table
 two_in_eight_steps = refl
 
 -- int main() {
@@ -185,13 +205,16 @@ sixteen = alone (Some 3)
 
 -- the growth of a leaves the iterator of p, and that of p doesn't
 sixteen_traps : run sixteen [] [] 100 ≡ finish (Trapped (trap (at 23 11) 1 (codes "*") 1 (Some 16) (Some 2))) [] 0
+unfolding table
 sixteen_traps = refl
 
 -- the sixteenth pick is the room of p
 sixteen_with_room : run sixteen [] (0 ∷ 0 ∷ 0 ∷ 0 ∷ 0 ∷ 0 ∷ 0 ∷ 0 ∷ 0 ∷ 0 ∷ 0 ∷ 0 ∷ 0 ∷ 0 ∷ 0 ∷ 2 ∷ []) 22 ≡ finish (Done (pos 0)) [] 0
+unfolding table
 sixteen_with_room = refl
 
 -- a room of 2 for the fifteenth alone changes nothing
 sixteen_traps_again : run sixteen [] (0 ∷ 0 ∷ 0 ∷ 0 ∷ 0 ∷ 0 ∷ 0 ∷ 0 ∷ 0 ∷ 0 ∷ 0 ∷ 0 ∷ 0 ∷ 0 ∷ 2 ∷ []) 22
     ≡ finish (Trapped (trap (at 23 11) 1 (codes "*") 1 (Some 16) (Some 2))) [] 0
+unfolding table
 sixteen_traps_again = refl

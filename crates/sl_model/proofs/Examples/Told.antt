@@ -2,6 +2,7 @@
 use Rattle.std.proofs.Common.{refl, arith}
 use Rattle.std.specs.Prelude.{◌≡◌, List, [], ◌∷◌, Some, None, codes}
 use Rattle.std.specs.Fmt.{digits}
+use Rattle.sl_specs.specs.Table.{table}
 use Rattle.sl_model.specs.Ends.{Trap}
 use Rattle.sl_model.specs.Covers.{Warning, CanTrap, Covers}
 use Rattle.sl_model.specs.Texts.{report_text}
@@ -12,6 +13,7 @@ abbrev growth_trap : Trap
 growth_trap = trap (at 6 11) 1 (codes "*") 1 (Some 1) (Some 1)
 
 growth_can_trap : CanTrap growth growth_trap
+unfolding table
 growth_can_trap = record {
   input = [];
   picks = [];

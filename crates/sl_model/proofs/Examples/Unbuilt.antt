@@ -1,13 +1,13 @@
--- Closed runs that come to what has no meaning yet: a declaration of a reference to an element, a range-for by reference, and an algorithm
--- that appends.
-use Rattle.std.specs.Prelude.{◌≡◌, refl, ℕ, [], ◌∷◌, Some, None, pos, codes}
+-- Closed runs that come to what has no meaning yet: a declaration of a reference to an element, and a range-for by reference.
+use Rattle.std.specs.Prelude.{◌≡◌, refl, [], ◌∷◌, Some, None, pos, codes}
 use Rattle.sl_base.specs.declared.scalar.Scalar.TheVariants as t
 use Rattle.sl_syntax.specs.declared.typed.callee.Callee.TheVariants as callees
 use Rattle.sl_syntax.specs.declared.typed.element.ElementPart.TheVariants as part
 use Rattle.sl_syntax.specs.declared.typed.element.Taken.TheVariants as taken
 use Rattle.sl_syntax.specs.declared.typed.operator.Operator.TheVariants as operators
-use Rattle.sl_syntax.specs.Typed.{Expr, literal, call, container, iterator, reference, none, with, evaluates, assigns, binds_reference, declares}
+use Rattle.sl_syntax.specs.Typed.{literal, iterator, reference, none, with, assigns, binds_reference, declares}
 use Rattle.sl_syntax.specs.Typed.{range_for, does, Typed}
+use Rattle.sl_specs.specs.Table.{table}
 use Rattle.sl_model.specs.Ends.{NoMeaning}
 use Rattle.sl_model.specs.Run.{run}
 use Rattle.sl_model.specs.Scoped.{IsScoped}
@@ -31,6 +31,7 @@ bound_reference = alone (Some 1) (
     []) (at 7 1) (at 3 5 ∷ at 7 1 ∷ []) (codes "v" ∷ codes "it" ∷ codes "r" ∷ [])
 
 bound_reference_has_no_meaning : run bound_reference [] [] 100 ≡ finish (NoMeaning (at 5 12)) [] 0
+unfolding table
 bound_reference_has_no_meaning = refl
 
 -- nor is the text scoped
@@ -48,22 +49,5 @@ range_by_reference = alone (Some 0) (
     []) (at 4 1) (at 4 1 ∷ []) (codes "v" ∷ codes "x" ∷ [])
 
 range_by_reference_has_no_meaning : run range_by_reference [] [] 100 ≡ finish (NoMeaning (at 3 3)) [] 0
+unfolding table
 range_by_reference_has_no_meaning = refl
-
--- v.begin() at its call
-abbrev begin_at : ℕ → Expr
-begin_at column = call (head (callees.Row 7) (at 3 column) None (Some 0) (Some 0 ∷ [])) none
-
--- int main() {
---   std::vector<int> v;
---   std::copy(v.begin(), v.begin(), std::back_inserter(v));
--- }
-abbrev pub appending : Typed
-appending = alone (Some 1) (
-    vector (at 2 3) ∷
-    does (evaluates
-    (call (head (callees.Appends 218) (at 3 3) (Some 0) None []) (with (begin_at 15) (with (begin_at 26) (with (container 0) none))))) ∷
-    []) (at 4 1) (at 3 3 ∷ at 4 1 ∷ []) (codes "v" ∷ [])
-
-appending_has_no_meaning : run appending [] [] 100 ≡ finish (NoMeaning (at 3 3)) [] 0
-appending_has_no_meaning = refl

@@ -13,7 +13,8 @@ use Rattle.sl_syntax.specs.declared.typed.parameter.ParameterKind.TheVariants as
 use Rattle.sl_syntax.specs.Typed.{literal, held, arithmetic, comparison, call, own_call, container, scalar, element, none, with, not_read, test, text}
 use Rattle.sl_syntax.specs.Typed.{number, prints, evaluates, assigns, updates, moves_to, unset_scalar, set_scalar, set_iterator, makes, block}
 use Rattle.sl_syntax.specs.Typed.{declares, choice, while, break, continue, gives_back, does, Stmt, Typed}
-use Rattle.sl_model.specs.Ends.{Done, Trapped, OutOfSteps, Language, NoMeaning}
+use Rattle.sl_specs.specs.Table.{table}
+use Rattle.sl_model.specs.Ends.{Done, Trapped, OutOfSteps, Language}
 use Rattle.sl_model.specs.Run.{run}
 use Rattle.sl_model.proofs.Examples.Short.{at, head, all, deref, finish, trap}
 
@@ -144,6 +145,7 @@ inner = record {
 }
 
 inner_traps : run inner [] [] 100 ≡ finish (Trapped (trap (at 10 11) 1 (codes "*") 1 (Some 1) (Some 2))) [] 0
+unfolding table
 inner_traps = refl
 
 -- void grow(std::vector<int>& v) {
@@ -195,11 +197,11 @@ grown_elsewhere = record {
 }
 
 grown_elsewhere_traps : run grown_elsewhere [] [] 100 ≡ finish (Trapped (trap (at 11 10) 1 (codes "*") 1 (Some 1) (Some 0))) (codes "5") 0
-unfolding digits
+unfolding digits table
 grown_elsewhere_traps = refl
 
 grown_elsewhere_with_room : run grown_elsewhere [] (2 ∷ []) 100 ≡ finish (Done (pos 5)) (codes "5") 0
-unfolding digits
+unfolding digits table
 grown_elsewhere_with_room = refl
 
 -- int main() {
@@ -229,14 +231,15 @@ past_the_end = record {
 }
 
 past_the_end_traps : run past_the_end [] [] 100 ≡ finish (Trapped (trap (at 3 11) 4 (codes "*") 1 None None)) [] 0
+unfolding table
 past_the_end_traps = refl
 
 -- int main() {
 --   std::vector<int> v;
 --   int x = v.size();
 -- }
-abbrev pub size_is_unbuilt : Typed
-size_is_unbuilt = record {
+abbrev pub size_read : Typed
+size_read = record {
   functions = record {
     name = [];
     parameters = [];
@@ -255,5 +258,6 @@ size_is_unbuilt = record {
   constants = [];
 }
 
-size_has_no_meaning : run size_is_unbuilt [] [] 100 ≡ finish (NoMeaning (at 3 13)) [] 0
-size_has_no_meaning = refl
+size_is_read : run size_read [] [] 100 ≡ finish (Done (pos 0)) [] 0
+unfolding table
+size_is_read = refl

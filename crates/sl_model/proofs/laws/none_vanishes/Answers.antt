@@ -1,9 +1,9 @@
 -- The library leaves of a memory what it has to.
-use Rattle.sl_model.specs.Library.{lib}
-use Rattle.sl_model.proofs.Vanishing.{Leaves}
-use Rattle.sl_model.proofs.LibrarySound.{in_given, lib-leaves}
+use Rattle.std.proofs.Common.{subst}
+use Rattle.sl_model.proofs.Keeps.{InAnswer}
+use Rattle.sl_model.proofs.After.{Leaves}
+use Rattle.sl_model.proofs.LibrarySound.{lib-leaves}
 use Rattle.sl_model.proofs.laws.none_vanishes.Goals as goal
 
 pub returns : goal.returns
-returns c = λ callee a m later picks left v sound e.
-    (in_given (Leaves m a.site) (lib callee a m picks) v later left (lib-leaves callee a m picks sound) e).none
+returns c = λ callee a m later picks left v sound e. (subst (InAnswer (Leaves m a.site)) e (lib-leaves callee a m picks sound)).none

@@ -15,8 +15,8 @@ good_end : (o : Out) → IsGoodOut o → IsGood (end_state o)
 good_end (Gives v s) h = h
 good_end (Stops e s) h = h
 
-pub returns : goal.returns
-returns c = record {
-  sound = λ p input picks steps. sound_end (main_out p input picks steps) (run-sound p input picks steps);
-  good = λ p input picks steps scoped. good_end (main_out p input picks steps) (run-good p scoped input picks steps);
-}
+pub returns-clause-sound : goal.returns-clause-sound
+returns-clause-sound c = λ p input picks steps. sound_end (main_out p input picks steps) (run-sound p input picks steps)
+
+pub returns-clause-good : goal.returns-clause-good
+returns-clause-good c = λ p input picks steps scoped. good_end (main_out p input picks steps) (run-good p scoped input picks steps)

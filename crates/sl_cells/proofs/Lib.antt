@@ -1,0 +1,19 @@
+-- ## Examples
+mod Examples
+-- ## Lists
+pub mod Each
+pub mod Zips
+-- ## Orders
+pub mod Ordered
+pub mod Comparisons
+-- ## Questions
+pub mod Reading
+pub mod Asking
+-- ## Edits
+pub mod Between
+pub mod Edits
+pub mod Arrangements
+pub mod Joins
+-- ## Sorting
+pub mod Sorts
+pub mod SortedItems

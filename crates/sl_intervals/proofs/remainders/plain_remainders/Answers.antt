@@ -1,0 +1,6 @@
+use Rattle.sl_intervals.proofs.Rests.{remainders_outcome}
+use Rattle.sl_intervals.proofs.remainders.plain_remainders.Goals as goal
+
+pub returns-clause-outcome : goal.returns-clause-outcome
+returns-clause-outcome c = remainders_outcome c.args.ty c.args.a c.args.b _ c.requires.number c.requires.first c.requires.second
+    c.remainders.ensures.remainders c.remainders.ensures.exact c.division_faults.ensures

@@ -1,0 +1,3 @@
+-- What private steps of the operators give.
+pub mod Multiplying
+pub mod Dividing

@@ -1,0 +1,162 @@
+-- Which places a container has for iterators: one at each index up to its size, and their stamps were used. What a change, a new key
+-- and a search leave of them.
+use Rattle.std.proofs.Common.{◌≡◌, ℕ, zero, suc, ◌+◌, ◌-◌, ◌<◌, ◌≤◌, ◌%◌, Bool, true, false, List, [], ◌∷◌, ◌++◌, map, take, drop, length}
+use Rattle.std.proofs.Common.{length-append}
+use Rattle.std.proofs.Common.{Some, option_map, refl, ap, sym, ◌∙◌, subst, arith, if◌then◌else◌, min}
+use Rattle.std.specs.Prelude.{ℤ}
+use Rattle.std.specs.List.{slice_get, slice_set}
+use Rattle.std.proofs.Math.ListN.{length-set}
+use Rattle.std.proofs.Math.Nat.{mod-lt}
+use Rattle.std.proofs.lemmas.List.{length-map, length-take}
+use Rattle.std.proofs.lemmas.List.Sums.{length-filter, count_by-le-length}
+use Rattle.std.proofs.lemmas.Option.{slice_get-get_or, get_or_from_slice_get, slice_get-map}
+use Rattle.sl_base.specs.declared.form.Form.TheVariants as f
+use Rattle.sl_specs.specs.declared.class.Class.{Class}
+use Rattle.sl_model.specs.Classes.{Edit}
+use Rattle.sl_model.specs.Containers.{Cell, Cont, Memory, size, stamps, keys, cont_at, stamp_at}
+use Rattle.sl_model.specs.Edits.{Change, Source, old, numbers, olds, news, from_sources, changed, change_of, after}
+use Rattle.sl_model.specs.Schedule.{put_at, put_all, scattered, hash_place, pick}
+use Rattle.sl_model.specs.Orders.{first_of_key, how_many, same}
+use Rattle.sl_model.specs.Actions.{Answer, nothing, gives_number, gives_place, gives_place_and, gives_places, gives_element}
+use Rattle.sl_model.specs.Good.{IsSound}
+use Rattle.sl_model.proofs.Getting.{get_some, get_behind, get_set_same}
+
+-- a container has a place at an index
+pub record HasPlace (m : Memory) (j k : ℕ) : Type 0 where
+  pub there : j < length m.conts
+  pub within : k ≤ size (cont_at m j)
+
+-- what a call gives stands somewhere, where it is an iterator
+abbrev pub IsPlaced : Memory → Answer → Type 0
+IsPlaced m nothing = Unit {0}
+IsPlaced m (gives_number z) = Unit {0}
+IsPlaced m (gives_place j k) = HasPlace m j k
+IsPlaced m (gives_place_and j k b) = HasPlace m j k
+IsPlaced m (gives_places j k i) = HasPlace m j k × HasPlace m j i
+IsPlaced m (gives_element j k part) = Unit {0}
+
+-- a stamp of a container that is there was used
+stands_used : (m : Memory) (j k s : ℕ) → IsSound m → j < length m.conts → slice_get (stamps (cont_at m j)) k ≡ Some s → s < m.fresh
+stands_used m j k s sound low stands = sound.stamps_apart.used j k s (stamps (cont_at m j), there, stands)
+  where
+    there : slice_get (map stamps m.conts) j ≡ Some (stamps (cont_at m j))
+    there = slice_get-map stamps m.conts j
+        ∙ ap (option_map stamps) (slice_get-get_or m.conts j (record { form = f.Vector; cells = []; end = m.fresh; room = 0 }) low)
+
+-- the end of a container stands at its size
+end_stands : (c : Cont) → slice_get (stamps c) (size c) ≡ Some c.end
+end_stands c = ap (slice_get (stamps c)) (at_size (length-map c.cells (λ (x : Cell). x.stamp)))
+    ∙ get_behind (map (λ (x : Cell). x.stamp) c.cells) (c.end ∷ []) 0
+  where
+    at_size : length (map (λ (x : Cell). x.stamp) c.cells) ≡ size c → size c ≡ length (map (λ (x : Cell). x.stamp) c.cells) + 0
+    at_size e = omega arith
+
+-- a container holds a stamp at each index up to its size
+place_stands : (c : Cont) (k : ℕ) → k ≤ size c → (s : ℕ) × (slice_get (stamps c) k ≡ Some s)
+place_stands c k low = get_some (stamps c) k (within (length-append (map (λ (x : Cell). x.stamp) c.cells) (c.end ∷ []))
+    (length-map c.cells (λ (x : Cell). x.stamp)))
+  where
+    within : length (stamps c) ≡ length (map (λ (x : Cell). x.stamp) c.cells) + 1 → length (map (λ (x : Cell). x.stamp) c.cells) ≡ size c
+        → k < length (stamps c)
+    within p q = omega arith
+
+-- the stamp of a place was used
+pub place_used : (m : Memory) (j k : ℕ) → IsSound m → HasPlace m j k → stamp_at m j k < m.fresh
+place_used m j k sound h = by_place (place_stands (cont_at m j) k h.within)
+  where
+    by_place : (s : ℕ) × (slice_get (stamps (cont_at m j)) k ≡ Some s) → stamp_at m j k < m.fresh
+    by_place r = subst (λ (s : ℕ). s < m.fresh) (sym (get_or_from_slice_get (stamps (cont_at m j)) k r.0 m.fresh r.1))
+        (stands_used m j k r.0 sound h.there r.1)
+
+-- the end of a container that is there was used
+pub end_used : (m : Memory) (j : ℕ) → IsSound m → j < length m.conts → (cont_at m j).end < m.fresh
+end_used m j sound low = stands_used m j (size (cont_at m j)) (cont_at m j).end sound low (end_stands (cont_at m j))
+
+-- as many elements as sources
+from_sources-length : (ch : Change) (base : ℕ) (own other : Cont) (next : ℕ) (xs : List Source)
+    → length (from_sources ch base own other next xs) ≡ length xs
+from_sources-length ch base own other next [] = refl
+from_sources-length ch base own other next (x ∷ xs) = ap suc (from_sources-length ch base own other (next + 1) xs)
+
+-- n numbers
+pub numbers-length : (i n : ℕ) → length (numbers i n) ≡ n
+numbers-length i zero = refl
+numbers-length i (suc n) = ap suc (numbers-length (i + 1) n)
+
+-- n old elements
+pub olds-length : (i n : ℕ) → length (olds i n) ≡ n
+olds-length i n = length-map (numbers i n) (λ k. old k) ∙ numbers-length i n
+
+-- the place of an index up to the number of sources, after a change
+pub after-place : (ch : Change) (m : Memory) (j : ℕ) (c : Cont) (site k : ℕ) → j < length m.conts → k ≤ length ch.sources
+    → HasPlace (after ch m j c site) j k
+after-place ch m j c site k low few = record {
+  there = let e = length-set m.conts j (changed m.fresh ch c) in omega arith;
+  within = subst (λ (x : Cont). k ≤ size x) (sym same) (let e = sizes in omega arith);
+}
+  where
+    sizes : size (changed m.fresh ch c) ≡ length ch.sources
+    sizes = from_sources-length ch m.fresh c c (m.fresh + size c + 1) ch.sources
+
+    same : cont_at (after ch m j c site) j ≡ changed m.fresh ch c
+    same = get_or_from_slice_get (slice_set m.conts j (changed m.fresh ch c)) j (changed m.fresh ch c)
+        (record { form = f.Vector; cells = []; end = (after ch m j c site).fresh; room = 0 })
+        (get_set_same m.conts j (changed m.fresh ch c) low)
+
+-- the place at which an edit begins, and those before it
+pub edit-place : (class : Class) (m : Memory) (j : ℕ) (c : Cont) (e : Edit) (site k : ℕ) → j < length m.conts → k ≤ e.from
+    → HasPlace (after (change_of class c e) m j c site) j k
+edit-place class m j c e site k low few = after-place (change_of class c e) m j c site k low
+    (at_least (length-append (olds 0 e.from) (news e.come ++ olds (e.from + e.gone) (size c - (e.from + e.gone)))) (olds-length 0 e.from))
+  where
+    at_least : length (change_of class c e).sources
+        ≡ length (olds 0 e.from) + length (news e.come ++ olds (e.from + e.gone) (size c - (e.from + e.gone)))
+        → length (olds 0 e.from) ≡ e.from → k ≤ length (change_of class c e).sources
+    at_least p q = omega arith
+
+-- with one put in
+pub put_at-length : {A : Type 0} (k : ℕ) (x : A) (xs : List A) → length (put_at k x xs) ≡ length xs + 1
+put_at-length zero x xs = omega arith
+put_at-length (suc k) x [] = refl
+put_at-length (suc k) x (y ∷ ys) = let r = put_at-length k x ys in omega arith
+
+-- these and those that were placed
+put_all-length : {A : Type 0} (placed : List A) (picks : List ℕ) (xs : List A) → length (put_all placed picks xs) ≡ length placed + length xs
+put_all-length placed picks [] = omega arith
+put_all-length placed picks (x ∷ xs) =
+    put_all-length (put_at (hash_place (length placed) (pick picks)) x placed) (drop 1 picks) xs
+    ∙ one_more (put_at-length (hash_place (length placed) (pick picks)) x placed)
+  where
+    one_more : length (put_at (hash_place (length placed) (pick picks)) x placed) ≡ length placed + 1
+        → length (put_at (hash_place (length placed) (pick picks)) x placed) + length xs ≡ length placed + suc (length xs)
+    one_more e = omega arith
+
+-- as many in a hash order
+pub scattered-length : {A : Type 0} (picks : List ℕ) (xs : List A) → length (scattered picks xs) ≡ length xs
+scattered-length picks xs = let r = put_all-length [] picks xs in omega arith
+
+-- a place in a hash order
+pub hash_place-low : (n p : ℕ) → hash_place n p ≤ n
+hash_place-low n p = let r : p % (n + 1) < n + 1 = mod-lt p (omega arith) in omega arith
+
+-- no more pass a test than there are
+pub how_many-low : (test : ℤ → Bool) (xs : List ℤ) → how_many test xs ≤ length xs
+how_many-low test xs = let e = length-filter test xs in let r = count_by-le-length test xs in omega arith
+
+-- the first of a key stands in the list
+pub first_of_key-low : (x : ℤ) (i : ℕ) (xs : List ℤ) (k : ℕ) → first_of_key x i xs ≡ Some k → k < i + length xs
+first_of_key-low x i [] k e = absurd (cc)
+first_of_key-low x i (y ∷ ys) k e = by_test (same x y) e (first_of_key-low x (i + 1) ys k)
+  where
+    by_test : (b : Bool) → (if b then Some i else first_of_key x (i + 1) ys) ≡ Some k
+        → (first_of_key x (i + 1) ys ≡ Some k → k < (i + 1) + length ys) → k < i + suc (length ys)
+    by_test true h later = let q : i ≡ k = cc in omega arith
+    by_test false h later = let r : k < (i + 1) + length ys = later h in omega arith
+
+-- as many keys as elements
+pub keys-length : (c : Cont) → length (keys c) ≡ size c
+keys-length c = length-map c.cells (λ (x : Cell). x.key)
+
+-- those from one index to another
+pub range-length : {A : Type 0} (a b : ℕ) (xs : List A) → length (take (b - a) (drop a xs)) ≤ b - a
+range-length a b xs = let e : length (take (b - a) (drop a xs)) ≡ min (b - a) (length (drop a xs)) = length-take (b - a) (drop a xs) in omega arith
