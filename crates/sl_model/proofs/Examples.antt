@@ -48,3 +48,7 @@ pub mod FactsMissing
 pub mod FactsRefused
 pub mod FactsOpen
 pub mod Homes
+pub mod ListEdges
+pub mod ListLimits
+pub mod EndTexts
+pub mod Generated

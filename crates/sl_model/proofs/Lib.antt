@@ -73,5 +73,9 @@ pub mod TypedUses
 pub mod FactsIdle
 pub mod EffectsIdle
 pub mod CarryIdle
+-- ## Lists of numbers: words, parts between blanks, and laws
+pub mod ListWords
+pub mod ListParts
+pub mod ListLaws
 -- ## Worked examples
 pub mod Examples

@@ -61,3 +61,6 @@ pub mod Outline
 pub mod Sources
 pub mod IteratorFlows
 pub mod Homes
+pub mod Lists
+pub mod EndText
+pub mod Self
