@@ -11,6 +11,8 @@ pub mod WithEnd
 -- ## What making, ending, writing and changes do to a memory
 pub mod After
 pub mod AfterTwo
+pub mod Moved
+pub mod InvalidatedPlaces
 pub mod Making
 pub mod Writing
 pub mod Ending

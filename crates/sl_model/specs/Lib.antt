@@ -4,6 +4,7 @@ pub mod Containers
 pub mod Schedule
 pub mod Classes
 pub mod Edits
+pub mod Sources
 pub mod Rearrangements
 pub mod Orders
 pub mod Values
