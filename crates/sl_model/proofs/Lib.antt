@@ -22,6 +22,7 @@ pub mod Counts
 pub mod FairChanges
 pub mod FairRearrangements
 pub mod AfterEdit
+pub mod Exchanged
 pub mod KeyCounts
 pub mod FineEffects
 -- ## Each row and each library: memory stays sound, and no mark vanishes
