@@ -1,12 +1,12 @@
 -- Where the marks of elements stand after `swap`, `splice` and `merge` of two containers.
-use Rattle.std.proofs.Common.{◌≡◌, ◌≢◌, ℕ, zero, suc, ◌+◌, ◌-◌, ◌<◌, ◌≤◌, ◌==◌, Bool, true, false, List, [], ◌∷◌, ◌++◌, Some, length, map}
-use Rattle.std.proofs.Common.{refl, ap, sym, ◌∙◌, arith, inl, inr, subst, if◌then◌else◌, ℤ}
+use Rattle.std.proofs.Common.{◌≡◌, ◌≢◌, ℕ, zero, suc, ◌+◌, ◌-◌, ◌<◌, ◌≤◌, ◌==◌, Bool, true, false, ◌++◌, Some, length}
+use Rattle.std.proofs.Common.{refl, ap, sym, ◌∙◌, arith, inl, inr, subst, if◌then◌else◌}
 use Rattle.std.specs.List.{slice_get}
 use Rattle.std.proofs.lemmas.Bool.{eqb-true, eq-eqb}
 use Rattle.sl_base.specs.declared.form.Form.{Form}
 use Rattle.sl_specs.specs.declared.class.Class.{Class}
-use Rattle.sl_model.specs.Containers.{Cont, Grave, IsGrave, Dropped, size, stamps}
-use Rattle.sl_model.specs.Edits.{Source, old, written, theirs, new, Change, numbers, olds, theirs_from, buried}
+use Rattle.sl_model.specs.Containers.{Cont, Dropped, size, stamps}
+use Rattle.sl_model.specs.Edits.{Source, old, written, theirs, new, Change, olds, theirs_from, buried}
 use Rattle.sl_model.specs.Sources.{ComesFrom, ComesOver}
 use Rattle.sl_model.specs.Rearrangements.{arranged, exchanged, received, given, moved_order}
 use Rattle.sl_model.specs.Situation.{Situation, own, own_size, index, container_of, their, their_size}
@@ -21,7 +21,7 @@ use Rattle.sl_model.proofs.ColumnLaws.{IsTaken, IsTakenOver}
 use Rattle.sl_model.proofs.Counts.{times-numbers}
 use Rattle.sl_model.proofs.FairChanges.{length_olds}
 use Rattle.sl_model.proofs.FairRearrangements.{merged_own, merged_their}
-use Rattle.sl_model.proofs.Places.{times, own_places, their_places, own_found, their_found}
+use Rattle.sl_model.proofs.Places.{own_found, their_found}
 use Rattle.sl_model.proofs.OneChange.{buried_grave, still_grave}
 use Rattle.sl_model.proofs.Moved.{end-stamp, goes_to_first, goes_to_second, stays_in_first}
 

@@ -45,6 +45,10 @@ pub mod TableRows
 pub mod FineAlgorithms
 pub mod LibrarySound
 pub mod RunSound
+-- ## Keys stay in order
+pub mod Pairs
+pub mod AsInts
+pub mod KeysAfter
 -- ## Scoped texts: each state of a run is good
 pub mod Locations
 pub mod Levels

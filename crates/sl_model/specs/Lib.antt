@@ -30,6 +30,7 @@ pub mod Exec
 pub mod Calls
 pub mod Run
 pub mod Good
+pub mod Orderly
 pub mod Covers
 pub mod Texts
 pub mod Shapes
