@@ -49,6 +49,8 @@ pub mod RunSound
 pub mod Pairs
 pub mod AsInts
 pub mod KeysAfter
+pub mod KeyInOrder
+pub mod OrderlyEffects
 -- ## Scoped texts: each state of a run is good
 pub mod Locations
 pub mod Levels
