@@ -51,6 +51,7 @@ pub mod AsInts
 pub mod KeysAfter
 pub mod KeyInOrder
 pub mod OrderlyEffects
+pub mod TidyRows
 -- ## Scoped texts: each state of a run is good
 pub mod Locations
 pub mod Levels
