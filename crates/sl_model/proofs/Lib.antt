@@ -44,6 +44,10 @@ pub mod FineContainers
 pub mod TableRows
 pub mod FineAlgorithms
 pub mod LibrarySound
+-- ## Each row leaves keys in order
+pub mod TidyContainers
+pub mod TidyAlgorithms
+pub mod LibraryOrderly
 pub mod RunSound
 -- ## Keys stay in order
 pub mod Pairs

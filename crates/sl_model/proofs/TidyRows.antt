@@ -38,16 +38,17 @@ abbrev pub RowIsTidy : Row → Type 0
 RowIsTidy r = (s : Situation) → IsOrderly s.memory → IsCalled r s → first_failure (r.fails s) ≡ None → r.action.stops s ≡ never
     → IsTidy (form_of r.object s) s (r.action.effect s)
 
--- a line of the table is tidy on each form that has it
-abbrev pub LineIsTidy : Line → Type 0
-LineIsTidy x = (form : Form) (class : Class) → class_on form x.classes ≡ Some class → RowIsTidy (member_row form (row_of_line (Some form) x class))
-
 -- ## The forms that have a line
 
 -- each of these forms has no keys
 abbrev pub all_free : List (Form × Class) → Bool
 all_free [] = true
 all_free (x ∷ xs) = not (is_keyed x.0) && all_free xs
+
+-- a line of the table is tidy on each form that has it, which has no keys where none of them has
+abbrev pub LineIsTidy : Line → Type 0
+LineIsTidy x = (form : Form) (class : Class) → (all_free x.classes ≡ true → is_keyed form ≡ false)
+    → RowIsTidy (member_row form (row_of_line (Some form) x class))
 
 -- so a form that has such a line has none
 pub free_form : (form : Form) (class : Class) (xs : List (Form × Class)) → class_on form xs ≡ Some class → all_free xs ≡ true
@@ -67,11 +68,6 @@ free_form form class (x ∷ xs) e h =
         → is_keyed form ≡ false
     by_form true t e h k rest = subst (λ g. is_keyed g ≡ false) (one_form x.0 form t) (no_keys (is_keyed x.0) h)
     by_form false t e h k rest = rest e k
-
--- and neither has its object
-pub free_object : (form : Form) (s : Situation) → is_keyed form ≡ false → slice_get s.memory.conts s.object ≡ Some (own s)
-    → (own s).form ≡ form → is_keyed (own s).form ≡ false
-free_object form s free there e = ap is_keyed e ∙ free
 
 -- ## Elements that are ints
 

@@ -22,6 +22,7 @@ ghost use Rattle.sl_model.specs.Run.{end_state, main_out, run};
 mod changes;
 mod classes;
 mod exchanges;
+mod keys;
 
 pub use changes::{elements_go_over, elements_keep_their_marks};
 pub use classes::{
@@ -29,6 +30,7 @@ pub use classes::{
     iterators_go_with_references,
 };
 pub use exchanges::{merge_moves, splice_moves, swap_exchanges};
+pub use keys::keys_stay_in_order;
 
 /// One element comes in at the end of a vector of n elements, as `push_back` does it. Where there is room for it, the
 /// iterators at the end are invalidated and at no other place; where there is none, those at every place are. A
