@@ -1,5 +1,5 @@
 -- Numbers that are converted to ints: each becomes an int, and an int stays what it is.
-use Rattle.std.proofs.Common.{◌≡◌, ℕ, ◌+◌, ◌<◌, ◌%◌, ℤ, pos, negsuc, ◌+ℤ◌, ◌-ℤ◌, IsTrue, true, arith, refl, ap, ◌∙◌, int_le}
+use Rattle.std.proofs.Common.{◌≡◌, ℕ, ◌<◌, ℤ, pos, negsuc, ◌+ℤ◌, ◌-ℤ◌, IsTrue, arith, refl, ap, ◌∙◌, int_le}
 use Rattle.std.proofs.Math.Nat.{mod-lt, mod-eq_of_lt}
 use Rattle.std.proofs.lemmas.Int.{ints}
 use Rattle.sl_base.specs.declared.scalar.Scalar.TheVariants as t

@@ -1,6 +1,6 @@
 -- A key that is put in leaves the keys of a container in order.
-use Rattle.std.proofs.Common.{◌≡◌, ℕ, ◌+◌, ◌-◌, Bool, true, false, not, IsTrue, List, [], ◌∷◌, Option, Some, None, map, refl, ap, sym, ◌∙◌, arith}
-use Rattle.std.proofs.Common.{◌⊎◌, inl, inr, subst, if◌then◌else◌, ℤ, int_lt, int_le}
+use Rattle.std.proofs.Common.{◌≡◌, ℕ, ◌+◌, ◌-◌, Bool, true, false, not, IsTrue, List, None, map, refl, ap, sym, ◌∙◌, arith}
+use Rattle.std.proofs.Common.{inl, inr, subst, if◌then◌else◌, ℤ, int_lt, int_le}
 use Rattle.std.proofs.lemmas.Int.{ints}
 use Rattle.sl_base.specs.declared.form.Form.{Form}
 use Rattle.sl_base.specs.declared.form.Form.TheVariants as f

@@ -1,31 +1,28 @@
 -- Which keys a container has after a change, and that they stand in an order of its form's: where elements go, where a key is put in,
 -- where a hash form puts its elements in again, and where two containers exchange theirs.
 use Rattle.std.proofs.Common.{◌≡◌, ℕ, zero, suc, ◌+◌, ◌-◌, ◌<◌, ◌≤◌, ◌&&◌, Bool, true, false, not, IsTrue, List, [], ◌∷◌, ◌++◌, Option, Some, None}
-use Rattle.std.proofs.Common.{length, map, refl, ap, sym, ◌∙◌, arith, ◌⊎◌, inl, inr, subst, if◌then◌else◌, ℤ, pos, int_lt, int_le}
+use Rattle.std.proofs.Common.{length, map, refl, ap, sym, ◌∙◌, arith, ◌⊎◌, inl, inr, subst, ℤ, pos, int_le}
 use Rattle.std.specs.List.{slice_get}
-use Rattle.std.proofs.lemmas.Int.{ints}
 use Rattle.sl_base.specs.declared.form.Form.{Form}
 use Rattle.sl_base.specs.declared.form.Form.TheVariants as f
 use Rattle.sl_base.specs.declared.scalar.Scalar.TheVariants as t
 use Rattle.sl_specs.specs.declared.class.Class.{Class}
 use Rattle.sl_model.specs.Classes.{Edit}
 use Rattle.sl_model.specs.Containers.{Cell, Cont, size, keys}
-use Rattle.sl_model.specs.Edits.{Source, old, written, theirs, new, Change, numbers, olds, theirs_from, news, stayed, from_source, from_sources}
-use Rattle.sl_model.specs.Edits.{mark_after, change_of, changed, rebuilt}
-use Rattle.sl_model.specs.Effects.{is_full, key_change, key_order, key_place, known_key, ordered_place}
-use Rattle.sl_model.specs.Forms.{is_hash, is_keyed, holds_equal_keys}
-use Rattle.sl_model.specs.Numbers.{converted, fits}
-use Rattle.sl_model.specs.Orders.{same, how_many, index_of_key}
-use Rattle.sl_model.specs.Orderly.{may_precede, Each, EachPair, AreInOrder, HoldsInts, IsOrderlyCont}
-use Rattle.sl_model.specs.Schedule.{put_at, scattered, after_picks}
-use Rattle.sl_model.proofs.AsInts.{converted-fits, converted-same}
-use Rattle.sl_model.proofs.Columns.{IsInside, AllInside}
+use Rattle.sl_model.specs.Edits.{Source, old, written, theirs, new, Change, numbers, olds, news, stayed, from_source, from_sources}
+use Rattle.sl_model.specs.Edits.{mark_after, change_of}
+use Rattle.sl_model.specs.Forms.{is_hash, is_keyed}
+use Rattle.sl_model.specs.Numbers.{converted}
+use Rattle.sl_model.specs.Orders.{same}
+use Rattle.sl_model.specs.Orderly.{may_precede, Each, AreInOrder, HoldsInts}
+use Rattle.sl_model.specs.Schedule.{scattered}
+use Rattle.sl_model.proofs.AsInts.{converted-fits}
+use Rattle.sl_model.proofs.Columns.{AllInside}
 use Rattle.sl_model.proofs.Getting.{get_some, get_map}
-use Rattle.sl_model.proofs.KeyCounts.{key_at, key_from, keys_from}
+use Rattle.sl_model.proofs.KeyCounts.{key_at, key_from}
 use Rattle.sl_model.proofs.Moved.{blank}
-use Rattle.sl_model.proofs.Pairs.{each-append, each-map, each-mapped, each-weaker, each-all, each-at, pairs-append, pairs-map, pairs-mapped}
-use Rattle.sl_model.proofs.Pairs.{pairs-all, pairs-at, map-put_at, each-put_at, pairs-put_at, each-scattered, pairs-scattered, FitsBeside}
-use Rattle.sl_model.proofs.Pairs.{put_in-order, none_same}
+use Rattle.sl_model.proofs.Pairs.{each-map, each-mapped, each-all, each-at, pairs-append, pairs-map, pairs-mapped}
+use Rattle.sl_model.proofs.Pairs.{pairs-all, pairs-at, each-scattered, pairs-scattered}
 
 -- ## Elements are ints
 

@@ -1,5 +1,5 @@
 -- Each call of the library leaves an orderly memory orderly, since each of its rows is tidy.
-use Rattle.std.proofs.Common.{◌≡◌, ℕ, Bool, true, false, List, [], ◌∷◌, Option, Some, None, refl, option_map}
+use Rattle.std.proofs.Common.{◌≡◌, ℕ, Bool, List, [], ◌∷◌, Option, Some, None, refl, option_map}
 use Rattle.std.specs.List.{cons_option}
 use Rattle.sl_base.specs.declared.form.Form.{Form}
 use Rattle.sl_specs.specs.declared.class.Class.{Class}
@@ -7,14 +7,13 @@ use Rattle.sl_specs.specs.Rows.{Line, row_of as row_of_line, class_on, rows_on}
 use Rattle.sl_specs.specs.ContainerLines.{container_lines}
 use Rattle.sl_specs.specs.MultiLines.{multi_lines}
 use Rattle.sl_specs.specs.Table.{table}
-use Rattle.sl_specs.specs.AlgorithmRows.{algorithm_rows}
 use Rattle.sl_syntax.specs.declared.typed.callee.Callee.{Callee}
 use Rattle.sl_model.specs.Containers.{Memory}
 use Rattle.sl_model.specs.Values.{Value, Args, LibOut, trapped, gives}
 use Rattle.sl_model.specs.Situation.{Situation}
 use Rattle.sl_model.specs.Needs.{first_failure}
 use Rattle.sl_model.specs.Actions.{Stop, never, exception, overflow}
-use Rattle.sl_model.specs.Rows.{Row, member_row, meaning_of, row_of}
+use Rattle.sl_model.specs.Rows.{Row, meaning_of, row_of}
 use Rattle.sl_model.specs.Library.{form_of, carried_out, row_out, called_row, lib}
 use Rattle.sl_model.specs.Good.{IsSound}
 use Rattle.sl_model.specs.Orderly.{IsOrderly}

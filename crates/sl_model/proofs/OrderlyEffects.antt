@@ -1,18 +1,17 @@
 -- What an effect of a call has to be, so that it leaves the containers of a memory orderly: their keys in order, and their elements ints.
-use Rattle.std.proofs.Common.{◌≡◌, ◌≢◌, ℕ, zero, suc, ◌+◌, ◌<◌, ◌≤◌, Bool, true, false, IsTrue, List, [], ◌∷◌, ◌++◌, Option, Some, None, length, map}
-use Rattle.std.proofs.Common.{refl, ap, sym, ◌∙◌, arith, ◌⊎◌, inl, inr, ⊎_elim, subst, ℤ, if◌then◌else◌, not}
+use Rattle.std.proofs.Common.{◌≡◌, ◌≢◌, ℕ, zero, suc, ◌+◌, ◌<◌, ◌≤◌, Bool, true, false, IsTrue, List, [], ◌∷◌, Option, Some, None, length, map}
+use Rattle.std.proofs.Common.{refl, ap, sym, ◌∙◌, ◌⊎◌, inl, inr, ⊎_elim, subst, ℤ, if◌then◌else◌, not}
 use Rattle.std.specs.List.{slice_get, slice_set}
 use Rattle.std.proofs.lemmas.Bool.{cases_eq, cases_lt}
 use Rattle.sl_base.specs.declared.form.Form.{Form}
-use Rattle.sl_base.specs.declared.form.Form.TheVariants as f
 use Rattle.sl_base.specs.declared.scalar.Scalar.TheVariants as t
 use Rattle.sl_specs.specs.declared.class.Class.{Class}
 use Rattle.sl_model.specs.Containers.{Cell, Cont, Memory, cont_at, size, keys, new_cells, made, end_from, Part, key_part, value_part, with_part}
-use Rattle.sl_model.specs.Containers.{is_writable, cells_with, cont_with, write_element}
-use Rattle.sl_model.specs.Edits.{Change, old, theirs, numbers, theirs_from, change_of, changed, rebuilt, next_of_two, after, after_two}
+use Rattle.sl_model.specs.Containers.{is_writable, cont_with, write_element}
+use Rattle.sl_model.specs.Edits.{Change, old, numbers, theirs_from, change_of, changed, rebuilt, next_of_two, after, after_two}
 use Rattle.sl_model.specs.Forms.{is_hash, is_keyed}
 use Rattle.sl_model.specs.Numbers.{converted, fits}
-use Rattle.sl_model.specs.Orderly.{may_precede, Each, EachPair, AreInOrder, HoldsInts, IsOrderlyCont, IsOrderly}
+use Rattle.sl_model.specs.Orderly.{Each, AreInOrder, HoldsInts, IsOrderlyCont, IsOrderly}
 use Rattle.sl_model.specs.Schedule.{after_picks, scattered}
 use Rattle.sl_model.specs.Situation.{Situation, own, item}
 use Rattle.sl_model.specs.Actions.{Effect, keeps, edits, changes, trades, inserts, appends, makes, makes_by_keys}
@@ -21,12 +20,11 @@ use Rattle.sl_model.proofs.AsInts.{converted-fits}
 use Rattle.sl_model.proofs.After.{get-after-own, get-after-other, cont_at-after-own, cont_of_there}
 use Rattle.sl_model.proofs.FineEffects.{IsThere, IsFine}
 use Rattle.sl_model.proofs.Getting.{get_left, get_take, get_set_same, get_set_other, get_within}
-use Rattle.sl_model.proofs.KeyCounts.{key_at, key_from, keys_from}
+use Rattle.sl_model.proofs.KeyCounts.{key_from, keys_from}
 use Rattle.sl_model.proofs.KeysAfter.{sources-ints, any_order, all_keys, old-keys, their-keys, scattered-order, IsTidyEdit, edit-order}
 use Rattle.sl_model.proofs.KeyInOrder.{key-order}
 use Rattle.sl_model.proofs.Making.{last_one, fresh_cont, made-there}
 use Rattle.sl_model.proofs.Moved.{first-there, second-there}
-use Rattle.sl_model.proofs.Pairs.{each-at}
 use Rattle.sl_model.proofs.Places.{counts-fair}
 
 -- the key of what is put in is an int

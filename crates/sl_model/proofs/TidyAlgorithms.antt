@@ -1,6 +1,5 @@
 -- Each row of an algorithm and of an operator is tidy: an algorithm writes to sequences alone.
-use Rattle.std.proofs.Common.{◌≡◌, ℕ, Bool, true, false, List, [], ◌∷◌, ◌++◌, Some, None, length, refl, sym, ◌∙◌, subst, inl, ℤ, take, drop}
-use Rattle.std.specs.Prelude.{slice_index_or}
+use Rattle.std.proofs.Common.{◌≡◌, ℕ, Bool, true, false, List, [], ◌∷◌, ◌++◌, Some, None, length, refl, sym, subst, inl, ℤ, take, drop}
 use Rattle.sl_base.specs.declared.form.Form.{Form}
 use Rattle.sl_base.specs.declared.form.Form.TheVariants as f
 use Rattle.sl_specs.specs.declared.call.Call.{Call}
@@ -12,9 +11,9 @@ use Rattle.sl_syntax.specs.declared.typed.operator.Operator.{Operator}
 use Rattle.sl_model.specs.Containers.{cont_at}
 use Rattle.sl_model.specs.Forms.{is_keyed}
 use Rattle.sl_model.specs.Values.{Value, nothing, number, iterator, pair, two, scalar_at, container_at, element_at}
-use Rattle.sl_model.specs.Situation.{Situation, own, argument, place_of, container_of}
+use Rattle.sl_model.specs.Situation.{Situation, own, place_of}
 use Rattle.sl_model.specs.Operands.{Sort, a_number, an_iterator, all_sorts, are_of, a_writer, a_sequence, is_of, written_keys}
-use Rattle.sl_model.specs.Needs.{output_fails, failures, all_failures, first_failure}
+use Rattle.sl_model.specs.Needs.{failures, all_failures, first_failure}
 use Rattle.sl_model.specs.WritingAlgorithms.{rewrites, output, outputs}
 use Rattle.sl_model.specs.Rows.{of_first, algorithm_row, row_of_operator}
 use Rattle.sl_model.proofs.Called.{HasObject}

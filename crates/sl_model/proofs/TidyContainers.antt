@@ -1,27 +1,24 @@
 -- Each call on a container is tidy: what it brings into a form with keys is put in key by key, or is a copy of a container of the form.
-use Rattle.std.proofs.Common.{◌≡◌, ◌≢◌, ℕ, ◌+◌, ◌-◌, ◌<◌, ◌≤◌, ◌==◌, Bool, true, false, IsTrue, List, [], ◌∷◌, Some, None, refl, ap, sym, ◌∙◌, arith}
-use Rattle.std.proofs.Common.{inl, inr, if◌then◌else◌, ℤ, pos, take, drop, replicate, reverse}
+use Rattle.std.proofs.Common.{◌≡◌, ℕ, ◌+◌, ◌≤◌, ◌==◌, Bool, true, false, [], ◌∷◌, refl, ap, sym, ◌∙◌, arith}
+use Rattle.std.proofs.Common.{inl, inr, if◌then◌else◌, pos, take, drop}
 use Rattle.std.specs.Prelude.{nat_lt, slice_get}
 use Rattle.sl_base.specs.declared.form.Form.{Form}
-use Rattle.sl_base.specs.declared.scalar.Scalar.TheVariants as t
-use Rattle.sl_specs.specs.declared.class.Class.{Class}
 use Rattle.sl_specs.specs.ContainerLines.{container_lines}
 use Rattle.sl_specs.specs.MultiLines.{multi_lines}
-use Rattle.sl_model.specs.Containers.{Cont, size, cont_at, items}
+use Rattle.sl_model.specs.Containers.{size, items}
 use Rattle.sl_model.specs.Forms.{is_hash, is_keyed}
-use Rattle.sl_model.specs.Numbers.{fits}
-use Rattle.sl_model.specs.Operands.{Sort, an_iterator, is_of_form}
+use Rattle.sl_model.specs.Operands.{an_iterator, is_of_form}
 use Rattle.sl_model.specs.Orderly.{IsOrderlyCont, IsOrderly}
 use Rattle.sl_model.specs.Rearrangements.{arranged, exchanged, received, given, moved_order}
 use Rattle.sl_model.specs.Schedule.{pick, after_picks}
-use Rattle.sl_model.specs.Situation.{Situation, own, own_size, index, container_of, their, their_size, int_of, count_of, number_in, argument, item, range_keys}
+use Rattle.sl_model.specs.Situation.{Situation, own, own_size, index, container_of, their, their_size, int_of, count_of, number_in, argument}
 use Rattle.sl_model.specs.Actions.{keeps, edits, changes, trades}
 use Rattle.sl_model.specs.AccessActions.{untouched, rehashed, reserved, swap}
 use Rattle.sl_model.specs.ListActions.{merged, merge, splices}
 use Rattle.sl_model.specs.MakeActions.{refilled, copied}
 use Rattle.sl_model.specs.Rows.{of_form}
 use Rattle.sl_model.proofs.AsInts.{converted-fits}
-use Rattle.sl_model.proofs.Called.{HasObject, own_form, own_there}
+use Rattle.sl_model.proofs.Called.{HasObject, own_form}
 use Rattle.sl_model.proofs.OrderlyEffects.{IsTidy}
 use Rattle.sl_model.proofs.Tells.{AllOf, all_parts}
 use Rattle.sl_model.proofs.TidyRows.{LineIsTidy, range-ints, listed-ints, repeated-ints, filled-tidy, copied-order, first_of_form, second_of_form}

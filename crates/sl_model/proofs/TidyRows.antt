@@ -1,6 +1,6 @@
 -- What each row has to be so that keys stay in order, and what of it follows from the forms that have the row and from its operands.
 use Rattle.std.proofs.Common.{◌≡◌, ℕ, zero, suc, ◌&&◌, Bool, true, false, not, IsTrue, List, [], ◌∷◌, Option, Some, None, map, refl, ap, sym, ◌∙◌}
-use Rattle.std.proofs.Common.{subst, if◌then◌else◌, ℤ, pos, option_map, replicate, inl, inr}
+use Rattle.std.proofs.Common.{subst, if◌then◌else◌, ℤ, option_map, replicate}
 use Rattle.std.specs.Prelude.{find, slice_index_or}
 use Rattle.std.specs.List.{slice_get}
 use Rattle.sl_base.specs.declared.form.Form.{Form}
@@ -14,24 +14,24 @@ use Rattle.sl_model.specs.Forms.{is_keyed}
 use Rattle.sl_model.specs.Numbers.{converted, fits}
 use Rattle.sl_model.specs.Needs.{first_failure}
 use Rattle.sl_model.specs.Operands.{Sort, an_iterator, a_writer, a_container, is_of_form, is_of, are_of, is_sequence, stands_in_sequence}
-use Rattle.sl_model.specs.Orderly.{may_precede, Each, EachPair, AreInOrder, HoldsInts, IsOrderlyCont, IsOrderly}
+use Rattle.sl_model.specs.Orderly.{may_precede, Each, AreInOrder, HoldsInts, IsOrderlyCont, IsOrderly}
 use Rattle.sl_model.specs.Schedule.{scattered, after_picks}
-use Rattle.sl_model.specs.Situation.{Situation, own, argument, place_in, place_of, container_of, container_of_value, their, index, number_in, int_of}
+use Rattle.sl_model.specs.Situation.{Situation, argument, place_in, place_of, container_of, container_of_value, their, index, number_in}
 use Rattle.sl_model.specs.Situation.{item, as_items, listed, range_keys}
 use Rattle.sl_model.specs.Values.{Value, nothing, number, iterator, pair, two, scalar_at, container_at, element_at}
 use Rattle.sl_model.specs.Actions.{never}
-use Rattle.sl_model.specs.MakeActions.{filled, copied, copy_items}
+use Rattle.sl_model.specs.MakeActions.{filled, copy_items}
 use Rattle.sl_model.specs.Rows.{Row, member_row}
 use Rattle.sl_model.specs.Library.{form_of}
 use Rattle.sl_model.proofs.After.{cont_of_there}
 use Rattle.sl_model.proofs.AlgorithmsTell.{container_there}
 use Rattle.sl_model.proofs.AsInts.{converted-fits, converted-same}
-use Rattle.sl_model.proofs.Called.{IsCalled, HasObject, one_form, own_form, own_there}
+use Rattle.sl_model.proofs.Called.{IsCalled, one_form, own_form, own_there}
 use Rattle.sl_model.proofs.FineEffects.{IsThere}
 use Rattle.sl_model.proofs.KeysAfter.{any_order, hash-turns}
 use Rattle.sl_model.proofs.OrderlyEffects.{HasIntKey, IsTidy}
 use Rattle.sl_model.proofs.OutputsTell.{first_holds, second_holds}
-use Rattle.sl_model.proofs.Pairs.{each-map, each-weaker, each-at, each-take, each-drop, pairs-map, pairs-mapped, pairs-scattered}
+use Rattle.sl_model.proofs.Pairs.{each-map, each-weaker, each-take, each-drop, pairs-map, pairs-mapped, pairs-scattered}
 
 -- a row's effect is tidy wherever it is called in an orderly memory, its needs hold and nothing stops it
 abbrev pub RowIsTidy : Row → Type 0
