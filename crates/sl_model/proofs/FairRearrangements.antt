@@ -344,7 +344,7 @@ module _ (c d : Cont) where
   abbrev both : List (ℤ × Source)
   both = entries (λ k. old k) 0 (keys c) ++ entries (λ k. theirs k) 0 (keys d)
 
-  merged_own : (k : ℕ) → times k (own_places (merged c d).sources) ≡ times k (numbers 0 (size c))
+  pub merged_own : (k : ℕ) → times k (own_places (merged c d).sources) ≡ times k (numbers 0 (size c))
   merged_own k =
       let a = own_sum k (sorted_entries both) in
       let b = sum-sorted (λ (x : ℤ × Source). times k (own_places (x.1 ∷ []))) both in
@@ -354,7 +354,7 @@ module _ (c d : Cont) where
       let h : times k (numbers 0 (length (keys c))) ≡ times k (numbers 0 (size c)) = ap (λ n. times k (numbers 0 n)) (length_keys c) in
       omega arith
 
-  merged_their : (k : ℕ) → times k (their_places (merged c d).sources) ≡ times k (numbers 0 (size d))
+  pub merged_their : (k : ℕ) → times k (their_places (merged c d).sources) ≡ times k (numbers 0 (size d))
   merged_their k =
       let a = their_sum k (sorted_entries both) in
       let b = sum-sorted (λ (x : ℤ × Source). times k (their_places (x.1 ∷ []))) both in

@@ -168,11 +168,11 @@ writer-fine r s (container_at l) xs sound w count e = absurd (cc)
 writer-fine r s (element_at i j part) xs sound w count e = absurd (cc)
 
 -- the row of `copy`
-abbrev copy_row : TableRow
+abbrev pub copy_row : TableRow
 copy_row = algorithm c.Copy (a.IntRange ∷ a.Output ∷ []) g.Output (n.OneRange ∷ n.OutputFits ∷ [])
 
 -- the row of a merge or set operation
-abbrev set_row : Call → TableRow
+abbrev pub set_row : Call → TableRow
 set_row call = algorithm call (a.IntRange ∷ a.SecondIntRange ∷ a.Output ∷ []) g.Output (n.OneRange ∷ n.RangesSorted ∷ n.OutputFits ∷ [])
 
 -- what copy writes through an iterator

@@ -11,6 +11,8 @@ pub mod WithEnd
 -- ## What making, ending, writing and changes do to a memory
 pub mod After
 pub mod AfterTwo
+pub mod Moved
+pub mod InvalidatedPlaces
 pub mod Making
 pub mod Writing
 pub mod Ending
@@ -20,6 +22,7 @@ pub mod Counts
 pub mod FairChanges
 pub mod FairRearrangements
 pub mod AfterEdit
+pub mod Exchanged
 pub mod KeyCounts
 pub mod FineEffects
 -- ## Each row and each library: memory stays sound, and no mark vanishes
@@ -41,7 +44,18 @@ pub mod FineContainers
 pub mod TableRows
 pub mod FineAlgorithms
 pub mod LibrarySound
+-- ## Each row leaves keys in order
+pub mod TidyContainers
+pub mod TidyAlgorithms
+pub mod LibraryOrderly
 pub mod RunSound
+-- ## Keys stay in order
+pub mod Pairs
+pub mod AsInts
+pub mod KeysAfter
+pub mod KeyInOrder
+pub mod OrderlyEffects
+pub mod TidyRows
 -- ## Scoped texts: each state of a run is good
 pub mod Locations
 pub mod Levels

@@ -114,7 +114,7 @@ sequence_of_five m (a ∷ b ∷ c ∷ d ∷ v ∷ w ∷ vs) e = absurd
     (behind m (an_iterator ∷ an_iterator ∷ an_iterator ∷ a_sequence ∷ []) a (b ∷ c ∷ d ∷ v ∷ w ∷ vs) e)))) in cc)
 
 -- an iterator that is written through stands somewhere, where its need doesn't fail
-output_stands : (r : TableRow) (s : Situation) (a : ℕ) (v : Value) → is_of s.memory a_writer v ≡ true → output_fails r s a v ≡ []
+pub output_stands : (r : TableRow) (s : Situation) (a : ℕ) (v : Value) → is_of s.memory a_writer v ≡ true → output_fails r s a v ≡ []
     → (p : ℕ × ℕ) × (place_of s a ≡ Some p)
 output_stands r s a nothing w e = absurd (cc)
 output_stands r s a (number z) w e = absurd (cc)

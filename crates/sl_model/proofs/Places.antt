@@ -140,7 +140,7 @@ their_twice (z ∷ xs) (suc p) (suc q) k a b x y t u few =
     ap suc (their_twice xs p q k a b x y t u (omega arith))
 
 -- what is counted is taken
-own_found : (xs : List Source) (k : ℕ) → 0 < times k (own_places xs) → IsTaken xs k
+pub own_found : (xs : List Source) (k : ℕ) → 0 < times k (own_places xs) → IsTaken xs k
 own_found [] k h = absurd (omega arith)
 own_found (x ∷ xs) k h = by_source x h (own_found xs k)
   where
@@ -161,7 +161,7 @@ own_found (x ∷ xs) k h = by_source x h (own_found xs k)
     by_source (theirs i) h rest = let r = rest h in (suc r.0, r.1, r.2, r.3)
     by_source (new a b) h rest = let r = rest h in (suc r.0, r.1, r.2, r.3)
 
-their_found : (xs : List Source) (k : ℕ) → 0 < times k (their_places xs) → IsTakenOver xs k
+pub their_found : (xs : List Source) (k : ℕ) → 0 < times k (their_places xs) → IsTakenOver xs k
 their_found [] k h = absurd (omega arith)
 their_found (x ∷ xs) k h = by_source x h (their_found xs k)
   where

@@ -4,6 +4,7 @@ pub mod Containers
 pub mod Schedule
 pub mod Classes
 pub mod Edits
+pub mod Origins
 pub mod Rearrangements
 pub mod Orders
 pub mod Values
@@ -29,6 +30,7 @@ pub mod Exec
 pub mod Calls
 pub mod Run
 pub mod Good
+pub mod Orderly
 pub mod Covers
 pub mod Texts
 pub mod Shapes

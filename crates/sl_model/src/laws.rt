@@ -19,6 +19,19 @@ ghost use Rattle.sl_model.specs.Shapes.{lib_makes, lib_shape};
 ghost use Rattle.sl_model.specs.Ends.{OutOfSteps};
 ghost use Rattle.sl_model.specs.Run.{end_state, main_out, run};
 
+mod changes;
+mod classes;
+mod exchanges;
+mod keys;
+
+pub use changes::{elements_go_over, elements_keep_their_marks};
+pub use classes::{
+    all_and_end_invalidates, deques_invalidate, erasures_invalidate, hash_forms_invalidate,
+    iterators_go_with_references,
+};
+pub use exchanges::{merge_moves, splice_moves, swap_exchanges};
+pub use keys::keys_stay_in_order;
+
 /// One element comes in at the end of a vector of n elements, as `push_back` does it. Where there is room for it, the
 /// iterators at the end are invalidated and at no other place; where there is none, those at every place are. A
 /// reference is invalidated where the iterators at its element are.
