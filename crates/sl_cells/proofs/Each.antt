@@ -18,14 +18,6 @@ module _ {A : Type 0} (P : A → Type 0) where
   each_drop (suc n) [] p = tt
   each_drop (suc n) (x ∷ xs) p = each_drop n xs p.1
 
-  pub each_front : (xs ys : List A) → AllByRecursion P (xs ++ ys) → AllByRecursion P xs
-  each_front [] ys p = tt
-  each_front (x ∷ xs) ys p = (p.0, each_front xs ys p.1)
-
-  pub each_back : (xs ys : List A) → AllByRecursion P (xs ++ ys) → AllByRecursion P ys
-  each_back [] ys p = p
-  each_back (x ∷ xs) ys p = each_back xs ys p.1
-
   -- with one more element at a place
   pub each_put : (k : ℕ) (xs : List A) (x : A) → AllByRecursion P xs → P x → AllByRecursion P (take k xs ++ x ∷ drop k xs)
   each_put k xs x p q = each_append (take k xs) (x ∷ drop k xs) (each_take k xs p) (q, each_drop k xs p)
@@ -33,10 +25,6 @@ module _ {A : Type 0} (P : A → Type 0) where
   -- without a stretch
   pub each_cut : (f t : ℕ) (xs : List A) → AllByRecursion P xs → AllByRecursion P (take f xs ++ drop t xs)
   each_cut f t xs p = each_append (take f xs) (drop t xs) (each_take f xs p) (each_drop t xs p)
-
-  -- with another element at a place
-  pub each_swap : (k : ℕ) (xs : List A) (x : A) → AllByRecursion P xs → P x → AllByRecursion P (take k xs ++ x ∷ drop (suc k) xs)
-  each_swap k xs x p q = each_append (take k xs) (x ∷ drop (suc k) xs) (each_take k xs p) (q, each_drop (suc k) xs p)
 
   pub each_reverse : (xs : List A) → AllByRecursion P xs → AllByRecursion P (reverse xs)
   each_reverse [] p = tt

@@ -1,10 +1,16 @@
--- Closed lists and windows, each with what is so of it.
-use Rattle.std.proofs.Common.{◌≡◌, ℕ, zero, suc, ℤ, pos, ◌≤ℤ◌, true, false, List, [], ◌∷◌, get_or, refl, sym, ap, subst, ◌∙◌, arith}
+-- Closed lists, windows and ranges, each with what is so of it.
+use Rattle.std.proofs.Common.{◌≡◌, ℕ, zero, suc, ℤ, pos, ◌≤ℤ◌, ◌<ℤ◌, true, false, List, [], ◌∷◌, get_or, refl, sym, ap, subst, ◌∙◌, arith, inr}
+use Rattle.std.proofs.Common.{⊎_elim}
 use Rattle.std.proofs.lemmas.Int.{ints}
+use Rattle.sl_intervals.specs.declared.interval.Interval.{Interval}
+use Rattle.sl_intervals.specs.declared.sure.Sure.TheVariants.{May, Always}
+use Rattle.sl_intervals.specs.Intervals.{Holds}
 use Rattle.sl_cells.specs.declared.item.Item.{Item}
 use Rattle.sl_cells.specs.declared.sorted.Sorted.TheVariants.{Yes, Unknown}
 use Rattle.sl_cells.specs.Orders.{IsAscending, IsPartitionedBelow, IsPartitionedAbove, with_key, IsSortOf}
-use Rattle.sl_cells.specs.Windows.{Window, HoldsItem, Describes, Knows}
+use Rattle.sl_cells.specs.Windows.{Window, ranges, HoldsItem, IsOnly, Describes, Knows}
+use Rattle.sl_cells.specs.Ranges.{IsUnion}
+use Rattle.sl_cells.specs.Verdicts.{IsVerdict, IsDecided}
 use Rattle.sl_cells.specs.Edits.{IsBetween}
 use Rattle.sl_cells.proofs.Sorts.{by_key, skips}
 
@@ -137,3 +143,79 @@ two_fits_behind = record { behind = behind; before = λ d l. absurd (omega arith
 
 two_does_not_fit_before : IsBetween (one_or_two ∷ []) 0 0 (record { low = pos 2; high = pos 2 }) → ⊥
 two_does_not_fit_before b = let h = b.before one_or_two (omega arith) in omega (arith, ints)
+
+-- the union of 1..2 and 5..6 is 1..6, and nothing wider
+abbrev low_range : Interval
+low_range = record { low = pos 1; high = pos 2 }
+
+abbrev high_range : Interval
+high_range = record { low = pos 5; high = pos 6 }
+
+one_to_six_is_the_union : IsUnion low_range high_range (record { low = pos 1; high = pos 6 })
+one_to_six_is_the_union = record {
+  holds = λ z h. ⊎_elim
+      (λ (p : Holds low_range z). record { low = omega (arith, ints); high = omega (arith, ints) })
+      (λ (p : Holds high_range z). record { low = omega (arith, ints); high = omega (arith, ints) })
+      h;
+  least = λ z p q. ⊎_elim (λ (e : pos 2 <ℤ pos 1). absurd (omega (arith, ints))) (λ (l : z ≤ℤ pos 1). inr l) p;
+  most = λ z p q. ⊎_elim (λ (e : pos 6 <ℤ pos 5). absurd (omega (arith, ints))) (λ (l : pos 6 ≤ℤ z). inr l) q;
+}
+
+zero_to_six_is_not_the_union : IsUnion low_range high_range (record { low = pos 0; high = pos 6 }) → ⊥
+zero_to_six_is_not_the_union u = ⊎_elim
+    (λ (e : pos 6 <ℤ pos 0). omega (arith, ints))
+    (λ (l : pos 1 ≤ℤ pos 0). omega (arith, ints))
+    (u.least (pos 1) (inr (omega (arith, ints))) (inr (omega (arith, ints))))
+
+-- 3 and 1 as known elements: whether they ascend is decided, and they don't
+abbrev exactly : ℤ → Interval
+exactly z = record { low = z; high = z }
+
+abbrev known_three_one : Window
+known_three_one = record {
+  all = true;
+  known = record { key = exactly (pos 3); value = exactly (pos 0) } ∷ record { key = exactly (pos 1); value = exactly (pos 0) } ∷ [];
+  keys = record { low = pos 1; high = pos 3 };
+  values = exactly (pos 0);
+  sorted = Unknown;
+}
+
+three_one_are_known : Knows known_three_one three_one
+three_one_are_known = record {
+  describes = record { window = λ e. (holds (pos 3), (holds (pos 1), tt)); ranged = (ranged, (ranged', tt)); order = λ e. absurd (cc) };
+  all = refl;
+  known = (only (pos 3), (only (pos 1), tt));
+}
+  where
+    holds : (z : ℤ) → HoldsItem (record { key = exactly z; value = exactly (pos 0) }) (z, pos 0)
+    holds z = record {
+      key = record { low = omega (arith, ints); high = omega (arith, ints) };
+      value = record { low = omega (arith, ints); high = omega (arith, ints) };
+    }
+
+    only : (z : ℤ) → IsOnly (record { key = exactly z; value = exactly (pos 0) }) (z, pos 0)
+    only z = record { key = record { low = refl; high = refl }; value = record { low = refl; high = refl } }
+
+    ranged : HoldsItem (ranges known_three_one) (pos 3, pos 0)
+    ranged = record {
+      key = record { low = omega (arith, ints); high = omega (arith, ints) };
+      value = record { low = omega (arith, ints); high = omega (arith, ints) };
+    }
+
+    ranged' : HoldsItem (ranges known_three_one) (pos 1, pos 0)
+    ranged' = record {
+      key = record { low = omega (arith, ints); high = omega (arith, ints) };
+      value = record { low = omega (arith, ints); high = omega (arith, ints) };
+    }
+
+may_is_no_answer : IsDecided known_three_one (exactly (pos 0)) (exactly (pos 2)) May → ⊥
+may_is_no_answer d =
+    d three_one 0 2 three_one_are_known (record { low = refl; high = refl }) (record { low = refl; high = refl }) (omega arith) (omega arith) refl
+
+always_is_wrong : IsVerdict known_three_one (exactly (pos 0)) (exactly (pos 2)) IsAscending Always → ⊥
+always_is_wrong v = three_one_do_not_ascend (v.always refl three_one 0 2 three_one_are_known.describes (record {
+  first = record { low = omega (arith, ints); high = omega (arith, ints) };
+  last = record { low = omega (arith, ints); high = omega (arith, ints) };
+  order = omega arith;
+  inside = omega arith;
+}))

@@ -6,6 +6,7 @@ pub mod Zips
 -- ## Orders
 pub mod Ordered
 pub mod Comparisons
+pub mod Partitions
 -- ## Questions
 pub mod Reading
 pub mod Asking

@@ -1,7 +1,7 @@
 -- Lists whose elements go together, cut, joined and turned round.
-use Rattle.std.proofs.Common.{◌≡◌, ℕ, zero, suc, ◌+◌, ◌<◌, List, [], ◌∷◌, ◌++◌, length, take, drop, get_or, reverse, refl, ap, sym, subst, arith}
+use Rattle.std.proofs.Common.{◌≡◌, ℕ, zero, suc, ◌<◌, List, [], ◌∷◌, ◌++◌, length, take, drop, get_or, reverse, refl, ap, sym, subst, arith}
 use Rattle.std.specs.List.{AllZip, slice_range}
-use Rattle.std.proofs.lemmas.List.{take_more, reverse-append}
+use Rattle.std.proofs.lemmas.List.{reverse-append}
 
 module _ {A B : Type 0} (R : A → B → Type 0) where
   pub zip_take : (n : ℕ) (xs : List A) (ys : List B) → AllZip R xs ys → AllZip R (take n xs) (take n ys)
@@ -24,21 +24,9 @@ module _ {A B : Type 0} (R : A → B → Type 0) where
   zip_append (x ∷ xs) us [] vs z w = absurd z
   zip_append (x ∷ xs) us (y ∷ ys) vs z w = (z.0, zip_append xs us ys vs z.1 w)
 
-  -- with one more element at a place
-  pub zip_put : (k : ℕ) (xs : List A) (ys : List B) (x : A) (y : B) → AllZip R xs ys → R x y
-      → AllZip R (take k xs ++ x ∷ drop k xs) (take k ys ++ y ∷ drop k ys)
-  zip_put k xs ys x y z r =
-      zip_append (take k xs) (x ∷ drop k xs) (take k ys) (y ∷ drop k ys) (zip_take k xs ys z) (r, zip_drop k xs ys z)
-
   -- without a stretch
   pub zip_cut : (f t : ℕ) (xs : List A) (ys : List B) → AllZip R xs ys → AllZip R (take f xs ++ drop t xs) (take f ys ++ drop t ys)
   zip_cut f t xs ys z = zip_append (take f xs) (drop t xs) (take f ys) (drop t ys) (zip_take f xs ys z) (zip_drop t xs ys z)
-
-  -- with another element at a place
-  pub zip_swap : (k : ℕ) (xs : List A) (ys : List B) (x : A) (y : B) → AllZip R xs ys → R x y
-      → AllZip R (take k xs ++ x ∷ drop (k + 1) xs) (take k ys ++ y ∷ drop (k + 1) ys)
-  zip_swap k xs ys x y z r =
-      zip_append (take k xs) (x ∷ drop (k + 1) xs) (take k ys) (y ∷ drop (k + 1) ys) (zip_take k xs ys z) (r, zip_drop (k + 1) xs ys z)
 
   -- a part
   pub zip_part : (f t : ℕ) (xs : List A) (ys : List B) → AllZip R xs ys → AllZip R (slice_range xs f t) (slice_range ys f t)
@@ -67,15 +55,6 @@ module _ {A B : Type 0} (R : A → B → Type 0) where
   zip_at (x ∷ xs) (y ∷ ys) zero d e z l = z.0
   zip_at (x ∷ xs) (y ∷ ys) (suc k) d e z l = zip_at xs ys k d e z.1 (omega arith)
 
-  -- a list that goes with xs and one element more
-  pub zip_last : (xs : List A) (x : A) (ys : List B) → AllZip R (xs ++ x ∷ []) ys
-      → (us : List B) × (u : B) × (ys ≡ us ++ u ∷ []) × AllZip R xs us × R x u
-  zip_last [] x [] z = absurd z
-  zip_last [] x (y ∷ []) z = ([], y, refl, tt, z.0)
-  zip_last [] x (y ∷ w ∷ ys) z = absurd z.1
-  zip_last (a ∷ xs) x [] z = absurd z
-  zip_last (a ∷ xs) x (y ∷ ys) z = let r = zip_last xs x ys z.1 in (y ∷ r.0, r.1, ap (λ t. y ∷ t) r.2, (z.0, r.3), r.4)
-
 -- what goes with xs goes with ys too
 pub zip_weaker : {A B : Type 0} (R S : A → B → Type 0) → ((x : A) (y : B) → R x y → S x y) → (xs : List A) (ys : List B) → AllZip R xs ys
     → AllZip S xs ys
@@ -83,11 +62,3 @@ zip_weaker R S w [] [] z = tt
 zip_weaker R S w [] (y ∷ ys) z = absurd z
 zip_weaker R S w (x ∷ xs) [] z = absurd z
 zip_weaker R S w (x ∷ xs) (y ∷ ys) z = (w x y z.0, zip_weaker R S w xs ys z.1)
-
--- an element more of a join, which holds what the one of xs holds
-pub zip_more : {A B : Type 0} (R : A → B → Type 0) (xs : List A) (i : ℕ) (d x : A) (known : List A) → i < length xs
-    → ((b : B) → R (get_or xs i d) b → R x b) → ((ys : List B) → AllZip R (take i xs) ys → AllZip R known ys) → (ys : List B)
-    → AllZip R (take (i + 1) xs) ys → AllZip R (known ++ x ∷ []) ys
-zip_more R xs i d x known l weak before ys z =
-    let r = zip_last R (take i xs) (get_or xs i d) ys (subst (λ t. AllZip R t ys) (take_more xs i d l) z) in
-    rw r.2 (zip_append R known (x ∷ []) r.0 (r.1 ∷ []) (before r.0 r.3) (weak r.1 r.4, tt))
