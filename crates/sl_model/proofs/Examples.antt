@@ -52,3 +52,16 @@ pub mod ListEdges
 pub mod ListLimits
 pub mod EndTexts
 pub mod Generated
+pub mod RunCases1
+pub mod RunCases2
+pub mod RunCases3
+pub mod RunCases4
+pub mod RunCases5
+pub mod RowCases1
+pub mod RowCases2
+pub mod RowCases3
+pub mod RowCases4
+pub mod RowCases5
+pub mod RowCases6
+pub mod RowCases7
+pub mod RowCases8

@@ -216,4 +216,4 @@ goes-star names k own place named it name s d lt =
     (star_flow place name stamp now out))
     (sym (lib-star_invalid s.memory stamp s.picks (locate-dropped s.memory stamp dead.0 d.sound (dropped-killer s.memory stamp dead.0 dead.1))))
     (star_invalid names k place name it stamp dead.0 standing now dead.1 dead.2))
-    (rw is (d.stands it stamp known.0 stamp.1 known.1))))
+    (rw is (d.stands it pointer.0 known.0 pointer.1 known.1))))
