@@ -4,7 +4,10 @@ use sl_base::limits::the_limits;
 use sl_grammar::{one_program, one_shape};
 use sl_lexer::{one_answer, one_cut, tokens_ascend};
 use sl_model::{
-    dropped_has_its_site, longer_runs, none_vanishes, one_place, push_back_kills, runs_stay_good,
+    all_and_end_invalidates, deques_invalidate, dropped_has_its_site, elements_go_over,
+    elements_keep_their_marks, erasures_invalidate, hash_forms_invalidate,
+    iterators_go_with_references, keys_stay_in_order, longer_runs, merge_moves, none_vanishes,
+    one_place, push_back_kills, runs_stay_good, splice_moves, swap_exchanges,
 };
 use sl_specs::{numbers_are_places, rows_differ};
 use sl_tool::{each_text_is_reported, each_text_is_scoped, one_refusal};
@@ -26,6 +29,17 @@ fn laws() {
     none_vanishes();
     longer_runs();
     runs_stay_good();
+    iterators_go_with_references();
+    erasures_invalidate();
+    deques_invalidate();
+    hash_forms_invalidate();
+    all_and_end_invalidates();
+    elements_keep_their_marks();
+    elements_go_over();
+    swap_exchanges();
+    splice_moves();
+    merge_moves();
+    keys_stay_in_order();
     covers_more();
     stays_ascending();
     tells_its_sites();

@@ -7,6 +7,8 @@
 #[cfg(test)]
 mod calls_of_base;
 #[cfg(test)]
+mod calls_of_cells;
+#[cfg(test)]
 mod calls_of_expressions;
 #[cfg(test)]
 mod calls_of_grammar;
