@@ -1,8 +1,9 @@
 //! What an edit of a class invalidates.
 ghost use Rattle.std.specs.Prelude.{◌≡◌, ◌≢◌, ◌⊎◌, ◌<◌, ◌≤◌, ◌+◌, ◌↔◌, IsTrue, ℕ, length};
 ghost use Rattle.sl_specs.specs.declared.class.Class.{Class};
-ghost use Rattle.sl_specs.specs.declared.class.Class.TheVariants.{AllAndEnd, DequeErase, DequeInsert, ErasedOnly, HashInsert};
-ghost use Rattle.sl_specs.specs.declared.class.Class.TheVariants.{HashReserve, VectorErase, VectorInsert, VectorReserve};
+ghost use Rattle.sl_specs.specs.declared.class.Class.TheVariants.{AllAndEnd, DequeErase, DequeInsert};
+ghost use Rattle.sl_specs.specs.declared.class.Class.TheVariants.{ErasedOnly, HashInsert, HashReserve};
+ghost use Rattle.sl_specs.specs.declared.class.Class.TheVariants.{VectorErase, VectorInsert, VectorReserve};
 ghost use Rattle.sl_model.specs.Classes.{Edit, Fits, kills, loses};
 
 /// Where a class invalidates the references to an element, it invalidates the iterators at it too.
