@@ -61,6 +61,7 @@ taken-from ch k t = (t.0, by_source t.1 t.2 t.3)
     by_source (theirs i) at e = absurd e
     by_source (new a b) at e = absurd e
 
+-- so it is with the other container
 taken-over : (ch : Change) (k : ℕ) → IsTakenOver ch.sources k → (h : ℕ) × ComesOver ch h k
 taken-over ch k t = (t.0, by_source t.1 t.2 t.3)
   where
@@ -70,11 +71,12 @@ taken-over ch k t = (t.0, by_source t.1 t.2 t.3)
     by_source (theirs i) at e = at ∙ ap (λ n. Some (theirs n)) e
     by_source (new a b) at e = absurd e
 
--- a merge takes each element of either
+-- a merge takes each element of the object
 merged-stays : (c d : Cont) (k : ℕ) → k < size c → (h : ℕ) × ComesFrom (merged c d) h k
 merged-stays c d k low = taken-from (merged c d) k (own_found (merged c d).sources k
     (let a = merged_own c d k in let b = times-numbers k 0 (size c) (omega arith) (omega arith) in omega arith))
 
+-- of the other list
 merged-comes : (c d : Cont) (k : ℕ) → k < size d → (h : ℕ) × ComesOver (merged c d) h k
 merged-comes c d k low = taken-over (merged c d) k (their_found (merged c d).sources k
     (let a = merged_their c d k in let b = times-numbers k 0 (size d) (omega arith) (omega arith) in omega arith))
@@ -87,13 +89,14 @@ differ-test a b n = by_test (a == b) refl
     by_test true e = absurd (n (eqb-true a b e))
     by_test false e = e
 
--- what these calls do to two containers
+-- what swap does to two containers
 pub swap-trades : (s : Situation) → container_of s 1 ≢ s.object
     → swap.effect s ≡ trades (container_of s 1) (exchanged (own s) (their s 1)) (exchanged (their s 1) (own s))
 swap-trades s n = ap (λ (b : Bool). if b
     then edits 0 (untouched (own s).room)
     else trades (container_of s 1) (exchanged (own s) (their s 1)) (exchanged (their s 1) (own s))) (differ-test (container_of s 1) s.object n)
 
+-- what splice does
 pub splice-trades : (s : Situation) (from count : ℕ) → container_of s 2 ≢ s.object
     → splices s from count ≡ trades (container_of s 2) (received (index s 1) from count (own s)) (given from count (their s 2))
 splice-trades s from count n = ap (λ (b : Bool). if b
@@ -101,6 +104,7 @@ splice-trades s from count n = ap (λ (b : Bool). if b
     else trades (container_of s 2) (received (index s 1) from count (own s)) (given from count (their s 2)))
     (differ-test (container_of s 2) s.object n)
 
+-- what merge does
 pub merge-trades : (s : Situation) → container_of s 1 ≢ s.object
     → merge.effect s ≡ trades (container_of s 1) (merged (own s) (their s 1)) (given 0 (their_size s 1) (their s 1))
 merge-trades s n = ap (λ (b : Bool). if b
@@ -118,24 +122,27 @@ module _ (form : Form) (class : Class) (s : Situation) where
   abbrev There : ℕ → Cont → Type 0
   There j c = slice_get s.memory.conts j ≡ Some c
 
-  -- swap
+  -- in a swap the elements of the object go to the same places of the other container
   pub swap-goes : container_of s 1 ≢ s.object → There s.object (own s) → There (container_of s 1) (their s 1) → (k : ℕ) → k < own_size s
       → AllGoTo (swap.effect s) s.object k (container_of s 1) k
   swap-goes n there there' k low = subst (λ e. AllGoTo e s.object k (container_of s 1) k) (sym (swap-trades s n))
       (goes_to_second (exchanged (own s) (their s 1)) (exchanged (their s 1) (own s)) s.memory s.object (container_of s 1) (own s) (their s 1) s.site
       (λ e. n (sym e)) there there' k k (exchanged-comes (their s 1) (own s) k low) low)
 
+  -- and its elements come to those of the object
   pub swap-comes : container_of s 1 ≢ s.object → There s.object (own s) → There (container_of s 1) (their s 1) → (k : ℕ) → k < their_size s 1
       → AllGoTo (swap.effect s) (container_of s 1) k s.object k
   swap-comes n there there' k low = subst (λ e. AllGoTo e (container_of s 1) k s.object k) (sym (swap-trades s n))
       (goes_to_first (exchanged (own s) (their s 1)) (exchanged (their s 1) (own s)) s.memory s.object (container_of s 1) (own s) (their s 1) s.site
       (λ e. n (sym e)) there there' k k (exchanged-comes (own s) (their s 1) k low) low)
 
-  -- the ends of both
+  -- the ends of both are dropped
   pub swap-ends : container_of s 1 ≢ s.object
-      → Dropped (does form class s (swap.effect s)).memory (own s).end s.site × Dropped (does form class s (swap.effect s)).memory (their s 1).end s.site
+      → Dropped (does form class s (swap.effect s)).memory (own s).end s.site
+      × Dropped (does form class s (swap.effect s)).memory (their s 1).end s.site
   swap-ends n = subst
-      (λ e. Dropped (does form class s e).memory (own s).end s.site × Dropped (does form class s e).memory (their s 1).end s.site) (sym (swap-trades s n)) (
+      (λ e. Dropped (does form class s e).memory (own s).end s.site × Dropped (does form class s e).memory (their s 1).end s.site)
+      (sym (swap-trades s n)) (
         buried_grave (λ k. k == own_size s) s.site (stamps (own s))
             (buried (λ k. k == their_size s 1) s.site 0 (stamps (their s 1)) ++ s.memory.graves) (own_size s) (own s).end (end-stamp (own s))
             (same-test (own_size s)),
@@ -148,7 +155,7 @@ module _ (form : Form) (class : Class) (s : Situation) where
       same-test : (n : ℕ) → (n == n) ≡ true
       same-test n = eq-eqb n n refl
 
-  -- splice
+  -- in a splice the elements come behind the position, in their order
   pub splice-comes : (from count : ℕ) → container_of s 2 ≢ s.object → There s.object (own s) → There (container_of s 2) (their s 2)
       → from + count ≤ their_size s 2 → (k : ℕ) → from ≤ k → k < from + count
       → AllGoTo (splices s from count) (container_of s 2) k s.object (index s 1 + (k - from))
@@ -157,21 +164,24 @@ module _ (form : Form) (class : Class) (s : Situation) where
       (goes_to_first (received (index s 1) from count (own s)) (given from count (their s 2)) s.memory s.object (container_of s 2) (own s) (their s 2)
       s.site (λ e. n (sym e)) there there' (index s 1 + (k - from)) k (received-comes (index s 1) from count (own s) k low high) (omega arith))
 
-  -- merge
+  -- in a merge each element of the object goes to a place of it
   pub merge-stays : container_of s 1 ≢ s.object → There s.object (own s) → There (container_of s 1) (their s 1) → (k : ℕ) → k < own_size s
       → (h : ℕ) × AllGoTo (merge.effect s) s.object k s.object h
   merge-stays n there there' k low =
       let r = merged-stays (own s) (their s 1) k low in
-      let t = stays_in_first (merged (own s) (their s 1)) (given 0 (their_size s 1) (their s 1)) s.memory s.object (container_of s 1) (own s) (their s 1)
+      let t = stays_in_first (merged (own s) (their s 1)) (given 0 (their_size s 1) (their s 1)) s.memory s.object (container_of s 1) (own s)
+      (their s 1)
       s.site (λ e. n (sym e)) there there' r.0 k r.1 low in
       (r.0, subst (λ e. AllGoTo e s.object k s.object r.0) (sym (merge-trades s n)) ((λ x at. t.0 x refl at), (λ x at. t.1 x refl at)))
 
+  -- and each of the other list
   pub merge-comes : container_of s 1 ≢ s.object → There s.object (own s) → There (container_of s 1) (their s 1) → (k : ℕ) → k < their_size s 1
       → (h : ℕ) × AllGoTo (merge.effect s) (container_of s 1) k s.object h
   merge-comes n there there' k low =
       let r = merged-comes (own s) (their s 1) k low in (
         r.0,
         subst (λ e. AllGoTo e (container_of s 1) k s.object r.0) (sym (merge-trades s n))
-            (goes_to_first (merged (own s) (their s 1)) (given 0 (their_size s 1) (their s 1)) s.memory s.object (container_of s 1) (own s) (their s 1)
+            (goes_to_first (merged (own s) (their s 1)) (given 0 (their_size s 1) (their s 1)) s.memory s.object (container_of s 1) (own s)
+            (their s 1)
             s.site (λ e. n (sym e)) there there' r.0 k r.1 low),
       )

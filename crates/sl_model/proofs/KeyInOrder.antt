@@ -53,9 +53,11 @@ put-once : (x : ℤ) (ks : List ℤ) → Each (λ y. same x y ≡ false) ks → 
 put-once x ks none p = put_in-order (λ a b. IsTrue (int_lt a b)) (λ z. int_lt z x) x ks
     (each-weaker (λ y. same x y ≡ false) (FitsBeside (λ a b. IsTrue (int_lt a b)) (λ z. int_lt z x) x) ks (once_beside x) none) p
 
+-- and so where equal keys may be
 put-equal : (x : ℤ) (ks : List ℤ) → EachPair (λ a b. IsTrue (int_le a b)) ks
     → EachPair (λ a b. IsTrue (int_le a b)) (put_at (how_many (λ z. int_le z x) ks) x ks)
-put-equal x ks p = put_in-order (λ a b. IsTrue (int_le a b)) (λ z. int_le z x) x ks (each-all (FitsBeside (λ a b. IsTrue (int_le a b)) (λ z. int_le z x) x) ks (equal_beside x)) p
+put-equal x ks p = put_in-order (λ a b. IsTrue (int_le a b)) (λ z. int_le z x) x ks
+    (each-all (FitsBeside (λ a b. IsTrue (int_le a b)) (λ z. int_le z x) x) ks (equal_beside x)) p
 
 -- so it is in each form that has its keys in ascending order, and in a sequence
 put-order : (form : Form) (x : ℤ) (ks : List ℤ) → is_hash form ≡ false → (holds_equal_keys form ≡ false → Each (λ y. same x y ≡ false) ks)

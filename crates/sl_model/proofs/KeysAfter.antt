@@ -90,11 +90,12 @@ keys-places (x ∷ cells) =
 pub all_keys : (c : Cont) → map (key_at c) (numbers 0 (size c)) ≡ keys c
 all_keys c = keys-places c.cells
 
--- the keys of old elements, and those of the other container's
+-- the keys of old elements
 pub old-keys : (c d : Cont) (order : List ℕ) → map (key_from c d) (map (λ k. old k) order) ≡ map (key_at c) order
 old-keys c d [] = refl
 old-keys c d (k ∷ order) = ap (λ l. key_at c k ∷ l) (old-keys c d order)
 
+-- and those of the other container's
 pub their-keys : (c d : Cont) (order : List ℕ) → map (key_from c d) (map (λ k. theirs k) order) ≡ map (key_at d) order
 their-keys c d [] = refl
 their-keys c d (k ∷ order) = ap (λ l. key_at d k ∷ l) (their-keys c d order)
@@ -149,7 +150,6 @@ hash-turns f.MultiMap e x y h = absurd (cc)
 pub scattered-order : (c : Cont) (picks : List ℕ) → is_hash c.form ≡ true → AreInOrder c.form (keys c)
     → AreInOrder c.form (map (key_at c) (scattered picks (numbers 0 (size c))))
 scattered-order c picks hash h =
-    let Q : ℤ → ℤ → Type 0 = λ x y. IsTrue (may_precede c.form x y) in
     pairs-map (λ x y. IsTrue (may_precede c.form x y)) (key_at c) (scattered picks (numbers 0 (size c)))
     (pairs-scattered (λ k i. IsTrue (may_precede c.form (key_at c k) (key_at c i)))
     (λ k i g. hash-turns c.form hash (key_at c k) (key_at c i) g) picks (numbers 0 (size c))
@@ -179,13 +179,14 @@ ordered-at c k h order low high =
     get_key : (cells : List Cell) (i : ℕ) (x : Cell) → slice_get cells i ≡ Some x → slice_get (map (λ (y : Cell). y.key) cells) i ≡ Some x.key
     get_key cells i x e = get_map (λ (y : Cell). y.key) cells i x e
 
--- old elements in turn stand in order, and behind an earlier one
 module _ (c d : Cont) (n' : ℕ) (order : AreInOrder c.form (keys c)) where
+  -- old elements in turn stand behind an earlier one
   pub olds-behind : (k i n : ℕ) → k < i → AllInside (size c) n' (olds i n)
       → Each (λ y. IsTrue (may_precede c.form (key_at c k) y)) (map (key_from c d) (olds i n))
   olds-behind k i zero low inside = tt
   olds-behind k i (suc n) low inside = (ordered-at c k i order low inside.0, olds-behind k (i + 1) n (omega arith) inside.1)
 
+  -- and in order
   pub olds-order : (i n : ℕ) → AllInside (size c) n' (olds i n) → AreInOrder c.form (map (key_from c d) (olds i n))
   olds-order i zero inside = tt
   olds-order i (suc n) inside = (olds-behind i (i + 1) n (omega arith) inside.1, olds-order (i + 1) n inside.1)
@@ -203,11 +204,12 @@ module _ (c d : Cont) (n' : ℕ) (order : AreInOrder c.form (keys c)) where
       (pairs-append (λ x y. IsTrue (may_precede c.form x y)) (map (key_from c d) (olds i n)) (map (key_from c d) (olds j m))
       (olds-order i n inside) (olds-order j m inside') (olds-apart i n j m low inside'))
 
--- the parts of sources that are inside
+-- the first part of sources that are inside
 inside-left : (n n' : ℕ) (xs ys : List Source) → AllInside n n' (xs ++ ys) → AllInside n n' xs
 inside-left n n' [] ys h = tt
 inside-left n n' (x ∷ xs) ys h = (h.0, inside-left n n' xs ys h.1)
 
+-- and the second
 inside-right : (n n' : ℕ) (xs ys : List Source) → AllInside n n' (xs ++ ys) → AllInside n n' ys
 inside-right n n' [] ys h = h
 inside-right n n' (x ∷ xs) ys h = inside-right n n' xs ys h.1

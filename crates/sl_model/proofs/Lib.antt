@@ -52,6 +52,7 @@ pub mod RunSound
 -- ## Keys stay in order
 pub mod Pairs
 pub mod AsInts
+pub mod Ascending
 pub mod KeysAfter
 pub mod KeyInOrder
 pub mod OrderlyEffects

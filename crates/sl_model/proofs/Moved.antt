@@ -107,7 +107,8 @@ sources-got ch base own other next (x ∷ xs) (suc p) y h =
 
 -- the marks of an element that stays
 pub stayed-marks : (ch : Change) (base : ℕ) (c : Cont) (missing : Cell) (k : ℕ) (y : Cell) → slice_get c.cells k ≡ Some y
-    → ((stayed ch base c missing k).stamp ≡ mark_after ch.kill base k y.stamp) × ((stayed ch base c missing k).refer ≡ mark_after ch.lose base k y.refer)
+    → ((stayed ch base c missing k).stamp ≡ mark_after ch.kill base k y.stamp)
+    × ((stayed ch base c missing k).refer ≡ mark_after ch.lose base k y.refer)
 stayed-marks ch base c missing k y at = (
   ap (λ (o : Option Cell). (elim o as (λ _. Cell) [
     | None ↦ missing
@@ -130,7 +131,8 @@ module _ (ch : Change) (base next : ℕ) (own other : Cont) where
 
   -- the element that comes from an own place, and its marks
   from_own : (h k : ℕ) (y : Cell) → ComesFrom ch h k → slice_get own.cells k ≡ Some y
-      → (z : Cell) × (slice_get later.cells h ≡ Some z) × (z.stamp ≡ mark_after ch.kill base k y.stamp) × (z.refer ≡ mark_after ch.lose base k y.refer)
+      → (z : Cell) × (slice_get later.cells h ≡ Some z)
+      × (z.stamp ≡ mark_after ch.kill base k y.stamp) × (z.refer ≡ mark_after ch.lose base k y.refer)
   from_own h k y (inl at) there =
       let r = stayed-marks ch base own (blank (next + h)) k y there in
       (stayed ch base own (blank (next + h)) k, sources-get ch base own other next ch.sources h (old k) at, r.0, r.1)
@@ -203,7 +205,7 @@ module _ (ch : Change) (fresh : ℕ) (c : Cont) (none : TakesNoneOver ch) where
       by_test true t g = absurd (omega arith)
       by_test false t g = (g, t)
 
-  -- an element whose stamp was used stood at a place that keeps it, and so with refers
+  -- an element whose stamp was used stood at a place that keeps it
   used_stamp : (p : ℕ) (x : Source) (s : ℕ) → slice_get ch.sources p ≡ Some x
       → (from_source ch fresh c c (blank ((fresh + size c + 1) + p)) x).stamp ≡ s → s < fresh
       → (k : ℕ) × (slice_get (stamps c) k ≡ Some s) × (ch.kill k ≡ false)
@@ -232,6 +234,7 @@ module _ (ch : Change) (fresh : ℕ) (c : Cont) (none : TakesNoneOver ch) where
       by_source (theirs k) t g = absurd (none p k t)
       by_source (new a b) t g = absurd (omega arith)
 
+  -- so it is with a refer
   used_refer : (p : ℕ) (x : Source) (s : ℕ) → slice_get ch.sources p ≡ Some x
       → (from_source ch fresh c c (blank ((fresh + size c + 1) + p)) x).refer ≡ s → s < fresh
       → (k : ℕ) × (slice_get (refers c) k ≡ Some s) × (ch.lose k ≡ false)
@@ -297,7 +300,8 @@ module _ (ch : Change) (m : Memory) (j : ℕ) (c : Cont) (site : ℕ) (sound : I
       (at_stands m j k s at)).1 in
       both_ways (ch.kill k) (ap ch.kill (sym q) ∙ r.2) dies)
       (λ (n : j ≢ i).
-      let before : IsAt m i h s = record { cont = later.cont; there = sym (get-after-other ch m j i c site n) ∙ later.there; stands = later.stands } in
+      let before : IsAt m i h s =
+      record { cont = later.cont; there = sym (get-after-other ch m j i c site n) ∙ later.there; stands = later.stands } in
       n (sound.stamps_apart.once j k i h s (at_stands m j k s at) (at_stands m i h s before)).0)
       (cases_eq j i)
 
@@ -313,7 +317,8 @@ module _ (ch : Change) (m : Memory) (j : ℕ) (c : Cont) (site : ℕ) (sound : I
       (refers_stands m j k s at)).1 in
       both_ways (ch.lose k) (ap ch.lose (sym q) ∙ r.2) dies)
       (λ (n : j ≢ i).
-      let before : RefersTo m i h s = record { cont = later.cont; there = sym (get-after-other ch m j i c site n) ∙ later.there; stands = later.stands } in
+      let before : RefersTo m i h s =
+      record { cont = later.cont; there = sym (get-after-other ch m j i c site n) ∙ later.there; stands = later.stands } in
       n (sound.refers_apart.once j k i h s (refers_stands m j k s at) (refers_stands m i h s before)).0)
       (cases_eq j i)
 
@@ -338,26 +343,31 @@ module _ (ch dh : Change) (m : Memory) (j i : ℕ) (c d : Cont) (site : ℕ) (di
   second-there = get_set_same (slice_set m.conts j first) i second
       (get_within (slice_set m.conts j first) i d (get_set_other m.conts j i first differ ∙ there'))
 
-  -- an iterator or reference that stands in one of the two afterwards
+  -- an iterator that stands in the first afterwards
   at_first : (h s : ℕ) → slice_get (stamps first) h ≡ Some s → IsAt (after_two ch dh m j c i d site) j h s
   at_first h s at = record { cont = first; there = first-there; stands = at }
 
+  -- in the second
   at_second : (h s : ℕ) → slice_get (stamps second) h ≡ Some s → IsAt (after_two ch dh m j c i d site) i h s
   at_second h s at = record { cont = second; there = second-there; stands = at }
 
+  -- a reference, in the first
   to_first : (h r : ℕ) → slice_get (refers first) h ≡ Some r → RefersTo (after_two ch dh m j c i d site) j h r
   to_first h r at = record { cont = first; there = first-there; stands = at }
 
+  -- and in the second
   to_second : (h r : ℕ) → slice_get (refers second) h ≡ Some r → RefersTo (after_two ch dh m j c i d site) i h r
   to_second h r at = record { cont = second; there = second-there; stands = at }
 
-  -- the numbers from which marks of the two go
+  -- the number from which invalidated places of the second have their marks
   abbrev base' : ℕ
   base' = m.fresh + size c + 1
 
+  -- the number from which new elements of the first have theirs
   abbrev next : ℕ
   next = next_of_two m.fresh c d
 
+  -- and those of the second
   abbrev next' : ℕ
   next' = next + length ch.sources
 

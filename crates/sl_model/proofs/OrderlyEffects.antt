@@ -15,7 +15,8 @@ use Rattle.sl_model.specs.Orderly.{Each, AreInOrder, HoldsInts, IsOrderlyCont, I
 use Rattle.sl_model.specs.Schedule.{after_picks, scattered}
 use Rattle.sl_model.specs.Situation.{Situation, own, item}
 use Rattle.sl_model.specs.Actions.{Effect, keeps, edits, changes, trades, inserts, appends, makes, makes_by_keys}
-use Rattle.sl_model.specs.Effects.{Left, insertion_class, insertion, append, append_all, known_key, key_change, key_picks, insert_key, insert_all, does}
+use Rattle.sl_model.specs.Effects.{Left, insertion_class, insertion, append, append_all, known_key, key_change, key_picks, insert_key}
+use Rattle.sl_model.specs.Effects.{insert_all, does}
 use Rattle.sl_model.proofs.AsInts.{converted-fits}
 use Rattle.sl_model.proofs.After.{get-after-own, get-after-other, cont_at-after-own, cont_of_there}
 use Rattle.sl_model.proofs.FineEffects.{IsThere, IsFine}
@@ -136,12 +137,13 @@ append_all-orderly site j (x ∷ xs) left orderly there free =
 
 -- ## New containers
 
--- the keys of new elements, and that they are ints
+-- the keys of new elements
 new_keys : (next : ℕ) (xs : List (ℤ × ℤ))
     → map (λ (x : Cell). x.key) (new_cells next xs) ≡ map (λ (x : ℤ × ℤ). converted t.Int x.0) xs
 new_keys next [] = refl
 new_keys next (x ∷ xs) = ap (λ l. converted t.Int x.0 ∷ l) (new_keys (next + 1) xs)
 
+-- they hold ints
 new_ints : (next : ℕ) (xs : List (ℤ × ℤ)) → Each HoldsInts (new_cells next xs)
 new_ints next [] = tt
 new_ints next (x ∷ xs) = ((converted-fits x.0, converted-fits x.1), new_ints (next + 1) xs)
@@ -173,6 +175,7 @@ side-orderly ch base next c d p q tidy = record {
         (subst (AreInOrder c.form) (sym (their-keys c d (numbers 0 (size d)) ∙ all_keys d))
         (subst (λ form. AreInOrder form (keys d)) (sym h.0) q.order))
 
+-- both of two
 trade-orderly : (ch dh : Change) (m : Memory) (j i : ℕ) (c d : Cont) (site : ℕ) → j ≢ i → slice_get m.conts j ≡ Some c
     → slice_get m.conts i ≡ Some d → IsOrderly m → IsTidyTrade c d ch dh → IsOrderly (after_two ch dh m j c i d site)
 trade-orderly ch dh m j i c d site differ there there' orderly tidy n x at = ⊎_elim

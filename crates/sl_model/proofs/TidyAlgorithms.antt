@@ -40,7 +40,8 @@ written-tidy form s (iterator i) xs p e w at = inl (writer-free s (length s.valu
 written-tidy form s (pair i b) xs p e w at = inl (writer-free s (length s.values) p w at)
 written-tidy form s (two i j) xs p e w at = inl (writer-free s (length s.values) p w at)
 written-tidy form s (scalar_at l) xs p e w at = inl (writer-free s (length s.values) p w at)
-written-tidy form s (container_at l) xs p e w at = absurd (let q : is_of s.memory a_writer (container_at l) ≡ true = subst (λ (v : Value). is_of s.memory a_writer v ≡ true) e w in cc)
+written-tidy form s (container_at l) xs p e w at = absurd
+    (let q : is_of s.memory a_writer (container_at l) ≡ true = subst (λ (v : Value). is_of s.memory a_writer v ≡ true) e w in cc)
 written-tidy form s (element_at i j part) xs p e w at = inl (writer-free s (length s.values) p w at)
 
 -- an output that is an appender
@@ -71,7 +72,8 @@ set-tidy : (appends : Bool) (call : Call) (form : Form) (s : Situation)
     → first_failure (all_failures (set_row call) (set_row call).needs s) ≡ None → IsTidy form s (outputs s (output s) (written_keys call s))
 set-tidy false call form s operands none =
     let w = writer_of_five s.memory s.values operands in
-    let rest = none_right (failures (set_row call) s n.OneRange) (failures (set_row call) s n.RangesSorted ++ (failures (set_row call) s n.OutputFits ++ []))
+    let rest = none_right (failures (set_row call) s n.OneRange)
+    (failures (set_row call) s n.RangesSorted ++ (failures (set_row call) s n.OutputFits ++ []))
     (no_failure (all_failures (set_row call) (set_row call).needs s) none) in
     let fits = none_right (failures (set_row call) s n.RangesSorted) (failures (set_row call) s n.OutputFits ++ []) rest in
     let p = output_stands (set_row call) s (length s.values) (output s) w (none_left (failures (set_row call) s n.OutputFits) [] fits) in

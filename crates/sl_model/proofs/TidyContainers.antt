@@ -116,7 +116,8 @@ containers-tidy = all_parts LineIsTidy 7 container_lines makings (all_parts Line
           (
             (λ form class free s orderly h none go. filled-tidy form s _ (repeated-ints (count_of s 1) (pos 0) refl)),
             (
-              (λ form class free s orderly h none go. filled-tidy form s _ (repeated-ints (count_of s 1) (int_of s 2) (converted-fits (number_in (argument s 2))))),
+              (λ form class free s orderly h none go. filled-tidy form s _
+                  (repeated-ints (count_of s 1) (int_of s 2) (converted-fits (number_in (argument s 2))))),
               (
                 (λ form class free s orderly h none go. filled-tidy form s _ (range-ints s 1 orderly)),
                 (

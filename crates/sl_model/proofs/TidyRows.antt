@@ -179,10 +179,11 @@ second_of_form m form sorts (v ∷ []) h = absurd (let q = second_holds (is_of m
 second_of_form m form sorts (v ∷ w ∷ vs) h =
     first_of_form m form sorts (w ∷ vs) (second_holds (is_of m an_iterator v) (are_of m (a_container form ∷ sorts) (w ∷ vs)) h)
 
--- a container of a form, and that it is there
+-- the form of a container of a form
 pub form_there : (m : Memory) (form : Form) (j : ℕ) → is_of_form form (slice_get m.conts j) ≡ true → (cont_at m j).form ≡ form
 form_there m form j h = own_form form (record { memory = m; object = j; values = []; picks = []; site = 0 }) h
 
+-- it is there
 pub cont_there : (m : Memory) (form : Form) (j : ℕ) → is_of_form form (slice_get m.conts j) ≡ true → IsThere m j
 cont_there m form j h = own_there form (record { memory = m; object = j; values = []; picks = []; site = 0 }) h
 

@@ -27,10 +27,10 @@ mod keys;
 pub use changes::{elements_go_over, elements_keep_their_marks};
 pub use classes::{
     all_and_end_invalidates, deques_invalidate, erasures_invalidate, hash_forms_invalidate,
-    iterators_go_with_references,
+    iterators_go_with_references, nothing_is_invalidated, vectors_invalidate,
 };
 pub use exchanges::{merge_moves, splice_moves, swap_exchanges};
-pub use keys::keys_stay_in_order;
+pub use keys::{keys_stay_in_order, ordered_keys_ascend};
 
 /// One element comes in at the end of a vector of n elements, as `push_back` does it. Where there is room for it, the
 /// iterators at the end are invalidated and at no other place; where there is none, those at every place are. A

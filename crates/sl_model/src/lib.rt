@@ -8,5 +8,6 @@ pub use laws::{
     all_and_end_invalidates, deques_invalidate, dropped_has_its_site, elements_go_over,
     elements_keep_their_marks, erasures_invalidate, hash_forms_invalidate,
     iterators_go_with_references, keys_stay_in_order, longer_runs, merge_moves, none_vanishes,
-    one_place, push_back_kills, runs_stay_good, splice_moves, swap_exchanges,
+    nothing_is_invalidated, one_place, ordered_keys_ascend, push_back_kills, runs_stay_good,
+    splice_moves, swap_exchanges, vectors_invalidate,
 };

@@ -1,15 +1,9 @@
 //! What an edit of a class invalidates.
 ghost use Rattle.std.specs.Prelude.{◌≡◌, ◌≢◌, ◌⊎◌, ◌<◌, ◌≤◌, ◌+◌, ◌↔◌, IsTrue, ℕ, length};
 ghost use Rattle.sl_specs.specs.declared.class.Class.{Class};
-ghost use Rattle.sl_specs.specs.declared.class.Class.TheVariants.{
-  AllAndEnd,
-  DequeErase,
-  DequeInsert,
-  ErasedOnly,
-  HashInsert,
-  HashReserve,
-  VectorErase,
-};
+ghost use Rattle.sl_specs.specs.declared.class.Class.TheVariants.{AllAndEnd, DequeErase, DequeInsert};
+ghost use Rattle.sl_specs.specs.declared.class.Class.TheVariants.{ErasedOnly, HashInsert, HashReserve};
+ghost use Rattle.sl_specs.specs.declared.class.Class.TheVariants.{VectorErase, VectorInsert, VectorReserve};
 ghost use Rattle.sl_model.specs.Classes.{Edit, Fits, kills, loses};
 
 /// Where a class invalidates the references to an element, it invalidates the iterators at it too.
@@ -28,6 +22,28 @@ pub fn erasures_invalidate()
     ensures vector { (n room k : ℕ) (e : Edit) → 0 < e.gone →
         (IsTrue (kills VectorErase n room e k) ↔ (e.from ≤ k))
         × (IsTrue (loses VectorErase n room e k) ↔ (e.from ≤ k)) }
+{}
+
+/// An insertion into a vector invalidates the iterators and references from its place on, with the end, where there is
+/// room for it, and else all. A `reserve` of a vector invalidates all where it makes the room greater, and else none.
+pub fn vectors_invalidate()
+    ensures with_room { (n room k : ℕ) (e : Edit) → 0 < length e.come → n + length e.come ≤ room →
+        (IsTrue (kills VectorInsert n room e k) ↔ (e.from ≤ k))
+        × (IsTrue (loses VectorInsert n room e k) ↔ (e.from ≤ k)) }
+    ensures grown { (n room k : ℕ) (e : Edit) → 0 < length e.come → room < n + length e.come →
+        IsTrue (kills VectorInsert n room e k) × IsTrue (loses VectorInsert n room e k) }
+    ensures reserved { (n room k : ℕ) (e : Edit) → (IsTrue (kills VectorReserve n room e k) ↔ (room < e.room))
+        × (IsTrue (loses VectorReserve n room e k) ↔ (room < e.room)) }
+{}
+
+/// An insertion or erasure of no elements invalidates nothing.
+pub fn nothing_is_invalidated()
+    ensures inserted { (n room k : ℕ) (e : Edit) → length e.come ≡ 0 → (IsTrue (kills VectorInsert n room e k) → ⊥)
+        × (IsTrue (kills DequeInsert n room e k) → ⊥) × (IsTrue (loses DequeInsert n room e k) → ⊥)
+        × (IsTrue (kills HashInsert n room e k) → ⊥) }
+    ensures erased { (n room k : ℕ) (e : Edit) → e.gone ≡ 0 → (IsTrue (kills VectorErase n room e k) → ⊥)
+        × (IsTrue (kills DequeErase n room e k) → ⊥) × (IsTrue (loses DequeErase n room e k) → ⊥)
+        × (IsTrue (kills ErasedOnly n room e k) → ⊥) }
 {}
 
 /// An insertion into a deque invalidates every iterator; at an end of the deque it invalidates no reference, and inside

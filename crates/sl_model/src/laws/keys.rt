@@ -1,11 +1,13 @@
 //! Keys stay in order.
-ghost use Rattle.std.specs.Prelude.{◌≡◌, ℕ, ℤ, List};
+ghost use Rattle.std.specs.Prelude.{◌≡◌, IsTrue, ℕ, ℤ, List, false, true};
 ghost use Rattle.sl_syntax.specs.declared.typed.callee.Callee.{Callee};
-ghost use Rattle.sl_model.specs.Containers.{Memory, Part, empty_memory, end_from, write_element};
+ghost use Rattle.sl_model.specs.Containers.{Cont, Memory, Part, empty_memory, end_from, keys, write_element};
+ghost use Rattle.sl_model.specs.Forms.{is_hash, is_keyed};
+ghost use Rattle.sl_model.specs.Orders.{is_ascending};
 ghost use Rattle.sl_model.specs.Values.{Args, Value, gives};
 ghost use Rattle.sl_model.specs.Library.{lib};
 ghost use Rattle.sl_model.specs.Good.{IsSound};
-ghost use Rattle.sl_model.specs.Orderly.{IsOrderly};
+ghost use Rattle.sl_model.specs.Orderly.{IsOrderly, IsOrderlyCont};
 
 /// The keys of each set and map stand in strictly ascending order, those of each multiset and multimap in ascending
 /// order, those of each hash form once, and each element holds ints. That is so in the memory without containers, each
@@ -17,4 +19,10 @@ pub fn keys_stay_in_order()
         IsOrderly (write_element m j k part z) }
     ensures ended { (site n : ℕ) (m : Memory) → IsOrderly m → IsOrderly (end_from site n m) }
     ensures empty { IsOrderly empty_memory }
+{}
+
+/// The keys of an orderly container of an ordered form ascend, as searches and merges ask of a range.
+pub fn ordered_keys_ascend()
+    ensures { (c : Cont) → IsOrderlyCont c → is_keyed c.form ≡ true → is_hash c.form ≡ false →
+        IsTrue (is_ascending (keys c)) }
 {}
