@@ -7,7 +7,8 @@ use sl_model::{
     all_and_end_invalidates, deques_invalidate, dropped_has_its_site, elements_go_over,
     elements_keep_their_marks, erasures_invalidate, hash_forms_invalidate,
     iterators_go_with_references, keys_stay_in_order, longer_runs, merge_moves, none_vanishes,
-    one_place, push_back_kills, runs_stay_good, splice_moves, swap_exchanges,
+    nothing_is_invalidated, one_place, ordered_keys_ascend, push_back_kills, runs_stay_good,
+    splice_moves, swap_exchanges, vectors_invalidate,
 };
 use sl_specs::{numbers_are_places, rows_differ};
 use sl_tool::{each_text_is_reported, each_text_is_scoped, one_refusal};
@@ -33,6 +34,8 @@ fn laws() {
     erasures_invalidate();
     deques_invalidate();
     hash_forms_invalidate();
+    vectors_invalidate();
+    nothing_is_invalidated();
     all_and_end_invalidates();
     elements_keep_their_marks();
     elements_go_over();
@@ -40,6 +43,7 @@ fn laws() {
     splice_moves();
     merge_moves();
     keys_stay_in_order();
+    ordered_keys_ascend();
     covers_more();
     stays_ascending();
     tells_its_sites();
