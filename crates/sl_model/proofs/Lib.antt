@@ -84,6 +84,8 @@ pub mod TypedExpressions
 pub mod TypedStatements
 pub mod TypedVariables
 pub mod TypedUses
+-- ## Well typed texts: what is given fits its type, so each call has a meaning
+pub mod Fitting
 -- ## Facts where no way comes
 pub mod FactsIdle
 pub mod EffectsIdle
