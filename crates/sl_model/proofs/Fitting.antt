@@ -1,6 +1,6 @@
 -- What fits a type in a memory, and what a library gives where its operands fit: of each typed call, a value that fits its type. A stamp fits a
 -- form where it stands in containers of that form alone, so a stamp that stands nowhere fits each form.
-use Rattle.std.proofs.Common.{◌≡◌, ℕ, ◌<◌, Bool, true, false, List, [], ◌∷◌, ◌++◌, map, Option, Some, None}
+use Rattle.std.proofs.Common.{◌≡◌, ℕ, ◌<◌, true, false, List, [], ◌∷◌, ◌++◌, map, Option, Some, None}
 use Rattle.std.specs.List.{slice_get}
 use Rattle.sl_base.specs.declared.form.Form.{Form}
 use Rattle.sl_base.specs.declared.scalar.Scalar.TheVariants as t
@@ -9,10 +9,10 @@ use Rattle.sl_syntax.specs.declared.typed.callee.Callee.{Callee}
 use Rattle.sl_syntax.specs.declared.typed.callee.Callee.TheVariants as callees
 use Rattle.sl_syntax.specs.declared.typed.operator.Operator.TheVariants as operators
 use Rattle.sl_model.specs.Containers.{Cont, Memory, stamps, refers, cont_at}
-use Rattle.sl_model.specs.Values.{Value, nothing, number, iterator, pair, two, scalar_at, container_at, element_at, Args, LibOut, trapped, thrown}
+use Rattle.sl_model.specs.Values.{Value, number, iterator, pair, two, scalar_at, container_at, element_at, Args, LibOut, trapped, thrown}
 use Rattle.sl_model.specs.Values.{faulted, gives, unbuilt, Lib}
 use Rattle.sl_model.specs.Good.{IsSound}
-use Rattle.sl_model.specs.WellTypedTypes.{ExprType, no_type, empty_type, scalar_type, element_type, iterator_type, iterator_and_bool, two_iterators}
+use Rattle.sl_model.specs.WellTypedTypes.{ExprType, empty_type, scalar_type, element_type, iterator_type, iterator_and_bool, two_iterators}
 use Rattle.sl_model.specs.WellTypedTypes.{container_type, handed_type, Scope, variable_type, has_type, is_iterator}
 use Rattle.sl_model.specs.WellTypedCalls.{call_type, is_moving}
 use Rattle.sl_model.specs.WellTypedStatements.{is_making}
@@ -95,12 +95,12 @@ pub record Answers (more : List Form) (m : Memory) (u : ExprType) (v : Value) (l
   pub given : IsGiven later u v
 
 -- where it gives something; a call without a meaning does not
-abbrev pub HasMeaning : List Form → Memory → ExprType → LibOut → Type 0
-HasMeaning more m u (gives v later picks) = Answers more m u v later
-HasMeaning more m u (trapped kind a) = Unit {0}
-HasMeaning more m u thrown = Unit {0}
-HasMeaning more m u (faulted w) = Unit {0}
-HasMeaning more m u unbuilt = ⊥
+abbrev pub IsMeant : List Form → Memory → ExprType → LibOut → Type 0
+IsMeant more m u (gives v later picks) = Answers more m u v later
+IsMeant more m u (trapped kind a) = Unit {0}
+IsMeant more m u thrown = Unit {0}
+IsMeant more m u (faulted w) = Unit {0}
+IsMeant more m u unbuilt = ⊥
 
 -- the object of a call is there where it has one, and is of the type of its variable
 abbrev pub ObjectFits : Memory → Scope → Option ℕ → Option ℕ → Type 0
@@ -119,23 +119,23 @@ pub record FitsTypes (l : Lib) : Type 0 where
   -- a call that moves no variable
   pub calls : (g : Scope) (callee : Callee) (object : Option ℕ) (us : List ExprType) (a : Args) (m : Memory) (picks : List ℕ)
       → is_moving callee ≡ false → has_type (call_type g callee object us) ≡ true → ObjectFits m g object a.object → OperandsFit m us a.values
-      → HasMeaning [] m (call_type g callee object us) (l callee a m picks)
+      → IsMeant [] m (call_type g callee object us) (l callee a m picks)
   -- what moves a variable begins with it
   pub moving : (g : Scope) (callee : Callee) (object : Option ℕ) (u : ExprType) (us : List ExprType) → is_moving callee ≡ true
       → has_type (call_type g callee object (u ∷ us)) ≡ true → is_iterator u ≡ true
   -- and gives where the variable then stands
   pub moves : (g : Scope) (callee : Callee) (object : Option ℕ) (u : ExprType) (us : List ExprType) (a : Args) (m : Memory) (picks : List ℕ)
       → is_moving callee ≡ true → has_type (call_type g callee object (u ∷ us)) ≡ true → ObjectFits m g object a.object
-      → OperandsFit m (u ∷ us) a.values → HasMeaning [] m u (l callee a m picks)
+      → OperandsFit m (u ∷ us) a.values → IsMeant [] m u (l callee a m picks)
   -- a call that makes a container
   pub makes : (form : Form) (callee : Callee) (object : Option ℕ) (us : List ExprType) (a : Args) (m : Memory) (picks : List ℕ)
-      → is_making form callee object us ≡ true → a.object ≡ None → OperandsFit m us a.values → HasMeaning (form ∷ []) m empty_type (l callee a m picks)
+      → is_making form callee object us ≡ true → a.object ≡ None → OperandsFit m us a.values → IsMeant (form ∷ []) m empty_type (l callee a m picks)
   -- what a range-for asks by itself
   pub compares : (form : Form) (v w : Value) (a : Args) (m : Memory) (picks : List ℕ) → a.object ≡ None → a.values ≡ v ∷ w ∷ [] → IsSound m
       → AllUsed m.fresh a.values → IsIteratorOf m form v → IsIteratorOf m form w
-      → HasMeaning [] m (scalar_type t.Bool) (l (callees.Hidden (operators.Compare c.NotEqual)) a m picks)
+      → IsMeant [] m (scalar_type t.Bool) (l (callees.Hidden (operators.Compare c.NotEqual)) a m picks)
   pub reads : (form : Form) (v : Value) (a : Args) (m : Memory) (picks : List ℕ) → a.object ≡ None → a.values ≡ v ∷ [] → IsSound m
-      → AllUsed m.fresh a.values → IsIteratorOf m form v → HasMeaning [] m (element_type false) (l (callees.Hidden operators.Dereference) a m picks)
+      → AllUsed m.fresh a.values → IsIteratorOf m form v → IsMeant [] m (element_type false) (l (callees.Hidden operators.Dereference) a m picks)
   pub steps : (form : Form) (v : Value) (a : Args) (m : Memory) (picks : List ℕ) → a.object ≡ None → a.values ≡ v ∷ [] → IsSound m
       → AllUsed m.fresh a.values → IsIteratorOf m form v
-      → HasMeaning [] m (iterator_type false form) (l (callees.Hidden operators.Increment) a m picks)
+      → IsMeant [] m (iterator_type false form) (l (callees.Hidden operators.Increment) a m picks)
