@@ -12,7 +12,7 @@ use Rattle.sl_model.specs.Ends.{Language, OutOfSteps}
 use Rattle.sl_model.specs.State.{State, leave}
 use Rattle.sl_model.specs.Binding.{bind_one, bind_all, bound}
 use Rattle.sl_model.specs.Eval.{Out, Gives, Stops, World, Oracle, come_back}
-use Rattle.sl_model.specs.Exec.{Flow, exec}
+use Rattle.sl_model.specs.Exec.{Flow}
 use Rattle.sl_model.specs.Calls.{fell, body_gives, of_function, world_of, call_of}
 use Rattle.sl_model.specs.Run.{empty_state, first_place, finished, run}
 use Rattle.sl_model.proofs.Longer.{more, LaterOut, gives, stops, out, Same, SameWorld}

@@ -2,7 +2,7 @@
 --
 -- Restates ISO/IEC 14882:2017, [expr.call] (each parameter is initialised with its operand), [dcl.init] (a number and an iterator are
 -- copied) and [dcl.init.ref] (a reference has the location of its operand).
-use Rattle.std.specs.Prelude.{ℕ, List, [], ◌∷◌, ◌++◌, Some}
+use Rattle.std.specs.Prelude.{List, [], ◌∷◌, ◌++◌, Some}
 use Rattle.sl_syntax.specs.declared.typed.parameter.ParameterKind.{ParameterKind}
 use Rattle.sl_syntax.specs.declared.typed.parameter.ParameterKind.TheVariants as parameter
 use Rattle.sl_model.specs.Values.{Value, number, iterator, scalar_at, container_at}

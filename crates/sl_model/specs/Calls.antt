@@ -4,7 +4,6 @@
 -- [basic.start.main] (`main` then gives 0).
 -- Chosen here: one call too many in progress ends the run.
 use Rattle.std.specs.Prelude.{ℕ, zero, suc, ◌==◌, Bool, true, false, List, [], pos, Option, Some, None, slice_get}
-use Rattle.sl_base.specs.declared.place.Place.{Place}
 use Rattle.sl_syntax.specs.declared.typed.parameter.ParameterKind.{ParameterKind}
 use Rattle.sl_syntax.specs.Typed.{Function, Typed}
 use Rattle.sl_model.specs.Values.{Lib, nothing, number}
