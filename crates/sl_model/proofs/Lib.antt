@@ -86,6 +86,11 @@ pub mod TypedVariables
 pub mod TypedUses
 -- ## Well typed texts: what is given fits its type, so each call has a meaning
 pub mod Fitting
+pub mod StackTypes
+pub mod StackScopes
+pub mod FitOuts
+pub mod FitMoves
+pub mod FitEval
 -- ## Facts where no way comes
 pub mod FactsIdle
 pub mod EffectsIdle
