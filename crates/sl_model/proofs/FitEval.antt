@@ -1,6 +1,6 @@
 -- Each expression that has a type gives what is of its type, and what lies on the stacks stays of its type: no end is for want of a meaning.
-use Rattle.std.proofs.Common.{◌≡◌, ◌<◌, ◌≤◌, ℕ, ◌==◌, Bool, true, false, not, ◌&&◌, ◌||◌, List, [], ◌∷◌, Option, Some, None, length, refl, sym, ap, ◌∙◌}
-use Rattle.std.proofs.Common.{subst, arith, inl, inr, option_map}
+use Rattle.std.proofs.Common.{◌≡◌, ◌<◌, ℕ, ◌==◌, Bool, true, false, not, ◌&&◌, ◌||◌, List, ◌∷◌, Option, Some, None, length, refl, sym, ap}
+use Rattle.std.proofs.Common.{subst, inl, inr, option_map}
 use Rattle.std.specs.Prelude.{ℤ, pos, slice_get, slice_index}
 use Rattle.sl_base.specs.declared.place.Place.{Place}
 use Rattle.sl_base.specs.declared.form.Form.{Form}
@@ -8,7 +8,6 @@ use Rattle.sl_base.specs.declared.scalar.Scalar.{Scalar}
 use Rattle.sl_base.specs.declared.scalar.Scalar.TheVariants as sorts
 use Rattle.sl_syntax.specs.declared.operator.Arithmetic.TheVariants as o
 use Rattle.sl_model.specs.Numbers.{is_zero, converted, operated, compared, truth}
-use Rattle.sl_syntax.specs.declared.typed.callee.Callee.{Callee}
 use Rattle.sl_syntax.specs.declared.typed.element.ElementPart.{ElementPart}
 use Rattle.sl_syntax.specs.declared.typed.element.ElementPart.TheVariants as parts
 use Rattle.sl_syntax.specs.declared.typed.head.Head.{Head}
@@ -18,14 +17,14 @@ use Rattle.sl_syntax.specs.Typed.{Expr, literal, held, iterator as iterator_held
 use Rattle.sl_syntax.specs.Typed.{comparison, increment, move, call, own_call, first, second, container, handed_scalar, Left, scalar, reference}
 use Rattle.sl_syntax.specs.Typed.{element, Operands, none, with, Function}
 use Rattle.sl_model.specs.Containers.{Memory, Part, locate_refer}
-use Rattle.sl_model.specs.Values.{Value, number, iterator, container_at, scalar_at, element_at}
+use Rattle.sl_model.specs.Values.{Value, number, iterator, container_at, element_at}
 use Rattle.sl_model.specs.State.{Pointer, iterator_at, reference_to, Frame, State, scalar_of, cont_of, iter_of, pointer_at, stamp_of, stamp_held}
 use Rattle.sl_model.specs.Eval.{by_one, Out, Gives, World, then_eval, then_number, then_call, branch, answered, read_at, write_at, use_library, increased}
-use Rattle.sl_model.specs.Eval.{moved_to, chosen, part_used, found_use, used, eval, reach, eval_all, name_place, call_own, site_of, first_of, second_of}
+use Rattle.sl_model.specs.Eval.{moved_to, chosen, part_used, found_use, used, eval, reach, eval_all, name_place, call_own, site_of}
 use Rattle.sl_model.specs.Good.{AreApart}
-use Rattle.sl_model.specs.Shapes.{a_number, a_stamp, an_element, Gift, a_value, Signature, gift_of, gifts_of, AllSuit, containers_in}
+use Rattle.sl_model.specs.Shapes.{a_number, Gift, a_value, Signature, gift_of, gifts_of, AllSuit, containers_in}
 use Rattle.sl_model.specs.Scoped.{InExpr, InLeft, InOperands, HasObject}
-use Rattle.sl_model.specs.WellTypedTypes.{ExprType, no_type, scalar_type, element_type, iterator_type, int_reference, entry_reference, Scope}
+use Rattle.sl_model.specs.WellTypedTypes.{ExprType, scalar_type, element_type, iterator_type, int_reference, entry_reference, Scope}
 use Rattle.sl_model.specs.WellTypedTypes.{variable_type, has_type, only, is_scalar, is_number, is_written, is_arithmetic, are_comparable, is_iterator}
 use Rattle.sl_model.specs.WellTypedCalls.{call_type, is_moving}
 use Rattle.sl_model.specs.WellTypedExpressions.{is_literal, only_value, only_element, type_of_use, go_to, type_given, function_type, is_arrow}
@@ -33,17 +32,17 @@ use Rattle.sl_model.specs.WellTypedExpressions.{is_variable, type_of, type_of_le
 use Rattle.sl_model.proofs.Passing.{first_of_both, second_of_both}
 use Rattle.sl_model.proofs.TypedOperands.{typed_by, only_holds, only_rest, all_typed}
 use Rattle.sl_model.proofs.TypedCalls.{call_known}
-use Rattle.sl_model.proofs.TypedParts.{held_typed, converted_number, negated_number, inverted_number, numbers_of_and, numbers_of_or}
+use Rattle.sl_model.proofs.TypedParts.{converted_number, negated_number, inverted_number, numbers_of_and, numbers_of_or}
 use Rattle.sl_model.proofs.TypedParts.{calculated_numbers, compared_numbers, stepped_number, moving_call, value_call, element_call, function_call}
 use Rattle.sl_model.proofs.TypedParts.{first_stands, second_stands}
 use Rattle.sl_model.proofs.TypedExpressions.{comparable_first, comparable_second, function_known}
-use Rattle.sl_model.proofs.Fitting.{IsNumber, IsIteratorOf, Fits, AllFit, IsElement, IsGiven, ObjectFits, OperandsFit, FitsTypes}
-use Rattle.sl_model.proofs.Levels.{Level, level_of, counts_of, Now, write-now}
-use Rattle.sl_model.proofs.Gifts.{AllUsed, KeepsGood, OwnKeepsGood, Gave, OutAt, AllGave, OutsAt, gift_of_left, stamp_used, now_again, at_answer}
+use Rattle.sl_model.proofs.Fitting.{IsIteratorOf, Fits, AllFit, IsElement, IsGiven, ObjectFits, FitsTypes}
+use Rattle.sl_model.proofs.Levels.{Level, counts_of, Now}
+use Rattle.sl_model.proofs.Gifts.{AllUsed, KeepsGood, OwnKeepsGood, AllGave, gift_of_left, stamp_used, now_again, at_answer}
 use Rattle.sl_model.proofs.Gifts.{at_read, at_library}
 use Rattle.sl_model.proofs.GoodEval.{at_eval, at_reach, at_all}
-use Rattle.sl_model.proofs.StackTypes.{Kind, iterator_of, a_reference, Stack, StacksFit, IterFits, ScopeFits, MemoryFits, write-fits, from_now}
-use Rattle.sl_model.proofs.StackTypes.{now-fits, then-fits, HasMeaning}
+use Rattle.sl_model.proofs.StackTypes.{Kind, a_reference, Stack, StacksFit, IterFits, ScopeFits, MemoryFits, write-fits, from_now}
+use Rattle.sl_model.proofs.StackTypes.{now-fits, then-fits}
 use Rattle.sl_model.proofs.StackScopes.{conts_at, iters_at, IsNumberType, scalars_at, iterator-held, IsReference, reference-held}
 use Rattle.sl_model.proofs.FitOuts.{OutHas, Of, ANumber, IsPlace, APlace, OutFits, OutsFit, out_as, fits_only, numbered, numbered_only, given_value}
 use Rattle.sl_model.proofs.FitOuts.{handed_fits, first_fits, second_fits, container_fits, chosen_number, fit_then, fit_then_number, fit_call, fit_rest}

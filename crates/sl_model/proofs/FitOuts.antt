@@ -1,5 +1,5 @@
 -- What an expression leaves is of its type: what follows a value, a number, operands, a call of the library and the place of a left side.
-use Rattle.std.proofs.Common.{◌≡◌, ℕ, ◌<◌, ◌≤◌, Bool, true, false, List, [], ◌∷◌, Option, Some, None, length, refl, sym, ap, ◌∙◌, subst, arith}
+use Rattle.std.proofs.Common.{◌≡◌, ℕ, ◌<◌, Bool, true, false, List, [], ◌∷◌, Option, Some, None, length, sym, ap, ◌∙◌, arith}
 use Rattle.std.specs.Prelude.{ℤ, pos, slice_get}
 use Rattle.sl_base.specs.declared.place.Place.{Place}
 use Rattle.sl_base.specs.declared.form.Form.{Form}
@@ -8,19 +8,19 @@ use Rattle.sl_syntax.specs.declared.typed.head.Head.{Head}
 use Rattle.sl_syntax.specs.declared.typed.step.Fix.{Fix}
 use Rattle.sl_syntax.specs.declared.typed.step.Fix.TheVariants.{Prefix, Postfix}
 use Rattle.sl_model.specs.Containers.{Memory}
-use Rattle.sl_model.specs.Values.{Value, nothing, number, iterator, pair, two, scalar_at, container_at, element_at, LibOut, trapped, thrown}
+use Rattle.sl_model.specs.Values.{Value, number, iterator, pair, two, scalar_at, container_at, element_at, LibOut, trapped, thrown}
 use Rattle.sl_model.specs.Values.{faulted, gives, unbuilt}
 use Rattle.sl_model.specs.State.{State, scalar_value}
 use Rattle.sl_model.specs.Eval.{Out, Gives, Stops, Outs, AllGive, OneStops, then_eval, with_number, then_number, add_value, then_rest, then_call}
 use Rattle.sl_model.specs.Eval.{branch, answered, if_set, read_at, settle_call, moved_to, chosen, first_of, second_of}
 use Rattle.sl_model.specs.Shapes.{Gift}
-use Rattle.sl_model.specs.WellTypedTypes.{ExprType, no_type, scalar_type, element_type, iterator_type, iterator_and_bool, two_iterators, container_type}
-use Rattle.sl_model.specs.WellTypedTypes.{handed_type, has_type, only}
+use Rattle.sl_model.specs.WellTypedTypes.{ExprType, scalar_type, element_type, iterator_and_bool, two_iterators, container_type}
+use Rattle.sl_model.specs.WellTypedTypes.{has_type, only}
 use Rattle.sl_model.specs.WellTypedExpressions.{only_value, handed, type_of_first, type_of_second}
 use Rattle.sl_model.proofs.Getting.{get_within, get_some}
-use Rattle.sl_model.proofs.Fitting.{forms_of, StampFits, IsNumber, IsIteratorOf, IsPairOf, AreTwoOf, Fits, AllFit, IsElement, IsGiven, IsMeant}
+use Rattle.sl_model.proofs.Fitting.{forms_of, StampFits, IsNumber, IsIteratorOf, IsPairOf, AreTwoOf, Fits, AllFit, IsGiven, IsMeant}
 use Rattle.sl_model.proofs.Levels.{Level, Now}
-use Rattle.sl_model.proofs.Gifts.{IsUsed, Gave, OutAt, AllGave, OutsAt}
+use Rattle.sl_model.proofs.Gifts.{Gave, OutAt, AllGave, OutsAt}
 use Rattle.sl_model.proofs.StackTypes.{iterator_of, Stack, FormsGoOn, StacksFit, HasMeaning, fits_later, memory-fits, set_iterator-fits, length-forms}
 use Rattle.sl_model.proofs.StackTypes.{from_now, then-fits, ContFits}
 use Rattle.sl_model.proofs.StackScopes.{IsNumberType}

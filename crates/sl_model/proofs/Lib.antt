@@ -91,6 +91,7 @@ pub mod StackScopes
 pub mod FitOuts
 pub mod FitMoves
 pub mod FitEval
+pub mod FitFlow
 -- ## Facts where no way comes
 pub mod FactsIdle
 pub mod EffectsIdle

@@ -1,22 +1,20 @@
 -- What lies on the stacks of a run is of its type: at each location of a container that is known stands one of its form, at each of an iterator an
 -- iterator of its form, at each of a reference a reference; and what is in scope is where its type says. Each change of a state keeps it.
-use Rattle.std.proofs.Common.{◌≡◌, ℕ, zero, suc, ◌+◌, ◌<◌, ◌≤◌, true, List, [], ◌∷◌, ◌++◌, Option, Some, None, map, length, take, refl, sym, ap, ◌∙◌}
+use Rattle.std.proofs.Common.{◌≡◌, ℕ, zero, suc, ◌<◌, ◌≤◌, List, [], ◌∷◌, ◌++◌, Option, Some, None, map, length, take, refl, sym, ap, ◌∙◌}
 use Rattle.std.proofs.Common.{subst, arith}
-use Rattle.std.specs.Prelude.{ℤ, slice_get, slice_index, slice_index_or}
+use Rattle.std.specs.Prelude.{ℤ, slice_get}
 use Rattle.std.specs.List.{slice_set}
 use Rattle.std.proofs.lemmas.List.{length-map}
-use Rattle.std.proofs.lemmas.Option.{get_or_from_slice_get}
 use Rattle.sl_base.specs.declared.form.Form.{Form}
 use Rattle.sl_model.specs.Containers.{Cont, Memory, Part, write_element, end_from}
-use Rattle.sl_model.specs.Values.{Value, nothing, number, iterator, pair, two, scalar_at, container_at, element_at}
+use Rattle.sl_model.specs.Values.{Value, iterator, pair, two, scalar_at, container_at, element_at}
 use Rattle.sl_model.specs.Ends.{End, NoMeaning}
-use Rattle.sl_base.specs.declared.scalar.Scalar.{Scalar}
 use Rattle.sl_model.specs.Eval.{write_at}
-use Rattle.sl_model.specs.State.{Pointer, iterator_at, reference_to, Slot, State, set_scalar_at, mark_in}
+use Rattle.sl_model.specs.State.{Pointer, iterator_at, reference_to, State, set_scalar_at, mark_in}
 use Rattle.sl_model.specs.Good.{IsGood, AreBelow}
-use Rattle.sl_model.specs.WellTypedTypes.{ExprType, no_type, empty_type, scalar_type, element_type, iterator_type, iterator_and_bool, two_iterators}
-use Rattle.sl_model.specs.WellTypedTypes.{container_type, handed_type, int_reference, entry_reference, Scope, variable_type, has_type}
-use Rattle.sl_model.proofs.Getting.{get_left, get_within, get_map, get_behind}
+use Rattle.sl_model.specs.WellTypedTypes.{ExprType, empty_type, scalar_type, element_type, iterator_type, iterator_and_bool, two_iterators}
+use Rattle.sl_model.specs.WellTypedTypes.{container_type, handed_type, int_reference, entry_reference, Scope}
+use Rattle.sl_model.proofs.Getting.{get_left, get_within, get_map}
 use Rattle.sl_model.proofs.Fitting.{forms_of, StampFits, KeepsForms, Fits, IsIteratorOf, IsPairOf, AreTwoOf, IsContainerOf}
 use Rattle.sl_model.proofs.Gifts.{IsUsed}
 use Rattle.sl_model.proofs.Levels.{Level}
