@@ -171,7 +171,7 @@ module _ (w : World) (g : Signature) (lib_keeps : KeepsGood g.shape g.makes w.li
   at_wrote bytes s h = apart_from_stacks L n s s.input s.picks s.steps (s.written ++ bytes) h
 
   -- an item of a print
-  at_printed : (p : Printed) (s : State) → InPrinted g (counts_of L.frame) p → Now L n s → FlowIn shape L n (Now L n) (Now L n) (printed w p s)
+  pub at_printed : (p : Printed) (s : State) → InPrinted g (counts_of L.frame) p → Now L n s → FlowIn shape L n (Now L n) (Now L n) (printed w p s)
   at_printed (text bytes) s i h = at_wrote bytes s h
   at_printed endline s i h = at_wrote (10 ∷ []) s h
   at_printed (printed_number a) s i h =

@@ -92,6 +92,8 @@ pub mod FitOuts
 pub mod FitMoves
 pub mod FitEval
 pub mod FitFlow
+pub mod FitDeclared
+pub mod FitEffects
 -- ## Facts where no way comes
 pub mod FactsIdle
 pub mod EffectsIdle

@@ -104,7 +104,7 @@ return_is_fine g None (Some e) h = absurd cc
 return_is_fine g (Some k) (Some e) h = passing_is_fine g e (goes_to k) (no_type_goes k) h
 
 -- the functions of a text stay known behind a declaration
-functions_behind : (d : Declaration) (g : Scope) → (behind d g).functions ≡ g.functions
+pub functions_behind : (d : Declaration) (g : Scope) → (behind d g).functions ≡ g.functions
 functions_behind (unset_scalar s) g = refl
 functions_behind (set_scalar s e) g = refl
 functions_behind (set_iterator e) g = refl
@@ -112,19 +112,19 @@ functions_behind (binds_reference c ops) g = refl
 functions_behind (makes form c ops) g = refl
 
 -- they do behind the first part of a `for`
-functions_behind_first : (head : First) (g : Scope) → (behind_first head g).functions ≡ g.functions
+pub functions_behind_first : (head : First) (g : Scope) → (behind_first head g).functions ≡ g.functions
 functions_behind_first no_first g = refl
 functions_behind_first (declares_first d) g = functions_behind d g
 functions_behind_first (does_first w) g = refl
 
 -- they do in a range-for
-functions_in_range : (how : Taken) (u : ExprType) (g : Scope) → (in_range how u g).functions ≡ g.functions
+pub functions_in_range : (how : Taken) (u : ExprType) (g : Scope) → (in_range how u g).functions ≡ g.functions
 functions_in_range taken.Value (container_type access x) g = refl
 functions_in_range taken.Reference (container_type access x) g = refl
 functions_in_range how u g = refl
 
 -- they do where parameters come into scope
-functions_with_parameters : (ks : List ParameterKind) (g : Scope) → (with_parameters ks g).functions ≡ g.functions
+pub functions_with_parameters : (ks : List ParameterKind) (g : Scope) → (with_parameters ks g).functions ≡ g.functions
 functions_with_parameters [] g = refl
 functions_with_parameters (parameters.Value s ∷ ks) g = functions_with_parameters ks (with_parameter (parameters.Value s) g)
 functions_with_parameters (parameters.Reference s ∷ ks) g = functions_with_parameters ks (with_parameter (parameters.Reference s) g)
