@@ -59,7 +59,7 @@ abbrev pub StmtAt : Shape → Level → ℕ → Stmt → Flow → Type 0
 StmtAt shape L n a w = FlowIn shape L n (Now (level_after a L) n) (Now L n) w
 
 -- a part of a statement stays at the level
-part_stays : (shape : Shape) (L : Level) (n : ℕ) (a : Stmt) (w : Flow) → IsPart a → StmtAt shape L n a w → FlowIn shape L n (Now L n) (Now L n) w
+pub part_stays : (shape : Shape) (L : Level) (n : ℕ) (a : Stmt) (w : Flow) → IsPart a → StmtAt shape L n a w → FlowIn shape L n (Now L n) (Now L n) w
 part_stays shape L n (block site all) w p h = h
 part_stays shape L n (declares d) w p h = absurd p
 part_stays shape L n (choice k a) w p h = h
@@ -89,11 +89,11 @@ module _ (w : World) (g : Signature) (lib_keeps : KeepsGood g.shape g.makes w.li
       (λ t l. above t (now_above M n t l)) above (k s j))
 
   -- the first hidden iterator of a range-for is in scope
-  first_hidden : (L : Level) (s : State) → Now L n s → length s.iters < (level_hidden L).iters
+  pub first_hidden : (L : Level) (s : State) → Now L n s → length s.iters < (level_hidden L).iters
   first_hidden L s h = let e : length s.iters ≡ L.iters = ap (λ (l : Level). l.iters) h.level in omega arith
 
   -- and so is the second one
-  second_hidden : (L : Level) (s : State) → Now L n s → length s.iters + 1 < (level_hidden L).iters
+  pub second_hidden : (L : Level) (s : State) → Now L n s → length s.iters + 1 < (level_hidden L).iters
   second_hidden L s h = let e : length s.iters ≡ L.iters = ap (λ (l : Level). l.iters) h.level in omega arith
 
   mutual

@@ -72,7 +72,7 @@ pub numbered-now : (L : Level) (n x : ℕ) (s : State) → x < length L.frame.co
 numbered-now L n x s low h = new_scalar-now (level_hidden L) n t.Int None (range_start (cont_of s x) s) (range-now L n x s low h)
 
 -- a hidden iterator holds a stamp that was used
-hidden_used : (L : Level) (n b : ℕ) (s : State) → b < L.iters → Now L n s → stamp_held s b < s.memory.fresh
+pub hidden_used : (L : Level) (n b : ℕ) (s : State) → b < L.iters → Now L n s → stamp_held s b < s.memory.fresh
 hidden_used L n b s low h = held_used s b h.good (subst (λ (l : Level). b < l.iters) (sym h.level) low)
 
 module _ (shape : Shape) (L : Level) (n : ℕ) where
@@ -96,7 +96,7 @@ module _ (shape : Shape) (L : Level) (n : ℕ) where
 
 module _ (w : World) (g : Signature) (lib_keeps : KeepsGood g.shape g.makes w.lib) (shape : Shape) (L : Level) (n : ℕ) where
   -- a call of the library, where it makes no container
-  asked : (hd : Head) (vs : List Value) (s : State) → g.makes hd.callee ≡ false → AllUsed s.memory.fresh vs → Now L n s
+  pub asked : (hd : Head) (vs : List Value) (s : State) → g.makes hd.callee ≡ false → AllUsed s.memory.fresh vs → Now L n s
       → OutAt L n (a_value (g.shape hd.callee)) (use_library w.lib hd vs s)
   asked hd vs s e used h = at_library L n g.shape g.makes w.lib lib_keeps hd vs s e used h
 

@@ -94,6 +94,7 @@ pub mod FitEval
 pub mod FitFlow
 pub mod FitDeclared
 pub mod FitEffects
+pub mod FitRange
 -- ## Facts where no way comes
 pub mod FactsIdle
 pub mod EffectsIdle

@@ -44,7 +44,7 @@ stands_used m j k s sound low stands = sound.stamps_apart.used j k s (stamps (co
         ∙ ap (option_map stamps) (slice_get-get_or m.conts j (record { form = f.Vector; cells = []; end = m.fresh; room = 0 }) low)
 
 -- the end of a container stands at its size
-end_stands : (c : Cont) → slice_get (stamps c) (size c) ≡ Some c.end
+pub end_stands : (c : Cont) → slice_get (stamps c) (size c) ≡ Some c.end
 end_stands c = ap (slice_get (stamps c)) (at_size (length-map c.cells (λ (x : Cell). x.stamp)))
     ∙ get_behind (map (λ (x : Cell). x.stamp) c.cells) (c.end ∷ []) 0
   where
@@ -52,7 +52,7 @@ end_stands c = ap (slice_get (stamps c)) (at_size (length-map c.cells (λ (x : C
     at_size e = omega arith
 
 -- a container holds a stamp at each index up to its size
-place_stands : (c : Cont) (k : ℕ) → k ≤ size c → (s : ℕ) × (slice_get (stamps c) k ≡ Some s)
+pub place_stands : (c : Cont) (k : ℕ) → k ≤ size c → (s : ℕ) × (slice_get (stamps c) k ≡ Some s)
 place_stands c k low = get_some (stamps c) k (within (length-append (map (λ (x : Cell). x.stamp) c.cells) (c.end ∷ []))
     (length-map c.cells (λ (x : Cell). x.stamp)))
   where
