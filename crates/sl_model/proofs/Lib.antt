@@ -95,6 +95,7 @@ pub mod FitFlow
 pub mod FitDeclared
 pub mod FitEffects
 pub mod FitRange
+pub mod FitExec
 -- ## Facts where no way comes
 pub mod FactsIdle
 pub mod EffectsIdle
