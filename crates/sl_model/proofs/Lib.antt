@@ -96,6 +96,8 @@ pub mod FitDeclared
 pub mod FitEffects
 pub mod FitRange
 pub mod FitExec
+pub mod FitCalls
+pub mod FitRun
 -- ## Facts where no way comes
 pub mod FactsIdle
 pub mod EffectsIdle
