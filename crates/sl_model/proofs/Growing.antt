@@ -40,7 +40,7 @@ grows_then b m t u g h = record {
 }
 
 -- a change of one container
-after-grows : (ch : Change) (m : Memory) (j : ℕ) (c : Cont) (site : ℕ) → Grows false m (after ch m j c site)
+pub after-grows : (ch : Change) (m : Memory) (j : ℕ) (c : Cont) (site : ℕ) → Grows false m (after ch m j c site)
 after-grows ch m j c site = record { many = length-set m.conts j (changed m.fresh ch c); later = omega arith }
 
 -- changes of two containers
