@@ -235,16 +235,16 @@ two_kept ch dh m j c i d site same same' one held held' = record {
 
         by_second : (second ≡ e) ⊎ (slice_get (slice_set m.conts j first) n ≡ Some e) → Stood m e.form stamp
         by_second (inl q) = written-stood m second e k stamp
-            (rebuilt-held m dh (m.fresh + size c + 1) (next_of_two m.fresh c d + length ch.sources) d c (omega arith) (omega arith) (sym one) held' held)
-            q low here
+            (rebuilt-held m dh (m.fresh + size c + 1) (next_of_two m.fresh c d + length ch.sources) d c (omega arith) (omega arith) (sym one)
+            held' held) q low here
         by_second (inr q) = by_first (set_got m.conts j first n e q)
 
 -- the two containers that are there
 pub after_two-forms : (ch dh : Change) (m : Memory) (j : ℕ) (c : Cont) (i : ℕ) (d : Cont) (site : ℕ) → slice_get m.conts j ≡ Some c
     → slice_get m.conts i ≡ Some d → c.form ≡ d.form → KeepsForms [] m (after_two ch dh m j c i d site)
 after_two-forms ch dh m j c i d site there there' one =
-    two_kept ch dh m j c i d site (ap (λ (e : Cont). e.form) (sym (cont_of_there m j c there))) (ap (λ (e : Cont). e.form) (sym (cont_of_there m i d there')))
-    one (held-there m j c there) (held-there m i d there')
+    two_kept ch dh m j c i d site (ap (λ (e : Cont). e.form) (sym (cont_of_there m j c there)))
+    (ap (λ (e : Cont). e.form) (sym (cont_of_there m i d there'))) one (held-there m j c there) (held-there m i d there')
 
 -- the two containers with these numbers, whether they are there or not
 pub trade-forms : (ch dh : Change) (m : Memory) (j i site : ℕ) → (cont_at m j).form ≡ (cont_at m i).form

@@ -49,20 +49,20 @@ AlgorithmTradesOneForm appends r = RowTradesOneForm (algorithm_row appends r)
 -- ## What the calls do
 
 -- a new container
-filled-trades : (form : Form) (s : Situation) (xs : List (ℤ × ℤ)) → TradesOneForm s (filled form xs s.picks)
-filled-trades f.Vector s xs = tt
-filled-trades f.Deque s xs = tt
-filled-trades f.List s xs = tt
-filled-trades f.Set s xs = tt
-filled-trades f.Map s xs = tt
-filled-trades f.HashSet s xs = tt
-filled-trades f.HashMap s xs = tt
-filled-trades f.MultiSet s xs = tt
-filled-trades f.MultiMap s xs = tt
+filled-one : (form : Form) (s : Situation) (xs : List (ℤ × ℤ)) → TradesOneForm s (filled form xs s.picks)
+filled-one f.Vector s xs = tt
+filled-one f.Deque s xs = tt
+filled-one f.List s xs = tt
+filled-one f.Set s xs = tt
+filled-one f.Map s xs = tt
+filled-one f.HashSet s xs = tt
+filled-one f.HashMap s xs = tt
+filled-one f.MultiSet s xs = tt
+filled-one f.MultiMap s xs = tt
 
 -- reserve
-reserved-trades : (s : Situation) (n : ℕ) → TradesOneForm s (reserved s.object (own s) n s.picks)
-reserved-trades s n = by_hash (is_hash (own s).form) (nat_lt (own s).room n)
+reserved-one : (s : Situation) (n : ℕ) → TradesOneForm s (reserved s.object (own s) n s.picks)
+reserved-one s n = by_hash (is_hash (own s).form) (nat_lt (own s).room n)
   where
     by_hash : (h b : Bool) → TradesOneForm s (if h
         then changes (size (own s) + 1) s.object (rehashed (own s) n s.picks)
@@ -72,15 +72,15 @@ reserved-trades s n = by_hash (is_hash (own s).form) (nat_lt (own s).room n)
     by_hash false false = tt
 
 -- an output
-outputs-trades : (s : Situation) (v : Value) (xs : List ℤ) → TradesOneForm s (outputs s v xs)
-outputs-trades s nothing xs = tt
-outputs-trades s (number z) xs = tt
-outputs-trades s (iterator i) xs = tt
-outputs-trades s (pair i b) xs = tt
-outputs-trades s (two i j) xs = tt
-outputs-trades s (scalar_at l) xs = tt
-outputs-trades s (container_at l) xs = tt
-outputs-trades s (element_at i j part) xs = tt
+outputs-one : (s : Situation) (v : Value) (xs : List ℤ) → TradesOneForm s (outputs s v xs)
+outputs-one s nothing xs = tt
+outputs-one s (number z) xs = tt
+outputs-one s (iterator i) xs = tt
+outputs-one s (pair i b) xs = tt
+outputs-one s (two i j) xs = tt
+outputs-one s (scalar_at l) xs = tt
+outputs-one s (container_at l) xs = tt
+outputs-one s (element_at i j part) xs = tt
 
 -- the object and another container of the form of the row are of one form
 their_form : (form : Form) (s : Situation) (a : ℕ) → HasObject (of_form form) s
@@ -88,9 +88,9 @@ their_form : (form : Form) (s : Situation) (a : ℕ) → HasObject (of_form form
 their_form form s a there h = own_form form s there ∙ sym (form_there s.memory form (container_of s a) h)
 
 -- swap
-swap-trades : (form : Form) (s : Situation) → HasObject (of_form form) s
+swap-one : (form : Form) (s : Situation) → HasObject (of_form form) s
     → is_of_form form (slice_get s.memory.conts (container_of s 1)) ≡ true → TradesOneForm s (swap.effect s)
-swap-trades form s there h = by_same (container_of s 1 == s.object)
+swap-one form s there h = by_same (container_of s 1 == s.object)
   where
     by_same : (b : Bool) → TradesOneForm s (if b
         then edits 0 (untouched (own s).room)
@@ -99,9 +99,9 @@ swap-trades form s there h = by_same (container_of s 1 == s.object)
     by_same false = their_form form s 1 there h
 
 -- merge
-merge-trades : (form : Form) (s : Situation) → HasObject (of_form form) s
+merge-one : (form : Form) (s : Situation) → HasObject (of_form form) s
     → is_of_form form (slice_get s.memory.conts (container_of s 1)) ≡ true → TradesOneForm s (merge.effect s)
-merge-trades form s there h = by_same (container_of s 1 == s.object)
+merge-one form s there h = by_same (container_of s 1 == s.object)
   where
     by_same : (b : Bool) → TradesOneForm s (if b
         then keeps
@@ -110,9 +110,9 @@ merge-trades form s there h = by_same (container_of s 1 == s.object)
     by_same false = their_form form s 1 there h
 
 -- splice
-splices-trades : (form : Form) (s : Situation) (from count : ℕ) → HasObject (of_form form) s
+splices-one : (form : Form) (s : Situation) (from count : ℕ) → HasObject (of_form form) s
     → is_of_form form (slice_get s.memory.conts (container_of s 2)) ≡ true → TradesOneForm s (splices s from count)
-splices-trades form s from count there h = by_same (container_of s 2 == s.object)
+splices-one form s from count there h = by_same (container_of s 2 == s.object)
   where
     by_same : (b : Bool) → TradesOneForm s (if b
         then changes 0 s.object (arranged (moved_order (own_size s) (index s 1) from count) (own s))
@@ -124,65 +124,156 @@ splices-trades form s from count there h = by_same (container_of s 2 == s.object
 
 -- each call on a container but a multiset or multimap
 containers-trade : (form : Form) → AllOf (LineTradesOneForm form) container_lines
-containers-trade form = all_parts (LineTradesOneForm form) 7 container_lines makings (all_parts (LineTradesOneForm form) 6 (drop 7 container_lines) accesses (all_parts (LineTradesOneForm form) 6 (drop 6 (drop 7 container_lines)) subscripts (all_parts (LineTradesOneForm form) 7 (drop 6 (drop 6 (drop 7 container_lines))) insertions (all_parts (LineTradesOneForm form) 6 (drop 7 (drop 6 (drop 6 (drop 7 container_lines)))) erasures (all_parts (LineTradesOneForm form) 6 (drop 6 (drop 7 (drop 6 (drop 6 (drop 7 container_lines))))) exchanges (all_parts (LineTradesOneForm form) 6 (drop 6 (drop 6 (drop 7 (drop 6 (drop 6 (drop 7 container_lines)))))) orders lists))))))
+containers-trade form = all_parts (LineTradesOneForm form) 6 container_lines makings
+    (all_parts (LineTradesOneForm form) 6 (drop 6 container_lines) ends
+    (all_parts (LineTradesOneForm form) 6 (drop 12 container_lines) indices
+    (all_parts (LineTradesOneForm form) 6 (drop 18 container_lines) places
+    (all_parts (LineTradesOneForm form) 6 (drop 24 container_lines) keyed
+    (all_parts (LineTradesOneForm form) 6 (drop 30 container_lines) sizes
+    (all_parts (LineTradesOneForm form) 6 (drop 36 container_lines) searches lists))))))
   where
-    makings : AllOf (LineTradesOneForm form) (take 7 container_lines)
-    makings = ((λ kills s h. filled-trades form s []), ((λ kills s h. filled-trades form s (listed s.values)), ((λ kills s h. tt), ((λ kills s h. filled-trades form s (replicate (count_of s 1) (item (pos 0)))), ((λ kills s h. filled-trades form s (replicate (count_of s 1) (item (int_of s 2)))), ((λ kills s h. filled-trades form s (as_items (range_keys s 1))), ((λ kills s h. tt), tt)))))))
+    makings : AllOf (LineTradesOneForm form) (take 6 container_lines)
+    makings = (
+      (λ kills s h. filled-one form s []),
+      (
+        (λ kills s h. filled-one form s (listed s.values)),
+        (
+          (λ kills s h. tt),
+          (
+            (λ kills s h. filled-one form s (replicate (count_of s 1) (item (pos 0)))),
+            (
+              (λ kills s h. filled-one form s (replicate (count_of s 1) (item (int_of s 2)))),
+              ((λ kills s h. filled-one form s (as_items (range_keys s 1))), tt),
+            ),
+          ),
+        ),
+      ),
+    )
 
-    accesses : AllOf (LineTradesOneForm form) (take 6 (drop 7 container_lines))
-    accesses = ((λ kills s h. tt), ((λ kills s h. tt), ((λ kills s h. tt), ((λ kills s h. tt), ((λ kills s h. tt), ((λ kills s h. tt), tt))))))
+    ends : AllOf (LineTradesOneForm form) (take 6 (drop 6 container_lines))
+    ends = ((λ kills s h. tt), ((λ kills s h. tt), ((λ kills s h. tt), ((λ kills s h. tt), ((λ kills s h. tt), ((λ kills s h. tt), tt))))))
 
-    subscripts : AllOf (LineTradesOneForm form) (take 6 (drop 6 (drop 7 container_lines)))
-    subscripts = ((λ kills s h. tt), ((λ kills s h. tt), ((λ kills s h. tt), ((λ kills s h. tt), ((λ kills s h. tt), ((λ kills s h. tt), tt))))))
+    indices : AllOf (LineTradesOneForm form) (take 6 (drop 12 container_lines))
+    indices = ((λ kills s h. tt), ((λ kills s h. tt), ((λ kills s h. tt), ((λ kills s h. tt), ((λ kills s h. tt), ((λ kills s h. tt), tt))))))
 
-    insertions : AllOf (LineTradesOneForm form) (take 7 (drop 6 (drop 6 (drop 7 container_lines))))
-    insertions = ((λ kills s h. tt), ((λ kills s h. tt), ((λ kills s h. tt), ((λ kills s h. tt), ((λ kills s h. tt), ((λ kills s h. tt), ((λ kills s h. tt), tt)))))))
+    places : AllOf (LineTradesOneForm form) (take 6 (drop 18 container_lines))
+    places = ((λ kills s h. tt), ((λ kills s h. tt), ((λ kills s h. tt), ((λ kills s h. tt), ((λ kills s h. tt), ((λ kills s h. tt), tt))))))
 
-    erasures : AllOf (LineTradesOneForm form) (take 6 (drop 7 (drop 6 (drop 6 (drop 7 container_lines)))))
-    erasures = ((λ kills s h. tt), ((λ kills s h. tt), ((λ kills s h. tt), ((λ kills s h. tt), ((λ kills s h. tt), ((λ kills s h. tt), tt))))))
+    keyed : AllOf (LineTradesOneForm form) (take 6 (drop 24 container_lines))
+    keyed = ((λ kills s h. tt), ((λ kills s h. tt), ((λ kills s h. tt), ((λ kills s h. tt), ((λ kills s h. tt), ((λ kills s h. tt), tt))))))
 
-    exchanges : AllOf (LineTradesOneForm form) (take 6 (drop 6 (drop 7 (drop 6 (drop 6 (drop 7 container_lines))))))
-    exchanges = ((λ kills s h. tt), ((λ kills s h. tt), ((λ kills s h. reserved-trades s (count_of s 1)), ((λ kills s h. swap-trades form s h.object (first_of_form s.memory form [] s.values h.operands)), ((λ kills s h. tt), ((λ kills s h. tt), tt))))))
+    sizes : AllOf (LineTradesOneForm form) (take 6 (drop 30 container_lines))
+    sizes = (
+      (λ kills s h. tt),
+      (
+        (λ kills s h. tt),
+        (
+          (λ kills s h. tt),
+          (
+            (λ kills s h. tt),
+            (
+              (λ kills s h. reserved-one s (count_of s 1)),
+              ((λ kills s h. swap-one form s h.object (first_of_form s.memory form [] s.values h.operands)), tt),
+            ),
+          ),
+        ),
+      ),
+    )
 
-    orders : AllOf (LineTradesOneForm form) (take 6 (drop 6 (drop 6 (drop 7 (drop 6 (drop 6 (drop 7 container_lines)))))))
-    orders = ((λ kills s h. tt), ((λ kills s h. tt), ((λ kills s h. tt), ((λ kills s h. tt), ((λ kills s h. tt), ((λ kills s h. tt), tt))))))
+    searches : AllOf (LineTradesOneForm form) (take 6 (drop 36 container_lines))
+    searches = ((λ kills s h. tt), ((λ kills s h. tt), ((λ kills s h. tt), ((λ kills s h. tt), ((λ kills s h. tt), ((λ kills s h. tt), tt))))))
 
-    lists : AllOf (LineTradesOneForm form) (drop 6 (drop 6 (drop 6 (drop 7 (drop 6 (drop 6 (drop 7 container_lines)))))))
-    lists = ((λ kills s h. merge-trades form s h.object (first_of_form s.memory form [] s.values h.operands)), ((λ kills s h. splices-trades form s 0 (their_size s 2) h.object (second_of_form s.memory form [] s.values h.operands)), ((λ kills s h. splices-trades form s (index s 3) 1 h.object (second_of_form s.memory form (an_iterator ∷ []) s.values h.operands)), ((λ kills s h. splices-trades form s (index s 3) (range_size s 3) h.object (second_of_form s.memory form (an_iterator ∷ an_iterator ∷ []) s.values h.operands)), tt))))
+    lists : AllOf (LineTradesOneForm form) (drop 42 container_lines)
+    lists = (
+      (λ kills s h. tt),
+      (
+        (λ kills s h. tt),
+        (
+          (λ kills s h. merge-one form s h.object (first_of_form s.memory form [] s.values h.operands)),
+          (
+            (λ kills s h. splices-one form s 0 (their_size s 2) h.object (second_of_form s.memory form [] s.values h.operands)),
+            (
+              (λ kills s h. splices-one form s (index s 3) 1 h.object (second_of_form s.memory form (an_iterator ∷ []) s.values h.operands)),
+              (
+                (λ kills s h. splices-one form s (index s 3) (range_size s 3) h.object
+                    (second_of_form s.memory form (an_iterator ∷ an_iterator ∷ []) s.values h.operands)),
+                tt,
+              ),
+            ),
+          ),
+        ),
+      ),
+    )
 
 -- each call on a multiset or multimap
 multis-trade : (form : Form) → AllOf (LineTradesOneForm form) multi_lines
-multis-trade form = all_parts (LineTradesOneForm form) 5 multi_lines makings (all_parts (LineTradesOneForm form) 4 (drop 5 multi_lines) accesses (all_parts (LineTradesOneForm form) 4 (drop 4 (drop 5 multi_lines)) changings (all_parts (LineTradesOneForm form) 4 (drop 4 (drop 4 (drop 5 multi_lines))) others searches)))
+multis-trade form = all_parts (LineTradesOneForm form) 5 multi_lines makings
+    (all_parts (LineTradesOneForm form) 6 (drop 5 multi_lines) ends (all_parts (LineTradesOneForm form) 6 (drop 11 multi_lines) changings searches))
   where
     makings : AllOf (LineTradesOneForm form) (take 5 multi_lines)
-    makings = ((λ kills s h. filled-trades form s []), ((λ kills s h. tt), ((λ kills s h. filled-trades form s (listed s.values)), ((λ kills s h. filled-trades form s (as_items (range_keys s 1))), ((λ kills s h. tt), tt)))))
+    makings = (
+      (λ kills s h. filled-one form s []),
+      (
+        (λ kills s h. tt),
+        (
+          (λ kills s h. filled-one form s (listed s.values)),
+          ((λ kills s h. filled-one form s (as_items (range_keys s 1))), ((λ kills s h. tt), tt)),
+        ),
+      ),
+    )
 
-    accesses : AllOf (LineTradesOneForm form) (take 4 (drop 5 multi_lines))
-    accesses = ((λ kills s h. tt), ((λ kills s h. tt), ((λ kills s h. tt), ((λ kills s h. tt), tt))))
+    ends : AllOf (LineTradesOneForm form) (take 6 (drop 5 multi_lines))
+    ends = ((λ kills s h. tt), ((λ kills s h. tt), ((λ kills s h. tt), ((λ kills s h. tt), ((λ kills s h. tt), ((λ kills s h. tt), tt))))))
 
-    changings : AllOf (LineTradesOneForm form) (take 4 (drop 4 (drop 5 multi_lines)))
-    changings = ((λ kills s h. tt), ((λ kills s h. tt), ((λ kills s h. tt), ((λ kills s h. tt), tt))))
+    changings : AllOf (LineTradesOneForm form) (take 6 (drop 11 multi_lines))
+    changings = (
+      (λ kills s h. tt),
+      (
+        (λ kills s h. tt),
+        (
+          (λ kills s h. tt),
+          (
+            (λ kills s h. tt),
+            ((λ kills s h. tt), ((λ kills s h. swap-one form s h.object (first_of_form s.memory form [] s.values h.operands)), tt)),
+          ),
+        ),
+      ),
+    )
 
-    others : AllOf (LineTradesOneForm form) (take 4 (drop 4 (drop 4 (drop 5 multi_lines))))
-    others = ((λ kills s h. tt), ((λ kills s h. tt), ((λ kills s h. tt), ((λ kills s h. swap-trades form s h.object (first_of_form s.memory form [] s.values h.operands)), tt))))
-
-    searches : AllOf (LineTradesOneForm form) (drop 4 (drop 4 (drop 4 (drop 5 multi_lines))))
+    searches : AllOf (LineTradesOneForm form) (drop 17 multi_lines)
     searches = ((λ kills s h. tt), ((λ kills s h. tt), ((λ kills s h. tt), ((λ kills s h. tt), ((λ kills s h. tt), tt)))))
 
 -- each algorithm
 algorithms-trade : (appends : Bool) → AllOf (AlgorithmTradesOneForm appends) algorithm_rows
-algorithms-trade appends = all_parts (AlgorithmTradesOneForm appends) 6 algorithm_rows first_six (all_parts (AlgorithmTradesOneForm appends) 6 (drop 6 algorithm_rows) second_six (all_parts (AlgorithmTradesOneForm appends) 6 (drop 6 (drop 6 algorithm_rows)) third_six last_six))
+algorithms-trade appends = all_parts (AlgorithmTradesOneForm appends) 6 algorithm_rows first_six
+    (all_parts (AlgorithmTradesOneForm appends) 6 (drop 6 algorithm_rows) second_six
+    (all_parts (AlgorithmTradesOneForm appends) 6 (drop 12 algorithm_rows) third_six last_six))
   where
     first_six : AllOf (AlgorithmTradesOneForm appends) (take 6 algorithm_rows)
     first_six = ((λ s h. tt), ((λ s h. tt), ((λ s h. tt), ((λ s h. tt), ((λ s h. tt), ((λ s h. tt), tt))))))
 
     second_six : AllOf (AlgorithmTradesOneForm appends) (take 6 (drop 6 algorithm_rows))
-    second_six = ((λ s h. outputs-trades s (output s) (written_keys c.Merge s)), ((λ s h. tt), ((λ s h. outputs-trades s (output s) (written_keys c.SetUnion s)), ((λ s h. outputs-trades s (output s) (written_keys c.SetIntersection s)), ((λ s h. outputs-trades s (output s) (written_keys c.SetDifference s)), ((λ s h. outputs-trades s (output s) (written_keys c.Copy s)), tt))))))
+    second_six = (
+      (λ s h. outputs-one s (output s) (written_keys c.Merge s)),
+      (
+        (λ s h. tt),
+        (
+          (λ s h. outputs-one s (output s) (written_keys c.SetUnion s)),
+          (
+            (λ s h. outputs-one s (output s) (written_keys c.SetIntersection s)),
+            (
+              (λ s h. outputs-one s (output s) (written_keys c.SetDifference s)),
+              ((λ s h. outputs-one s (output s) (written_keys c.Copy s)), tt),
+            ),
+          ),
+        ),
+      ),
+    )
 
-    third_six : AllOf (AlgorithmTradesOneForm appends) (take 6 (drop 6 (drop 6 algorithm_rows)))
+    third_six : AllOf (AlgorithmTradesOneForm appends) (take 6 (drop 12 algorithm_rows))
     third_six = ((λ s h. tt), ((λ s h. tt), ((λ s h. tt), ((λ s h. tt), ((λ s h. tt), ((λ s h. tt), tt))))))
 
-    last_six : AllOf (AlgorithmTradesOneForm appends) (drop 6 (drop 6 (drop 6 algorithm_rows)))
+    last_six : AllOf (AlgorithmTradesOneForm appends) (drop 18 algorithm_rows)
     last_six = ((λ s h. tt), ((λ s h. tt), ((λ s h. tt), ((λ s h. tt), ((λ s h. tt), ((λ s h. tt), tt))))))
 
 -- each operator
