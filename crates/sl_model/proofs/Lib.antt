@@ -86,6 +86,10 @@ pub mod TypedVariables
 pub mod TypedUses
 -- ## Well typed texts: what is given fits its type, so each call has a meaning
 pub mod Fitting
+pub mod FormsAfter
+pub mod FormsEffects
+pub mod FormsRows
+pub mod LibraryForms
 -- ## Facts where no way comes
 pub mod FactsIdle
 pub mod EffectsIdle
