@@ -88,6 +88,8 @@ pub mod TypedUses
 pub mod Fitting
 pub mod SortsFit
 pub mod OperatorsFit
+pub mod TableLetters
+pub mod TypedRows
 -- ## Facts where no way comes
 pub mod FactsIdle
 pub mod EffectsIdle

@@ -34,7 +34,8 @@ two_sorts m sort other u w (v ∷ vs) each next fit =
 
 -- an iterator and how far it is moved
 moved_sorts : (m : Memory) (b : Bool) (x : Form) (u w : ExprType) (vs : List Value)
-    → has_type (only (is_random_access x && is_scalar t.Diff u) w) ≡ true → AllFit m (iterator_type b x ∷ u ∷ []) vs → are_of m (an_iterator ∷ a_number ∷ []) vs ≡ true
+    → has_type (only (is_random_access x && is_scalar t.Diff u) w) ≡ true → AllFit m (iterator_type b x ∷ u ∷ []) vs
+    → are_of m (an_iterator ∷ a_number ∷ []) vs ≡ true
 moved_sorts m b x u w vs h fit =
     let far = second_of_both (is_random_access x) (is_scalar t.Diff u) (only_holds (is_random_access x && is_scalar t.Diff u) w h) in
     two_sorts m an_iterator a_number (iterator_type b x) u vs (λ v k. iterator_of m x v k) (λ v k. number_of m v (scalar_fits m t.Diff u v far k)) fit
