@@ -90,6 +90,8 @@ pub mod SortsFit
 pub mod OperatorsFit
 pub mod TableLetters
 pub mod TypedRows
+pub mod RowIsThere
+pub mod MovingFirst
 -- ## Facts where no way comes
 pub mod FactsIdle
 pub mod EffectsIdle
