@@ -88,9 +88,10 @@ pub mod TypedUses
 pub mod Fitting
 pub mod SortsFit
 pub mod OperatorsFit
-pub mod TableLetters
 pub mod TypedRows
+pub mod TableLetters
 pub mod RowIsThere
+pub mod RowMeant
 pub mod MovingFirst
 -- ## Facts where no way comes
 pub mod FactsIdle
