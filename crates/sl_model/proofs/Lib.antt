@@ -90,6 +90,13 @@ pub mod FormsAfter
 pub mod FormsEffects
 pub mod FormsRows
 pub mod LibraryForms
+pub mod SortsFit
+pub mod OperatorsFit
+pub mod TypedRows
+pub mod TableLetters
+pub mod RowIsThere
+pub mod RowMeant
+pub mod MovingFirst
 -- ## Facts where no way comes
 pub mod FactsIdle
 pub mod EffectsIdle
