@@ -86,6 +86,7 @@ pub mod TypedVariables
 pub mod TypedUses
 -- ## Well typed texts: what is given fits its type, so each call has a meaning
 pub mod Fitting
+pub mod GivenIn
 -- ## Facts where no way comes
 pub mod FactsIdle
 pub mod EffectsIdle
