@@ -87,6 +87,7 @@ pub mod TypedUses
 -- ## Well typed texts: what is given fits its type, so each call has a meaning
 pub mod Fitting
 pub mod GivenIn
+pub mod ContainersGiveIn
 -- ## Facts where no way comes
 pub mod FactsIdle
 pub mod EffectsIdle
