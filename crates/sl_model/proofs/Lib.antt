@@ -88,6 +88,7 @@ pub mod TypedUses
 pub mod Fitting
 pub mod GivenIn
 pub mod ContainersGiveIn
+pub mod AlgorithmsGiveIn
 -- ## Facts where no way comes
 pub mod FactsIdle
 pub mod EffectsIdle
