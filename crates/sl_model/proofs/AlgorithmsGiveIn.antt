@@ -1,6 +1,6 @@
 -- Each algorithm and each operator gives what is in the container of its first operand, or of its output, where that operand stands, and
 -- an element that it gives is there.
-use Rattle.std.proofs.Common.{◌≡◌, ℕ, ◌<◌, ◌≤◌, ◌==◌, Bool, true, false, List, [], ◌∷◌, ◌++◌, Option, Some, None, length, refl, ap, sym, ◌∙◌, subst}
+use Rattle.std.proofs.Common.{◌≡◌, ℕ, ◌<◌, ◌≤◌, ◌==◌, Bool, true, false, List, [], ◌++◌, Option, Some, None, length, refl, sym, ◌∙◌, subst}
 use Rattle.std.proofs.Common.{arith}
 use Rattle.std.specs.Prelude.{ℤ}
 use Rattle.std.proofs.lemmas.Bool.{eqb-false}
@@ -9,8 +9,6 @@ use Rattle.sl_base.specs.declared.form.Form.TheVariants as f
 use Rattle.sl_specs.specs.declared.call.Call.{Call}
 use Rattle.sl_specs.specs.declared.call.Call.TheVariants as c
 use Rattle.sl_specs.specs.declared.need.Need.TheVariants as n
-use Rattle.sl_specs.specs.declared.return_type.ReturnType.{ReturnType}
-use Rattle.sl_specs.specs.declared.return_type.ReturnType.TheVariants as g
 use Rattle.sl_specs.specs.Rows.{Row as TableRow}
 use Rattle.sl_specs.specs.AlgorithmRows.{algorithm_rows}
 use Rattle.sl_syntax.specs.declared.typed.operator.Operator.{Operator}
@@ -18,8 +16,8 @@ use Rattle.sl_syntax.specs.declared.typed.operator.Operator.TheVariants as opera
 use Rattle.sl_model.specs.Containers.{Memory, cont_at, size}
 use Rattle.sl_model.specs.Values.{Value, nothing, number, iterator, pair, two, scalar_at, container_at, element_at}
 use Rattle.sl_model.specs.Operands.{a_writer, a_sequence, is_of, are_of, all_sorts, steps_of, written_keys}
-use Rattle.sl_model.specs.Situation.{Situation, argument, place_of, index, container_of}
-use Rattle.sl_model.specs.Needs.{fails_if, dereference_fails, movable_fails, failures, all_failures, first_failure}
+use Rattle.sl_model.specs.Situation.{Situation, place_of, index, container_of}
+use Rattle.sl_model.specs.Needs.{dereference_fails, movable_fails, failures, all_failures, first_failure}
 use Rattle.sl_model.specs.WritingAlgorithms.{output, after_output}
 use Rattle.sl_model.specs.Operators.{step_fails, steps_by}
 use Rattle.sl_model.specs.Rows.{of_first, algorithm_row, row_of_operator}
@@ -30,12 +28,7 @@ use Rattle.sl_model.proofs.OutputsTell.{writer_of_three, writer_of_five, sequenc
 use Rattle.sl_model.proofs.AlgorithmRowsTell.{moved-stands}
 use Rattle.sl_model.proofs.FineAlgorithms.{copy_row, set_row}
 use Rattle.sl_model.proofs.FineContainers.{no_fails}
-use Rattle.sl_model.proofs.GivenIn.{AnswerIsIn, ElementIsThere, HasElement, OperandStands, given_in, RowGivesIn, stands_in, first_stands}
-
--- what a row gives is where its output ends
-abbrev pub is_output : ReturnType → Bool
-is_output g.Output = true
-is_output gives = false
+use Rattle.sl_model.proofs.GivenIn.{AnswerIsIn, ElementIsThere, HasElement, OperandStands, given_in, is_output, RowGivesIn, stands_in, first_stands}
 
 -- so it is with the row of an algorithm
 abbrev pub AlgorithmGivesIn : Bool → TableRow → Type 0

@@ -1,5 +1,5 @@
 -- Each call on a container gives what is in its object, and an element that it gives is there.
-use Rattle.std.proofs.Common.{◌≡◌, ℕ, ◌+◌, ◌-◌, ◌<◌, ◌≤◌, Bool, true, false, List, [], ◌∷◌, Option, Some, None, length, map, refl}
+use Rattle.std.proofs.Common.{◌≡◌, ℕ, ◌+◌, ◌-◌, ◌<◌, ◌≤◌, Bool, true, false, List, [], Option, Some, None, length, map, refl}
 use Rattle.std.proofs.Common.{arith, if◌then◌else◌}
 use Rattle.std.specs.Prelude.{ℤ, pos, nat_le, take, drop}
 use Rattle.std.proofs.lemmas.Bool.{leb-false}
@@ -16,7 +16,7 @@ use Rattle.sl_model.specs.Forms.{holds_equal_keys}
 use Rattle.sl_model.specs.Schedule.{after_picks}
 use Rattle.sl_model.specs.Situation.{Situation, own, own_size, int_of, count_of}
 use Rattle.sl_model.specs.Needs.{fails_if}
-use Rattle.sl_model.specs.Actions.{gives_place, gives_place_and, Stop, never, exception, exception_if}
+use Rattle.sl_model.specs.Actions.{gives_place, gives_place_and, never, exception_if}
 use Rattle.sl_model.specs.Effects.{Left, key_order, key_place, key_change, key_picks, known_key, insert_key}
 use Rattle.sl_model.specs.KeyActions.{key_index, is_missing, place_or, key_after, is_new, inserted}
 use Rattle.sl_model.specs.Rows.{of_form, member_row}
@@ -25,11 +25,11 @@ use Rattle.sl_model.proofs.Placing.{HasPlace, after-place, put_at-length}
 use Rattle.sl_model.proofs.Tells.{AllOf, all_parts}
 use Rattle.sl_model.proofs.ContainersTell.{key_index-low, key_order-length, key_place-low, known_key-low}
 use Rattle.sl_model.proofs.FineContainers.{no_fails, filled_one, first_need}
-use Rattle.sl_model.proofs.GivenIn.{AnswerIsIn, ElementIsThere, HasElement, given_in, RowGivesIn}
+use Rattle.sl_model.proofs.GivenIn.{AnswerIsIn, ElementIsThere, HasElement, is_output, given_in, RowGivesIn}
 
 -- so it is with a line of the table on each form
 abbrev pub LineGivesIn : Line → Type 0
-LineGivesIn x = (form : Form) (kills : Class) → RowGivesIn false (member_row form (row_of_line (Some form) x kills))
+LineGivesIn x = (form : Form) (kills : Class) → RowGivesIn (is_output x.gives) (member_row form (row_of_line (Some form) x kills))
 
 -- what the insertion of a key gives is in the object, and it is no element
 inserted-in : (s : Situation) (z : ℤ) → AnswerIsIn s.object (inserted s z) × ((m : Memory) → ElementIsThere m (inserted s z))

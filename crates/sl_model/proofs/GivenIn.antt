@@ -1,15 +1,17 @@
 -- Where the answer of a row is: in which container, that an element that is given is there, and where the iterator operand stands in
 -- whose container it is. An iterator that is given fits the form of its container.
-use Rattle.std.proofs.Common.{◌≡◌, ℕ, ◌<◌, ◌≤◌, Bool, true, false, List, [], ◌∷◌, ◌++◌, map, Option, Some, None, length, refl, ap, sym, ◌∙◌, subst}
+use Rattle.std.proofs.Common.{◌≡◌, ℕ, ◌<◌, Bool, true, false, List, [], Some, None, length, ap, sym, ◌∙◌, subst}
 use Rattle.std.proofs.Common.{arith}
 use Rattle.std.specs.List.{slice_get}
 use Rattle.std.proofs.lemmas.List.{length-map}
 use Rattle.std.proofs.lemmas.Option.{slice_get-get_or, get_or_from_slice_get}
 use Rattle.sl_base.specs.declared.form.Form.{Form}
 use Rattle.sl_base.specs.declared.form.Form.TheVariants as f
+use Rattle.sl_specs.specs.declared.return_type.ReturnType.{ReturnType}
+use Rattle.sl_specs.specs.declared.return_type.ReturnType.TheVariants as returns
 use Rattle.sl_model.specs.Containers.{Cell, Cont, Memory, size, stamps, refers, cont_at, stamp_at}
-use Rattle.sl_model.specs.Values.{Value, iterator}
-use Rattle.sl_model.specs.Situation.{Situation, own, argument, index_in, place_in, place_of, index, container_of, container_of_value}
+use Rattle.sl_model.specs.Values.{iterator}
+use Rattle.sl_model.specs.Situation.{Situation, own, argument, index_in, place_in, place_of, index, container_of}
 use Rattle.sl_model.specs.Needs.{first_failure}
 use Rattle.sl_model.specs.Actions.{Answer, nothing, gives_number, gives_place, gives_place_and, gives_places, gives_element, never}
 use Rattle.sl_model.specs.Rows.{Object, of_form, new_one, of_first, Row}
@@ -20,7 +22,7 @@ use Rattle.sl_model.proofs.Called.{HasObject, IsCalled, own_there, own_form}
 use Rattle.sl_model.proofs.Placing.{HasPlace, place_stands}
 use Rattle.sl_model.proofs.Tells.{memory_after}
 use Rattle.sl_model.proofs.AlgorithmsTell.{container_there}
-use Rattle.sl_model.proofs.Fitting.{forms_of, StampFits, KeepsForms, IsElement}
+use Rattle.sl_model.proofs.Fitting.{forms_of, StampFits, KeepsForms}
 
 -- what is given is in a container, where it is in one
 abbrev pub AnswerIsIn : ℕ → Answer → Type 0
@@ -44,6 +46,11 @@ ElementIsThere m (gives_place j k) = Unit {0}
 ElementIsThere m (gives_place_and j k b) = Unit {0}
 ElementIsThere m (gives_places j k i) = Unit {0}
 ElementIsThere m (gives_element j k part) = HasElement m j k
+
+-- what a row gives is behind its output
+abbrev pub is_output : ReturnType → Bool
+is_output returns.Output = true
+is_output gives = false
 
 -- the operand in whose container the answer is: the last one of an algorithm with an output, and else the first
 abbrev pub operand_given : Bool → Situation → ℕ

@@ -89,6 +89,9 @@ pub mod Fitting
 pub mod GivenIn
 pub mod ContainersGiveIn
 pub mod AlgorithmsGiveIn
+pub mod LibraryGives
+pub mod AnswersFit
+pub mod MembersFit
 -- ## Facts where no way comes
 pub mod FactsIdle
 pub mod EffectsIdle
