@@ -92,6 +92,7 @@ pub mod AlgorithmsGiveIn
 pub mod LibraryGives
 pub mod AnswersFit
 pub mod MembersFit
+pub mod AlgorithmsFit
 -- ## Facts where no way comes
 pub mod FactsIdle
 pub mod EffectsIdle

@@ -1,17 +1,13 @@
 -- What a call on a container gives is of the type of the row's result, where the container is of the row's form.
-use Rattle.std.proofs.Common.{◌≡◌, ℕ, Bool, true, false, List, [], ◌∷◌, Option, Some, None, refl, ap, ◌∙◌, subst, option_map}
-use Rattle.std.proofs.Common.{◌&&◌, if◌then◌else◌}
+use Rattle.std.proofs.Common.{◌≡◌, ℕ, Bool, true, false, List, [], Option, Some, None, refl, ap, sym, ◌∙◌, subst, option_map}
+use Rattle.std.proofs.Common.{if◌then◌else◌}
 use Rattle.std.specs.Prelude.{slice_get}
 use Rattle.std.specs.List.{list_all}
 use Rattle.sl_base.specs.declared.form.Form.{Form}
 use Rattle.sl_specs.specs.declared.call.Call.{Call}
-use Rattle.sl_specs.specs.declared.class.Class.{Class}
 use Rattle.sl_specs.specs.declared.return_type.ReturnType.{ReturnType}
 use Rattle.sl_specs.specs.declared.return_type.ReturnType.TheVariants as returns
-use Rattle.sl_specs.specs.Rows.{Row as TableRow, Line, row_of as row_of_line, rows_on}
-use Rattle.sl_specs.specs.ContainerLines.{container_lines}
-use Rattle.sl_specs.specs.MultiLines.{multi_lines}
-use Rattle.sl_specs.specs.AlgorithmRows.{algorithm_rows}
+use Rattle.sl_specs.specs.Rows.{Row as TableRow}
 use Rattle.sl_specs.specs.Table.{table}
 use Rattle.sl_syntax.specs.declared.typed.callee.Callee.TheVariants as callees
 use Rattle.sl_model.specs.Containers.{Memory}
@@ -21,8 +17,8 @@ use Rattle.sl_model.specs.Library.{value_in}
 use Rattle.sl_model.specs.WellTypedTypes.{ExprType}
 use Rattle.sl_model.specs.WellTypedCalls.{result_type}
 use Rattle.sl_model.proofs.Called.{HasObject}
-use Rattle.sl_model.proofs.Tells.{AllOf, all_at, all_rows_on, shape_of_answer, memory_after, Tells}
-use Rattle.sl_model.proofs.TableRows.{all_table}
+use Rattle.sl_model.proofs.Passing.{passes_at}
+use Rattle.sl_model.proofs.Tells.{shape_of_answer, memory_after, Tells}
 use Rattle.sl_model.proofs.LibraryGood.{row-tells}
 use Rattle.sl_model.proofs.Fitting.{IsGiven}
 use Rattle.sl_model.proofs.GivenIn.{is_output, AnswerIsIn, container_given, GivesIn, object_form, form_kept}
@@ -38,44 +34,19 @@ is_nothing gives = false
 abbrev is_plain : Call → ReturnType → Bool
 is_plain call gives = if is_constructor call then is_nothing gives else is_own gives
 
--- so it is with a line, and with a row that has a form
-abbrev LineIsPlain : Line → Type 0
-LineIsPlain x = is_plain x.call x.gives ≡ true
+-- so it is with a row that has a form
+abbrev is_plain_member : TableRow → Bool
+is_plain_member r = elim r.form [ None ↦ true | Some form ↦ is_plain r.call r.gives ]
 
-abbrev MemberIsPlain : TableRow → Type 0
-MemberIsPlain r = (form : Form) → r.form ≡ Some form → is_plain r.call r.gives ≡ true
+-- and with each row of the table
+plain_table : list_all is_plain_member table ≡ true
+unfolding table
+plain_table = refl
 
--- a test that each passes
-each_passes : {A : Type 0} (test : A → Bool) (xs : List A) → list_all test xs ≡ true → AllOf (λ x. test x ≡ true) xs
-each_passes test [] e = tt
-each_passes test (x ∷ xs) e = by_first (each_passes test xs) (test x) refl e
-  where
-    by_first : (list_all test xs ≡ true → AllOf (λ x. test x ≡ true) xs) → (b : Bool) → test x ≡ b → (b && list_all test xs) ≡ true
-        → (test x ≡ true) × AllOf (λ x. test x ≡ true) xs
-    by_first rest true t h = (t, rest h)
-    by_first rest false t h = absurd (cc)
-
--- what holds of lines holds of the rows of a form
-plain_rows : (form : Form) (lines : List Line) → AllOf LineIsPlain lines → AllOf MemberIsPlain (rows_on form lines)
-plain_rows form lines h = all_rows_on MemberIsPlain form lines (each lines h)
-  where
-    each : (lines : List Line) → AllOf LineIsPlain lines
-        → AllOf (λ x. (kills : Class) → MemberIsPlain (row_of_line (Some form) x kills)) lines
-    each [] h = tt
-    each (x ∷ xs) h = ((λ kills form e. h.0), each xs h.1)
-
--- the row of an algorithm has no form
-formless : (rows : List TableRow) → AllOf (λ r. r.form ≡ None) rows → AllOf MemberIsPlain rows
-formless [] h = tt
-formless (r ∷ rows) h = ((λ form e. let p = h.0 in absurd (cc)), formless rows h.1)
-
--- each row of the table is plain where it has a form
-plain_table : AllOf MemberIsPlain table
-plain_table = all_table MemberIsPlain
-    (λ form e. plain_rows form container_lines (each_passes (λ x. is_plain x.call x.gives) container_lines refl))
-    (λ form e. plain_rows form multi_lines (each_passes (λ x. is_plain x.call x.gives) multi_lines refl))
-    (formless algorithm_rows
-    (refl, (refl, (refl, (refl, (refl, (refl, (refl, (refl, (refl, (refl, (refl, (refl, (refl, (refl, (refl, (refl, (refl, (refl, (refl, (refl, (refl, (refl, (refl, (refl, tt)))))))))))))))))))))))))
+-- a row with a form is plain
+plain_row : (r : TableRow) (form : Form) → r.form ≡ Some form → is_plain_member r ≡ true → is_plain r.call r.gives ≡ true
+plain_row r form e plain =
+    ap (λ (o : Option Form). elim o as (λ _. Bool) [ None ↦ true | Some form ↦ is_plain r.call r.gives ]) (sym e) ∙ plain
 
 -- where nothing is given, that is its type
 nothing_fits : (gives : ReturnType) (t : Memory) (b : Bool) (form : Form) (us : List ExprType) (r : Row) (s : Situation) → is_nothing gives ≡ true
@@ -109,7 +80,7 @@ member_meant r form e = ap (λ (o : Option Form). elim o as (λ _. Row) [ None �
 -- what a call on a container gives is of the type of its result
 pub member-given : (n : ℕ) (r : TableRow) (form : Form) (b : Bool) (us : List ExprType) (s : Situation) → slice_get table n ≡ Some r
     → r.form ≡ Some form → IsDone [] (meaning_of false r) s → RowGives (meaning_of false r) s (result_type r.gives b form us)
-member-given n r form b us s there e done = by_call (is_constructor r.call) refl (all_at MemberIsPlain table n r plain_table there form e)
+member-given n r form b us s there e done = by_call (is_constructor r.call) refl (plain_row r form e (passes_at is_plain_member table n r plain_table there))
   where
     row : Row
     row = meaning_of false r
