@@ -97,6 +97,13 @@ pub mod TableLetters
 pub mod RowIsThere
 pub mod RowMeant
 pub mod MovingFirst
+pub mod GivenIn
+pub mod ContainersGiveIn
+pub mod AlgorithmsGiveIn
+pub mod LibraryGives
+pub mod AnswersFit
+pub mod MembersFit
+pub mod AlgorithmsFit
 -- ## Facts where no way comes
 pub mod FactsIdle
 pub mod EffectsIdle
