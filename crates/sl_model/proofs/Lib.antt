@@ -86,6 +86,8 @@ pub mod TypedVariables
 pub mod TypedUses
 -- ## Well typed texts: what is given fits its type, so each call has a meaning
 pub mod Fitting
+-- ## A well typed text is scoped
+pub mod ScopedCalls
 -- ## Facts where no way comes
 pub mod FactsIdle
 pub mod EffectsIdle
