@@ -88,6 +88,8 @@ pub mod TypedUses
 pub mod Fitting
 -- ## A well typed text is scoped
 pub mod ScopedCalls
+pub mod ScopedGifts
+pub mod ScopedExpressions
 -- ## Facts where no way comes
 pub mod FactsIdle
 pub mod EffectsIdle

@@ -1,5 +1,5 @@
 -- A call of the library that has a type gives a value of the shape of its type, and makes a container exactly where a declaration makes one.
-use Rattle.std.proofs.Common.{◌≡◌, ℕ, Bool, true, false, not, ◌&&◌, List, [], ◌∷◌, take, drop, map, zero, suc, Option, Some, None}
+use Rattle.std.proofs.Common.{◌≡◌, ℕ, Bool, true, false, not, ◌&&◌, ◌||◌, List, [], ◌∷◌, take, drop, map, zero, suc, Option, Some, None}
 use Rattle.std.proofs.Common.{refl, subst, sym, ◌∙◌, option_map}
 use Rattle.std.specs.Prelude.{is_some, slice_get, if◌then◌else◌}
 use Rattle.std.specs.List.{list_all, list_any}
@@ -26,15 +26,15 @@ use Rattle.sl_model.specs.Values.{Shape, a_number, a_stamp, a_pair, two_stamps, 
 use Rattle.sl_model.specs.Rows.{shape_of_return, algorithm_shape, algorithm_row, member_row, meaning_of, shape_of_operator}
 use Rattle.sl_model.specs.Rows.{Row as Meaning, new_one, of_form, is_constructor as constructs_one}
 use Rattle.sl_model.specs.Shapes.{is_new_one, shape_of_row, row_makes, lib_shape, lib_makes}
-use Rattle.sl_model.specs.WellTypedTypes.{ExprType, no_type, empty_type, scalar_type, element_type, iterator_type, iterator_and_bool, two_iterators}
+use Rattle.sl_model.specs.WellTypedTypes.{ExprType, empty_type, scalar_type, element_type, iterator_type, iterator_and_bool, two_iterators}
 use Rattle.sl_model.specs.WellTypedTypes.{container_type, Scope, variable_type, has_type, only, is_scalar, is_iterator, is_iterator_that}
 use Rattle.sl_model.specs.WellTypedTypes.{is_iterator_of, is_writing_iterator, same_iterators, is_const}
-use Rattle.sl_model.specs.WellTypedCalls.{one, range, is_int_iterator, is_bidirectional, is_random, fits_letter, width, fits, first_type, last_type}
+use Rattle.sl_model.specs.WellTypedCalls.{one, range, is_random, fits_letter, width, fits, first_type, last_type}
 use Rattle.sl_model.specs.WellTypedCalls.{result_type, row_at, is_constructor, is_advance, may_be_called, member_type, is_algorithm, algorithm_type}
 use Rattle.sl_model.specs.WellTypedCalls.{row_type, is_output, appending, appending_type, constructs, is_equality, operator_type, call_type}
 use Rattle.sl_model.specs.WellTypedCalls.{is_moving_row, is_moving}
 use Rattle.sl_model.specs.WellTypedStatements.{is_making}
-use Rattle.sl_model.proofs.Passing.{first_of_both, second_of_both, passes_at}
+use Rattle.sl_model.proofs.Passing.{first_of_both, second_of_both, three_parts, passes_at}
 use Rattle.sl_model.proofs.TypedOperands.{only_holds, only_rest}
 
 -- a call of a type gives a value of a shape
@@ -72,9 +72,18 @@ abbrev right_call : Option Form → Call → Bool
 right_call (Some form) call = not (same_call c.Advance call)
 right_call None call = true
 
--- a row is right in both
+-- a row gives nothing
+abbrev gives_nothing : ReturnType → Bool
+gives_nothing r.Nothing = true
+gives_nothing gives = false
+
+-- a row that moves an iterator gives nothing
+abbrev right_move : Row → Bool
+right_move row = not (is_advance row) || gives_nothing row.gives
+
+-- a row is right in all
 abbrev is_right : Row → Bool
-is_right row = right_result row.gives row.letters && right_call row.form row.call
+is_right row = right_result row.gives row.letters && right_call row.form row.call && right_move row
 
 -- each row of the table is
 table_right : list_all is_right table ≡ true
@@ -271,7 +280,8 @@ return_shaped : (row : Row) (b : Bool) (x : Form) (us : List ExprType) → is_ri
     → (meaning_of false row).shape ≡ shape_of_return row.gives → fits x row.letters us ≡ true → has_type (result_type row.gives b x us) ≡ true
     → IsShaped (result_type row.gives b x us) (meaning_of false row).shape
 return_shaped row b x us right e fit h = subst (IsShaped (result_type row.gives b x us)) (sym e)
-    (result_shaped row.gives row.letters b x us (first_of_both (right_result row.gives row.letters) (right_call row.form row.call) right) fit h)
+    (result_shaped row.gives row.letters b x us
+    (three_parts (right_result row.gives row.letters) (right_call row.form row.call) (right_move row) right).0 fit h)
 
 -- a call of a member has the shape of its type
 member_shaped : (row : Row) (u : ExprType) (us : List ExprType) → is_right row ≡ true → has_type (member_type row u us) ≡ true
@@ -330,14 +340,14 @@ operator_shaped (operators.Compare o) (u ∷ v ∷ []) h =
 operator_shaped o us h = absurd cc
 
 -- a call of the library that moves no variable and has a type gives the shape of the type
-pub call_shaped : (g : Scope) (callee : Callee) (object : Option ℕ) (us : List ExprType) → is_moving callee ≡ false
+call_still : (g : Scope) (callee : Callee) (object : Option ℕ) (us : List ExprType) → is_moving callee ≡ false
     → has_type (call_type g callee object us) ≡ true → IsShaped (call_type g callee object us) (lib_shape callee)
-call_shaped g (callees.Row n) object us still h = row_shaped g (row_at n) object us (row_right n) still h
-call_shaped g (callees.Appends n) object us still h = only_shaped (not (is_some object)) (appending_type (row_at n) us) (lib_shape (callees.Appends n))
+call_still g (callees.Row n) object us still h = row_shaped g (row_at n) object us (row_right n) still h
+call_still g (callees.Appends n) object us still h = only_shaped (not (is_some object)) (appending_type (row_at n) us) (lib_shape (callees.Appends n))
     (λ none typed. appending_shaped (row_at n) us (lib_shape (callees.Appends n)) typed) h
-call_shaped g (callees.Operator o) object us still h = only_shaped (not (is_some object)) (operator_type o us) (shape_of_operator o)
+call_still g (callees.Operator o) object us still h = only_shaped (not (is_some object)) (operator_type o us) (shape_of_operator o)
     (λ none typed. operator_shaped o us typed) h
-call_shaped g (callees.Hidden o) object us still h = absurd cc
+call_still g (callees.Hidden o) object us still h = absurd cc
 
 -- a row that moves its iterator gives one
 row_moves : (row : Row) (o : Option Form) → row.form ≡ o → right_call o row.call ≡ true → is_advance row ≡ true
@@ -350,7 +360,7 @@ found_moves : (found : Option Row) → right_found found ≡ true → is_moving_
     → shape_of_row (option_map (meaning_of false) found) ≡ a_stamp
 found_moves None right h = absurd cc
 found_moves (Some row) right h =
-    row_moves row row.form refl (second_of_both (right_result row.gives row.letters) (right_call row.form row.call) right) h
+    row_moves row row.form refl (three_parts (right_result row.gives row.letters) (right_call row.form row.call) (right_move row) right).1 h
 
 -- a call that moves a variable gives an iterator
 pub moving_shape : (callee : Callee) → is_moving callee ≡ true → lib_shape callee ≡ a_stamp
@@ -362,6 +372,57 @@ moving_shape (callees.Operator operators.AddAssign) h = refl
 moving_shape (callees.Operator operators.SubtractAssign) h = refl
 moving_shape (callees.Operator o) h = absurd cc
 moving_shape (callees.Hidden o) h = absurd cc
+
+-- what gives nothing may have any shape
+nothing_shaped : (gives : ReturnType) (b : Bool) (x : Form) (us : List ExprType) (shape : Shape) → gives_nothing gives ≡ true
+    → IsShaped (result_type gives b x us) shape
+nothing_shaped r.Nothing b x us shape n = tt
+nothing_shaped gives b x us shape n = absurd cc
+
+-- what holds where an answer is true, or another, holds of the second where the first is true
+second_of_either : (a b : Bool) → (not a || b) ≡ true → a ≡ true → b ≡ true
+second_of_either true b h k = h
+second_of_either false b h k = absurd cc
+
+-- a row that moves its iterator gives nothing
+advance_gives_nothing : (row : Row) → is_right row ≡ true → is_advance row ≡ true → gives_nothing row.gives ≡ true
+advance_gives_nothing row right moves = second_of_either (is_advance row) (gives_nothing row.gives)
+    (three_parts (right_result row.gives row.letters) (right_call row.form row.call) (right_move row) right).2 moves
+
+-- so its call may have any shape
+advance_shaped : (g : Scope) (found : Option Row) (object : Option ℕ) (us : List ExprType) (shape : Shape) → right_found found ≡ true
+    → is_moving_row found ≡ true → has_type (row_type g found object us) ≡ true → IsShaped (row_type g found object us) shape
+advance_shaped g None object us shape right moves h = absurd cc
+advance_shaped g (Some row) None us shape right moves h = only_shaped (is_algorithm row && fits f.Vector row.letters us)
+    (result_type row.gives false f.Vector us) shape
+    (λ all typed. nothing_shaped row.gives false f.Vector us shape (advance_gives_nothing row right moves)) h
+advance_shaped g (Some row) (Some x) us shape right moves h = at (variable_type g.containers x) h
+  where
+    at : (u : ExprType) → has_type (member_type row u us) ≡ true → IsShaped (member_type row u us) shape
+    at (container_type access y) k = only_shaped
+        (same_object row.form (Some y) && not (is_constructor row) && may_be_called row.changes access && fits y row.letters us)
+        (result_type row.gives (is_const access) y us) shape
+        (λ all typed. nothing_shaped row.gives (is_const access) y us shape (advance_gives_nothing row right moves)) k
+    at u k = absurd cc
+
+-- a call that moves a variable gives the shape of the type
+call_moving : (g : Scope) (callee : Callee) (object : Option ℕ) (us : List ExprType) → is_moving callee ≡ true
+    → has_type (call_type g callee object us) ≡ true → IsShaped (call_type g callee object us) (lib_shape callee)
+call_moving g (callees.Row n) object us moves h =
+    advance_shaped g (row_at n) object us (lib_shape (callees.Row n)) (row_right n) moves h
+call_moving g (callees.Appends n) object us moves h = absurd cc
+call_moving g (callees.Operator o) object us moves h = only_shaped (not (is_some object)) (operator_type o us) (shape_of_operator o)
+    (λ none typed. operator_shaped o us typed) h
+call_moving g (callees.Hidden o) object us moves h = absurd cc
+
+-- a call of the library that has a type gives the shape of the type
+pub call_shaped : (g : Scope) (callee : Callee) (object : Option ℕ) (us : List ExprType) → has_type (call_type g callee object us) ≡ true
+    → IsShaped (call_type g callee object us) (lib_shape callee)
+call_shaped g callee object us h = at (is_moving callee) refl
+  where
+    at : (b : Bool) → is_moving callee ≡ b → IsShaped (call_type g callee object us) (lib_shape callee)
+    at true e = call_moving g callee object us e h
+    at false e = call_still g callee object us e h
 
 -- an algorithm makes no container
 algorithm_makes_none : (appends : Bool) (row : Row) → is_algorithm row ≡ true → is_new_one (meaning_of appends row).object ≡ false
