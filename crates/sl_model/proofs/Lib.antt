@@ -90,6 +90,9 @@ pub mod Fitting
 pub mod ScopedCalls
 pub mod ScopedGifts
 pub mod ScopedExpressions
+pub mod ScopedScopes
+pub mod ScopedStatements
+pub mod ScopedTexts
 -- ## Facts where no way comes
 pub mod FactsIdle
 pub mod EffectsIdle
