@@ -104,6 +104,13 @@ pub mod LibraryGives
 pub mod AnswersFit
 pub mod MembersFit
 pub mod AlgorithmsFit
+-- ## A well typed text is scoped
+pub mod ScopedCalls
+pub mod ScopedGifts
+pub mod ScopedExpressions
+pub mod ScopedScopes
+pub mod ScopedStatements
+pub mod ScopedTexts
 -- ## Facts where no way comes
 pub mod FactsIdle
 pub mod EffectsIdle
