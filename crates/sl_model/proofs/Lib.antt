@@ -90,6 +90,8 @@ pub mod Fitting
 pub mod FactsIdle
 pub mod EffectsIdle
 pub mod CarryIdle
+-- ## The end of a run, as the code has it
+pub mod EndViews
 -- ## Lists of numbers: words, parts between blanks, and laws
 pub mod ListWords
 pub mod ListParts
