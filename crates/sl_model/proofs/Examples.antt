@@ -54,9 +54,6 @@ pub mod EndTexts
 pub mod Generated
 pub mod RunCases1
 pub mod RunCases2
-pub mod RunCases3
-pub mod RunCases4
-pub mod RunCases5
 pub mod RowCases1
 pub mod RowCases2
 pub mod RowCases3
