@@ -528,10 +528,10 @@ containers-fine = all_parts LineIsFine 7 container_lines makings (all_parts Line
                   (in_container s 1 1 s.object (first_need _ _ none)) (not_too_many _ go)),
               (
                 (λ form class b s sound h none go. puts-fine class s (index s 1) _ (own_there form s h.object)
-                    (in_container s 1 1 s.object (first_need _ _ none)) (not_too_many _ go)),
+                    (in_container s 1 1 s.object (first_need _ _ none)) (let l = replicate-length (count_of s 2) (item (int_of s 3)) in let m = not_too_many (own_size s + count_of s 2) go in omega arith)),
                 (
                   (λ form class b s sound h none go. puts-fine class s (index s 1) _ (own_there form s h.object)
-                      (in_container s 1 1 s.object (first_need _ _ none)) (not_too_many _ go)),
+                      (in_container s 1 1 s.object (first_need _ _ none)) (let l = as_items-length (range_keys s 2) in let m = not_too_many (own_size s + length (range_keys s 2)) go in omega arith)),
                   (
                     (λ form class b s sound h none go. (own_there form s h.object, not_too_many _ go)),
                     (

@@ -15,7 +15,7 @@ use Rattle.sl_model.specs.Values.{Value, nothing, number, iterator, pair, two, s
 use Rattle.sl_model.specs.Values.{thrown, faulted}
 use Rattle.sl_model.specs.Values.{gives, unbuilt, Lib}
 use Rattle.sl_model.specs.State.{State, Frame, iter_of, stamp_of, set_iterator_at, scalar_value}
-use Rattle.sl_model.specs.Eval.{Out, Gives, Stops, Outs, AllGive, OneStops, Oracle, then_eval, with_number, then_number, add_value, then_rest}
+use Rattle.sl_model.specs.Eval.{Out, Gives, Stops, Outs, AllGive, OneStops, World, call_own, then_eval, with_number, then_number, add_value, then_rest}
 use Rattle.sl_model.specs.Eval.{then_call, branch, answered, if_set, read_at, settle_call, site_of, use_library, moved_to, chosen, first_of}
 use Rattle.sl_model.specs.Eval.{second_of}
 use Rattle.sl_model.specs.Good.{IsSound, AreApart}
@@ -90,10 +90,10 @@ OutsAt L n gifts (AllGive vs s) = AllGave L n gifts vs s
 OutsAt L n gifts (OneStops e s) = Above L n s
 
 -- a text's own functions keep what holds of all states of a run, where they get what suits them
-abbrev pub OwnKeepsGood : Signature → Oracle → Type 0
-OwnKeepsGood g own = (f : ℕ) (h : Function) (at : Place) (L : Level) (n : ℕ) (gifts : List Gift) (vs : List Value) (s : State) →
+abbrev pub OwnKeepsGood : Signature → World → Type 0
+OwnKeepsGood g w = (f : ℕ) (h : Function) (at : Place) (L : Level) (n : ℕ) (gifts : List Gift) (vs : List Value) (s : State) →
     slice_get g.functions f ≡ Some h → AllSuit h.parameters gifts → AreApart (containers_in gifts) → AllGave L n gifts vs s →
-    OutAt L n (a_value (shape_of_result h.result)) (own f at vs s)
+    OutAt L n (a_value (shape_of_result h.result)) (call_own w f at vs s)
 
 -- what a left side stands for
 abbrev pub gift_of_left : Left → Gift

@@ -8,10 +8,9 @@ use Rattle.sl_base.specs.declared.form.Form.{Form}
 use Rattle.sl_syntax.specs.declared.operator.Access.{Access}
 use Rattle.sl_syntax.specs.declared.typed.parameter.ParameterKind.{ParameterKind}
 use Rattle.sl_syntax.specs.declared.typed.parameter.ParameterKind.TheVariants as parameter
-use Rattle.sl_syntax.specs.Typed.{Function}
 use Rattle.sl_model.specs.Values.{Value, nothing, number, iterator, pair, two, scalar_at, container_at, element_at}
 use Rattle.sl_model.specs.State.{Frame, State, new_scalar, new_iterator, new_container}
-use Rattle.sl_model.specs.Calls.{no_frame, bind_one, bind_all, bound}
+use Rattle.sl_model.specs.Binding.{no_frame, bind_one, bind_all, bound}
 use Rattle.sl_model.specs.Good.{AreBelow, AreApart}
 use Rattle.sl_model.specs.Shapes.{no_value, a_number, a_stamp, a_pair, two_stamps, an_element, Gift, a_value, the_scalar, the_container, IsGiven}
 use Rattle.sl_model.specs.Shapes.{Suits, AllSuit}
@@ -269,15 +268,15 @@ module _ (L : Level) (n : ℕ) (scalars_below : AreBelow L.frame.scalars L.scala
       joined = subst (λ (l : List ℕ). AreApart l) (sym (append_assoc xs (container_in gift) (containers_in gifts))) apart
 
 -- the state in which a function's body starts
-pub at_bound : (L : Level) (n : ℕ) (f : Function) (gifts : List Gift) (vs : List Value) (s : State) → AllSuit f.parameters gifts
+pub at_bound : (L : Level) (n : ℕ) (ks : List ParameterKind) (gifts : List Gift) (vs : List Value) (s : State) → AllSuit ks gifts
     → AllGiven L.frame gifts vs → AllUsed n vs → AreApart (containers_in gifts) → Now L n s →
-    Above L n (bound f vs s) × (counts_of (bound f vs s).frame ≡ with_parameters f.parameters no_counts)
-at_bound L n f gifts vs s suit given used apart h =
+    Above L n (bound ks vs s) × (counts_of (bound ks vs s).frame ≡ with_parameters ks no_counts)
+at_bound L n ks gifts vs s suit given used apart h =
     bind_kinds L n
     (subst (λ (l : Level). AreBelow l.frame.scalars l.scalars) h.level h.good.scalars)
     (subst (λ (l : Level). AreBelow l.frame.conts l.conts) h.level h.good.conts)
     (subst (λ (l : Level). AreApart l.frame.conts) h.level h.good.apart)
-    f.parameters gifts vs no_counts [] (record s { frame = no_frame }) suit given used apart
+    ks gifts vs no_counts [] (record s { frame = no_frame }) suit given used apart
     (record { above = with_none (now_above L n s h); counts = refl; named = λ i l e. absurd (cc); many = refl })
   where
     with_none : Above L n s → Above L n (record s { frame = no_frame })

@@ -135,7 +135,7 @@ module _ (shape : Shape) (L : Level) (n : ℕ) (Q : State → Type 0) where
   at_binds at (element_at j k part) s h = at_bound_to at part (slice_get (refers (cont_at s.memory j)) k) s
       (λ r e. refer_used s.memory j k r h.now.good.sound e) h.now
 
-module _ (w : World) (g : Signature) (lib_keeps : KeepsGood g.shape g.makes w.lib) (own_keeps : OwnKeepsGood g w.own) (shape : Shape) (L : Level)
+module _ (w : World) (g : Signature) (lib_keeps : KeepsGood g.shape g.makes w.lib) (own_keeps : OwnKeepsGood g w) (shape : Shape) (L : Level)
     (n : ℕ) where
   -- an expression
   abbrev value_of : (a : Expr) (s : State) → InExpr g (counts_of L.frame) a → Now L n s → OutAt L n (gift_of g a) (eval w a s)

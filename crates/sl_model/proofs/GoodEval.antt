@@ -17,7 +17,7 @@ use Rattle.sl_model.specs.Containers.{Part, locate_refer}
 use Rattle.sl_model.specs.Values.{Value, number, iterator}
 use Rattle.sl_model.specs.State.{Pointer, iterator_at, reference_to, State, scalar_of, cont_of, iter_of, pointer_at, stamp_of}
 use Rattle.sl_model.specs.Eval.{by_one, Out, Gives, World, then_eval, then_number, branch, answered, read_at, write_at, use_library, increased}
-use Rattle.sl_model.specs.Eval.{moved_to, chosen, part_used, found_use, used, eval, reach, eval_all, name_place}
+use Rattle.sl_model.specs.Eval.{call_own, moved_to, chosen, part_used, found_use, used, eval, reach, eval_all, name_place}
 use Rattle.sl_model.specs.Good.{AreApart}
 use Rattle.sl_model.specs.Shapes.{Shape, no_value, a_number, a_stamp, an_element, Gift, a_value, Signature, shape_of_result, gift_of, shape_of_second}
 use Rattle.sl_model.specs.Shapes.{gifts_of, AllSuit, containers_in}
@@ -37,11 +37,11 @@ cont_there : (L : Level) (n : ℕ) (s : State) (x : ℕ) → x < length L.frame.
 cont_there L n s x low h = subst (λ (l : Level). x < length l.frame.conts → slice_get l.frame.conts x ≡ Some (cont_of s x)) h.level
     (λ low. slice_get-get_or s.frame.conts x 0 low) low
 
-module _ (w : World) (g : Signature) (lib_keeps : KeepsGood g.shape g.makes w.lib) (own_keeps : OwnKeepsGood g w.own) (L : Level) where
+module _ (w : World) (g : Signature) (lib_keeps : KeepsGood g.shape g.makes w.lib) (own_keeps : OwnKeepsGood g w) (L : Level) where
   -- a call of a text's own function
   at_own : (n f : ℕ) (at : Place) (gifts : List Gift) (vs : List Value) (s : State) (r : Option Function) → slice_get g.functions f ≡ r
       → (elim r as (λ _. Type 0) [ None ↦ ⊥ | Some h ↦ AllSuit h.parameters gifts ]) → AreApart (containers_in gifts) → AllGave L n gifts vs s →
-      OutAt L n (a_value (elim r as (λ _. Shape) [ None ↦ no_value | Some h ↦ shape_of_result h.result ])) (w.own f at vs s)
+      OutAt L n (a_value (elim r as (λ _. Shape) [ None ↦ no_value | Some h ↦ shape_of_result h.result ])) (call_own w f at vs s)
   at_own n f at gifts vs s None e suit apart h = absurd suit
   at_own n f at gifts vs s (Some k) e suit apart h = own_keeps f k at L n gifts vs s e suit apart h
 
@@ -136,7 +136,7 @@ module _ (w : World) (g : Signature) (lib_keeps : KeepsGood g.shape g.makes w.li
         (λ vs s j. at_move x it hd vs n s i.0 i.1.0 i.1.1.0.0 j.used j.now)
     at_eval (call hd ops) n s i h = at_call L n (gifts_of g ops) (a_value (g.shape hd.callee)) (eval_all w ops s) (use_library w.lib hd)
         (at_all ops n s i.1 h) (λ vs s j. at_library L n g.shape g.makes w.lib lib_keeps hd vs s i.0.0 j.used j.now)
-    at_eval (own_call f at ops) n s i h = at_call L n (gifts_of g ops) (gift_of g (own_call f at ops)) (eval_all w ops s) (w.own f at)
+    at_eval (own_call f at ops) n s i h = at_call L n (gifts_of g ops) (gift_of g (own_call f at ops)) (eval_all w ops s) (call_own w f at)
         (at_all ops n s i.1 h) (λ vs s j. at_own n f at (gifts_of g ops) vs s (slice_get g.functions f) refl i.0.0 i.0.1 j)
     at_eval (first at a) n s i h = at_then L n (gift_of g a) (a_value a_stamp) (eval w a s) _ (at_eval a n s i.1 h)
         (λ v s j. at_first L n (gift_of g a) v s i.0 j)

@@ -72,7 +72,7 @@ part_stays shape L n continue w p h = h
 part_stays shape L n (gives_back a) w p h = h
 part_stays shape L n (does e) w p h = h
 
-module _ (w : World) (g : Signature) (lib_keeps : KeepsGood g.shape g.makes w.lib) (own_keeps : OwnKeepsGood g w.own) (shape : Shape) (n : ℕ) where
+module _ (w : World) (g : Signature) (lib_keeps : KeepsGood g.shape g.makes w.lib) (own_keeps : OwnKeepsGood g w) (shape : Shape) (n : ℕ) where
   -- the end of a scope
   scope_from : (site : ℕ) (start : State) (f : Flow) (L M : Level) → ((s : State) → Above M n s → Above L n s) → Now L n start
       → FlowIn shape M n (Now M n) (Now M n) f → FlowIn shape L n (Now L n) (Now L n) (scoped site start f)

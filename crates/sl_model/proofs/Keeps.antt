@@ -19,7 +19,7 @@ use Rattle.sl_model.specs.Values.{thrown, faulted}
 use Rattle.sl_model.specs.Values.{gives, unbuilt}
 use Rattle.sl_model.specs.State.{Pointer, iterator_at, reference_to, State, iter_of, pointer_at, stamp_of, set_scalar_at, scalar_value}
 use Rattle.sl_model.specs.Eval.{by_one, Out, Gives, Stops, Outs, AllGive, OneStops, World, then_eval, with_number, then_number, add_value, then_rest}
-use Rattle.sl_model.specs.Eval.{then_call, branch, answered, if_set, read_at, write_at, settle_call, use_library, increased, moved_to, chosen, eval}
+use Rattle.sl_model.specs.Eval.{call_own, then_call, branch, answered, if_set, read_at, write_at, settle_call, use_library, increased, moved_to, chosen, eval}
 use Rattle.sl_model.specs.Eval.{reach, eval_all, name_place, part_used, found_use, used}
 
 module _ (I : Memory → Type 0) where
@@ -146,7 +146,7 @@ module _ (I : Memory → Type 0) where
 
   module _ (w : World)
       (lib_keeps : (c : Callee) (a : Args) (m : Memory) (ps : List ℕ) → I m → InAnswer (w.lib c a m ps))
-      (own_keeps : (f : ℕ) (at : Place) (vs : List Value) (s : State) → I s.memory → InOut (w.own f at vs s))
+      (own_keeps : (f : ℕ) (at : Place) (vs : List Value) (s : State) → I s.memory → InOut (call_own w f at vs s))
       (write_keeps : (m : Memory) (i k : ℕ) (p : Part) (z : ℤ) → I m → I (write_element m i k p z)) where
     -- a call of the library keeps it
     pub keeps_library : (h : Head) (vs : List Value) (s : State) → I s.memory → InOut (use_library w.lib h vs s)

@@ -8,10 +8,11 @@ use Rattle.sl_syntax.specs.declared.typed.parameter.ParameterKind.TheVariants as
 use Rattle.sl_syntax.specs.Typed.{Function, Typed}
 use Rattle.sl_model.specs.Containers.{Memory, Part, write_element, end_from}
 use Rattle.sl_model.specs.Values.{Value, nothing, number, iterator, pair, two, scalar_at, container_at, element_at, Args, Lib}
-use Rattle.sl_model.specs.State.{State, leave}
-use Rattle.sl_model.specs.Eval.{Out, Gives, Stops, World}
+use Rattle.sl_model.specs.State.{State}
+use Rattle.sl_model.specs.Binding.{bind_one, bind_all, bound, no_frame}
+use Rattle.sl_model.specs.Eval.{Out, Gives, Stops, World, Oracle, come_back, call_own}
 use Rattle.sl_model.specs.Exec.{Flow, Next, Broke, Continued, Returned, Over, exec}
-use Rattle.sl_model.specs.Calls.{bind_one, bind_all, bound, fell, called, of_function, call_of, no_frame}
+use Rattle.sl_model.specs.Calls.{fell, body_gives, of_function, world_of, call_of}
 use Rattle.sl_model.specs.Ends.{Language}
 use Rattle.sl_model.proofs.Keeps.{InAnswer, InOut}
 use Rattle.sl_model.proofs.KeepsRun.{InFlow, in_exec}
@@ -63,31 +64,47 @@ module _ (I : Memory → Type 0) where
       (write_keeps : (m : Memory) (i k : ℕ) (p : Part) (z : ℤ) → I m → I (write_element m i k p z))
       (end_keeps : (site n : ℕ) (m : Memory) → I m → I (end_from site n m)) where
     -- a body that reached its closing brace keeps it
-    in_fell : (b : Bool) (f : Function) (before s : State) → I s.memory → InOut I (fell b f before s)
-    in_fell true f before s h = end_keeps 0 (length before.memory.conts) s.memory h
-    in_fell false f before s h =
-        elim f.result as (λ r. InOut I (elim r as (λ _. Out) [ None ↦ Gives nothing (leave 0 before s) | Some k ↦ Stops (Language f.close 4) s ]))
-        [ None ↦ end_keeps 0 (length before.memory.conts) s.memory h | Some k ↦ h ]
+    in_fell : (b : Bool) (f : Function) (s : State) → I s.memory → InOut I (fell b f s)
+    in_fell true f s h = h
+    in_fell false f s h =
+        elim f.result as (λ r. InOut I (elim r as (λ _. Out) [ None ↦ Gives nothing s | Some k ↦ Stops (Language f.close 4) s ])) [ None ↦ h | Some k ↦ h ]
 
-    -- the end of a call keeps it
-    in_called : (b : Bool) (f : Function) (before : State) (w : Flow) → InFlow I w → InOut I (called b f before w)
-    in_called b f before (Returned v s) h = end_keeps 0 (length before.memory.conts) s.memory h
-    in_called b f before (Next s) h = in_fell b f before s h
-    in_called b f before (Broke s) h = in_fell b f before s h
-    in_called b f before (Continued s) h = in_fell b f before s h
-    in_called b f before (Over e s) h = h
+    -- what a body gives keeps it
+    in_body : (b : Bool) (f : Function) (w : Flow) → InFlow I w → InOut I (body_gives b f w)
+    in_body b f (Returned v s) h = h
+    in_body b f (Next s) h = in_fell b f s h
+    in_body b f (Broke s) h = in_fell b f s h
+    in_body b f (Continued s) h = in_fell b f s h
+    in_body b f (Over e s) h = h
+
+    -- coming back keeps it
+    in_back : (before : State) (o : Out) → InOut I o → InOut I (come_back before o)
+    in_back before (Gives v s) h = end_keeps 0 (length before.memory.conts) s.memory h
+    in_back before (Stops e s) h = h
+
+    -- bodies keep it
+    abbrev BodiesKeep : Oracle → Type 0
+    BodiesKeep own = (f : ℕ) (at : Place) (s : State) → I s.memory → InOut I (own f at s)
+
+    -- a call keeps it where the bodies do
+    in_own : (w : World) → BodiesKeep w.own → (f : ℕ) (at : Place) (vs : List Value) (s : State) → I s.memory → InOut I (call_own w f at vs s)
+    in_own w keeps f at vs s h = in_back s (w.own f at (bound (w.takes f) vs s))
+        (keeps f at (bound (w.takes f) vs s) (in_bind (w.takes f) vs (record s { frame = no_frame }) h))
 
     -- a function that runs its body keeps it
-    in_function : (b : Bool) (o : Option Function) (w : World) → w.lib ≡ lib
-        → ((f : ℕ) (at : Place) (vs : List Value) (s : State) → I s.memory → InOut I (w.own f at vs s)) → (at : Place) (vs : List Value) (s : State)
-        → I s.memory → InOut I (of_function b o w at vs s)
-    in_function b None w e k at vs s h = h
-    in_function b (Some g) w e k at vs s h = in_called b g s (exec w g.body (bound g vs s))
-        (in_exec I w (λ c a m ps i. subst (λ (l : Lib). InAnswer I (l c a m ps)) (sym e) (lib_keeps c a m ps i)) k write_keeps end_keeps g.body
-        (bound g vs s) (in_bind g.parameters vs (record s { frame = no_frame }) h))
+    in_function : (b : Bool) (o : Option Function) (w : World) → w.lib ≡ lib → BodiesKeep w.own → (s : State) → I s.memory
+        → InOut I (of_function b o w s)
+    in_function b None w e k s h = h
+    in_function b (Some g) w e k s h = in_body b g (exec w g.body s)
+        (in_exec I w (λ c a m ps i. subst (λ (l : Lib). InAnswer I (l c a m ps)) (sym e) (lib_keeps c a m ps i)) (in_own w k) write_keeps end_keeps
+        g.body s h)
+
+    -- every body keeps it
+    in_bodies : (n : ℕ) (p : Typed) → BodiesKeep (call_of lib n p)
+    in_bodies zero p f at s h = h
+    in_bodies (suc n) p f at s h = in_function (f == p.main) (slice_get p.functions f) (world_of lib p (call_of lib n p)) refl (in_bodies n p) s h
 
     -- every call keeps it
-    pub in_call : (n : ℕ) (p : Typed) (f : ℕ) (at : Place) (vs : List Value) (s : State) → I s.memory → InOut I (call_of lib n p f at vs s)
-    in_call zero p f at vs s h = h
-    in_call (suc n) p f at vs s h =
-        in_function (f == p.main) (slice_get p.functions f) (record { lib = lib; own = call_of lib n p }) refl (in_call n p) at vs s h
+    pub in_call : (n : ℕ) (p : Typed) (f : ℕ) (at : Place) (vs : List Value) (s : State) → I s.memory
+        → InOut I (call_own (world_of lib p (call_of lib n p)) f at vs s)
+    in_call n p = in_own (world_of lib p (call_of lib n p)) (in_bodies n p)

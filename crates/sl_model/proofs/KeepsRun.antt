@@ -20,7 +20,7 @@ use Rattle.sl_model.specs.Values.{Value, nothing, number, iterator, pair, two, s
 use Rattle.sl_model.specs.State.{State, scalar_of, iter_of, cont_of, set_scalar_at, set_iterator_at, new_scalar, new_iterator, new_container}
 use Rattle.sl_model.specs.Ends.{OutOfSteps}
 use Rattle.sl_model.specs.Eval.{Out, Gives, Stops, World, eval, reach, eval_all, then_number, then_call, read_at, write_at, use_library}
-use Rattle.sl_model.specs.Eval.{answered, name_place}
+use Rattle.sl_model.specs.Eval.{answered, name_place, call_own}
 use Rattle.sl_model.specs.Exec.{Flow, Next, Broke, Continued, Returned, Over, Meaning, tick, and_then, flow_of, on_number, on_stamp, either_way}
 use Rattle.sl_model.specs.Exec.{scoped, read_all, tested, printed, print_all, is_name, affect, bound_to, binds_to, declared, begun, ended, after_body}
 use Rattle.sl_model.specs.Exec.{counted, turns, loop, wrote, asks, hidden_at, takes_number, takes_element, over_range, range_start, exec, exec_all}
@@ -127,7 +127,7 @@ module _ (I : Memory → Type 0) where
 
   module _ (w : World)
       (lib_keeps : (c : Callee) (a : Args) (m : Memory) (ps : List ℕ) → I m → InAnswer I (w.lib c a m ps))
-      (own_keeps : (f : ℕ) (at : Place) (vs : List Value) (s : State) → I s.memory → InOut I (w.own f at vs s))
+      (own_keeps : (f : ℕ) (at : Place) (vs : List Value) (s : State) → I s.memory → InOut I (call_own w f at vs s))
       (write_keeps : (m : Memory) (i k : ℕ) (p : Part) (z : ℤ) → I m → I (write_element m i k p z))
       (end_keeps : (site n : ℕ) (m : Memory) → I m → I (end_from site n m)) where
     -- each expression keeps it

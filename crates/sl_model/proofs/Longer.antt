@@ -19,7 +19,7 @@ use Rattle.sl_model.specs.Ends.{End, OutOfSteps}
 use Rattle.sl_model.specs.State.{Pointer, iterator_at, reference_to, State, Slot, iter_of, pointer_at, set_scalar_at, set_iterator_at}
 use Rattle.sl_model.specs.Eval.{Out, Gives, Stops, Outs, AllGive, OneStops, World, then_eval, with_number, then_number, add_value, then_rest}
 use Rattle.sl_model.specs.Eval.{then_call, branch, answered, if_set, read_at, write_at, settle_call, use_library, increased, moved_to, chosen}
-use Rattle.sl_model.specs.Eval.{name_place, found_use, used, eval, reach, eval_all}
+use Rattle.sl_model.specs.Eval.{name_place, found_use, used, call_own, eval, reach, eval_all}
 
 -- a state with k steps more
 abbrev pub more : ℕ → State → State
@@ -162,7 +162,7 @@ used-later at name part (iterator_at stamp) s = stops _ s
 
 -- the text's own functions do the same with k steps more
 abbrev pub SameWorld : ℕ → World → Type 0
-SameWorld k w = (f : ℕ) (at : Place) (vs : List Value) → Same k (w.own f at vs)
+SameWorld k w = (f : ℕ) (at : Place) (vs : List Value) → Same k (call_own w f at vs)
 
 mutual
   pub eval-later : {k : ℕ} (w : World) → SameWorld k w → (a : Expr) → Same k (eval w a)

@@ -10,10 +10,10 @@ use Rattle.sl_syntax.specs.Typed.{Expr, Stmt, Stmts, Typed, Function}
 use Rattle.sl_model.specs.Values.{Value, Lib}
 use Rattle.sl_model.specs.Library.{lib}
 use Rattle.sl_model.specs.State.{State}
-use Rattle.sl_model.specs.Eval.{Out, Gives, Stops, World, eval}
+use Rattle.sl_model.specs.Eval.{Out, Gives, Stops, World, call_own, eval}
 use Rattle.sl_model.specs.Exec.{Flow, Next, Broke, Continued, Returned, Over, exec, exec_all}
-use Rattle.sl_model.specs.Calls.{call_of}
-use Rattle.sl_model.specs.Run.{empty_state, first_place}
+use Rattle.sl_model.specs.Calls.{world_of, call_of}
+use Rattle.sl_model.specs.Run.{empty_state, first_place, out_of}
 use Rattle.sl_model.specs.Good.{AreApart, IsGood}
 use Rattle.sl_model.specs.Shapes.{Shape, Gift, a_value, Signature, shape_of_result, gift_of, AllSuit, containers_in, lib_shape, lib_makes}
 use Rattle.sl_model.specs.Scoped.{InExpr, InStmt, InStmts, IsScoped}
@@ -59,37 +59,37 @@ pub good_now : (s : State) → IsGood s → Now (level_of s) s.memory.fresh s
 good_now s h = record { good = h; level = refl; later = omega arith }
 
 -- over a library and functions that keep states good, each expression does, and it leaves the frame and the heights of the stacks
-pub eval-level : (w : World) (g : Signature) → KeepsGood g.shape g.makes w.lib → OwnKeepsGood g w.own → (e : Expr) (s : State)
+pub eval-level : (w : World) (g : Signature) → KeepsGood g.shape g.makes w.lib → OwnKeepsGood g w → (e : Expr) (s : State)
     → InExpr g (counts_of s.frame) e → IsGood s → OutAt (level_of s) s.memory.fresh (gift_of g e) (eval w e s)
 eval-level w g lib_keeps own_keeps e s i h = at_eval w g lib_keeps own_keeps (level_of s) e s.memory.fresh s i (good_now s h)
 
 -- the state that it leaves is good
-pub eval-good : (w : World) (g : Signature) → KeepsGood g.shape g.makes w.lib → OwnKeepsGood g w.own → (e : Expr) (s : State)
+pub eval-good : (w : World) (g : Signature) → KeepsGood g.shape g.makes w.lib → OwnKeepsGood g w → (e : Expr) (s : State)
     → InExpr g (counts_of s.frame) e → IsGood s → IsGoodOut (eval w e s)
 eval-good w g lib_keeps own_keeps e s i h =
     out_good (level_of s) s.memory.fresh (gift_of g e) (eval w e s) (eval-level w g lib_keeps own_keeps e s i h)
 
 -- over a library and functions that keep states good, each statement does, and it leaves the frame and the heights of the stacks
 -- but for what it declares
-pub exec-level : (w : World) (g : Signature) → KeepsGood g.shape g.makes w.lib → OwnKeepsGood g w.own → (shape : Shape) (a : Stmt) (s : State)
+pub exec-level : (w : World) (g : Signature) → KeepsGood g.shape g.makes w.lib → OwnKeepsGood g w → (shape : Shape) (a : Stmt) (s : State)
     → InStmt g shape (counts_of s.frame) a → IsGood s → StmtAt shape (level_of s) s.memory.fresh a (exec w a s)
 exec-level w g lib_keeps own_keeps shape a s i h = at_exec w g lib_keeps own_keeps shape s.memory.fresh a (level_of s) s i (good_now s h)
 
 -- the state that it leaves is good
-pub exec-good : (w : World) (g : Signature) → KeepsGood g.shape g.makes w.lib → OwnKeepsGood g w.own → (shape : Shape) (a : Stmt) (s : State)
+pub exec-good : (w : World) (g : Signature) → KeepsGood g.shape g.makes w.lib → OwnKeepsGood g w → (shape : Shape) (a : Stmt) (s : State)
     → InStmt g shape (counts_of s.frame) a → IsGood s → IsGoodFlow (exec w a s)
 exec-good w g lib_keeps own_keeps shape a s i h = flow_good shape (level_of s) s.memory.fresh (Now (level_after a (level_of s)) s.memory.fresh)
     (Now (level_of s) s.memory.fresh) (exec w a s) (λ s j. j.good) (λ s j. j.good) (exec-level w g lib_keeps own_keeps shape a s i h)
 
 -- over a library and functions that keep states good, statements in turn do, and they leave the stacks as high as they were
-pub exec_all-level : (w : World) (g : Signature) → KeepsGood g.shape g.makes w.lib → OwnKeepsGood g w.own
+pub exec_all-level : (w : World) (g : Signature) → KeepsGood g.shape g.makes w.lib → OwnKeepsGood g w
     → (shape : Shape) (all : Stmts) (s : State) → InStmts g shape (counts_of s.frame) all → IsGood s →
     FlowIn shape (level_of s) s.memory.fresh (Above (level_of s) s.memory.fresh) (Above (level_of s) s.memory.fresh) (exec_all w all s)
 exec_all-level w g lib_keeps own_keeps shape all s i h =
     at_exec_all w g lib_keeps own_keeps shape s.memory.fresh all (level_of s) s i (good_now s h)
 
 -- the state that they leave is good
-pub exec_all-good : (w : World) (g : Signature) → KeepsGood g.shape g.makes w.lib → OwnKeepsGood g w.own → (shape : Shape) (all : Stmts) (s : State)
+pub exec_all-good : (w : World) (g : Signature) → KeepsGood g.shape g.makes w.lib → OwnKeepsGood g w → (shape : Shape) (all : Stmts) (s : State)
     → InStmts g shape (counts_of s.frame) all → IsGood s → IsGoodFlow (exec_all w all s)
 exec_all-good w g lib_keeps own_keeps shape all s i h = flow_good shape (level_of s) s.memory.fresh (Above (level_of s) s.memory.fresh)
     (Above (level_of s) s.memory.fresh) (exec_all w all s) (λ s j. j.good) (λ s j. j.good) (exec_all-level w g lib_keeps own_keeps shape all s i h)
@@ -99,7 +99,7 @@ exec_all-good w g lib_keeps own_keeps shape all s i h = flow_good shape (level_o
 pub call-level : (shape : Callee → Shape) (makes_one : Callee → Bool) (l : Lib) → KeepsGood shape makes_one l → (p : Typed)
     → IsScoped shape makes_one p → (k f : ℕ) (h : Function) (at : Place) (gifts : List Gift) (vs : List Value) (s : State) →
     slice_get p.functions f ≡ Some h → AllSuit h.parameters gifts → AreApart (containers_in gifts) → AllGiven s.frame gifts vs
-    → AllUsed s.memory.fresh vs → IsGood s → OutAt (level_of s) s.memory.fresh (a_value (shape_of_result h.result)) (call_of l k p f at vs s)
+    → AllUsed s.memory.fresh vs → IsGood s → OutAt (level_of s) s.memory.fresh (a_value (shape_of_result h.result)) (call_own (world_of l p (call_of l k p)) f at vs s)
 call-level shape makes_one l lib_keeps p scoped k f h at gifts vs s there suit apart given used good =
     at_call_of shape makes_one l lib_keeps p scoped k f h at (level_of s) s.memory.fresh gifts vs s there suit apart
     (record { now = good_now s good; given = given; used = used })
@@ -108,9 +108,9 @@ call-level shape makes_one l lib_keeps p scoped k f h at gifts vs s there suit a
 pub call-good : (shape : Callee → Shape) (makes_one : Callee → Bool) (l : Lib) → KeepsGood shape makes_one l → (p : Typed)
     → IsScoped shape makes_one p → (k f : ℕ) (h : Function) (at : Place) (gifts : List Gift) (vs : List Value) (s : State) →
     slice_get p.functions f ≡ Some h → AllSuit h.parameters gifts → AreApart (containers_in gifts) → AllGiven s.frame gifts vs
-    → AllUsed s.memory.fresh vs → IsGood s → IsGoodOut (call_of l k p f at vs s)
+    → AllUsed s.memory.fresh vs → IsGood s → IsGoodOut (call_own (world_of l p (call_of l k p)) f at vs s)
 call-good shape makes_one l lib_keeps p scoped k f h at gifts vs s there suit apart given used good =
-    out_good (level_of s) s.memory.fresh (a_value (shape_of_result h.result)) (call_of l k p f at vs s)
+    out_good (level_of s) s.memory.fresh (a_value (shape_of_result h.result)) (call_own (world_of l p (call_of l k p)) f at vs s)
     (call-level shape makes_one l lib_keeps p scoped k f h at gifts vs s there suit apart given used good)
 
 -- the state in which a run begins is good
@@ -127,7 +127,7 @@ empty-good input picks steps = record {
 -- over a library that keeps states good, a scoped text's run ends in a good state
 pub run_over-good : (shape : Callee → Shape) (makes_one : Callee → Bool) (l : Lib) → KeepsGood shape makes_one l → (p : Typed)
     → IsScoped shape makes_one p → (input : List ℤ) (picks : List ℕ) (steps : ℕ)
-    → IsGoodOut (call_of l CALLS p p.main first_place [] (empty_state input picks steps))
+    → IsGoodOut (out_of l p input picks steps)
 run_over-good shape makes_one l lib_keeps p scoped input picks steps =
     call-good shape makes_one l lib_keeps p scoped CALLS p.main scoped.main first_place [] [] (empty_state input picks steps) scoped.main_there
     (subst (λ (ks : List ParameterKind). AllSuit ks []) (sym scoped.main_parameters) tt)
@@ -135,5 +135,5 @@ run_over-good shape makes_one l lib_keeps p scoped input picks steps =
 
 -- a scoped text's run ends in a good state
 pub run-good : (p : Typed) → IsScoped lib_shape lib_makes p → (input : List ℤ) (picks : List ℕ) (steps : ℕ)
-    → IsGoodOut (call_of lib CALLS p p.main first_place [] (empty_state input picks steps))
+    → IsGoodOut (out_of lib p input picks steps)
 run-good p scoped input picks steps = run_over-good lib_shape lib_makes lib lib-good p scoped input picks steps

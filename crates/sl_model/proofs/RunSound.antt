@@ -9,10 +9,10 @@ use Rattle.sl_model.specs.Containers.{Memory, empty_memory}
 use Rattle.sl_model.specs.Values.{Value, Args, Lib}
 use Rattle.sl_model.specs.Library.{lib}
 use Rattle.sl_model.specs.State.{State}
-use Rattle.sl_model.specs.Eval.{World, eval}
+use Rattle.sl_model.specs.Eval.{World, call_own, eval}
 use Rattle.sl_model.specs.Exec.{exec}
-use Rattle.sl_model.specs.Calls.{call_of}
-use Rattle.sl_model.specs.Run.{empty_state, first_place}
+use Rattle.sl_model.specs.Calls.{world_of, call_of}
+use Rattle.sl_model.specs.Run.{empty_state, first_place, out_of}
 use Rattle.sl_model.specs.Good.{AreKeptApart, IsSound}
 use Rattle.sl_model.proofs.Ending.{end_from-sound}
 use Rattle.sl_model.proofs.Writing.{write-sound}
@@ -41,7 +41,7 @@ leaves-sound l lib_keeps c a m picks sound = sound-answer m a.site (l c a m pick
 
 -- a text's own functions leave each sound memory sound
 abbrev pub OwnKeepSound : World → Type 0
-OwnKeepSound w = (f : ℕ) (at : Place) (vs : List Value) (s : State) → IsSound s.memory → InOut IsSound (w.own f at vs s)
+OwnKeepSound w = (f : ℕ) (at : Place) (vs : List Value) (s : State) → IsSound s.memory → InOut IsSound (call_own w f at vs s)
 
 -- over a library that keeps memory, each expression does
 pub eval-sound : (w : World) → KeepsMemory w.lib → OwnKeepSound w → (e : Expr) (s : State) → IsSound s.memory → InOut IsSound (eval w e s)
@@ -53,15 +53,15 @@ exec-sound w lib_keeps own_keeps a s h = in_exec IsSound w (leaves-sound w.lib l
 
 -- over a library that keeps memory, each call of a text's own function does
 pub call-sound : (l : Lib) → KeepsMemory l → (n : ℕ) (p : Typed) (f : ℕ) (at : Place) (vs : List Value) (s : State) → IsSound s.memory
-    → InOut IsSound (call_of l n p f at vs s)
+    → InOut IsSound (call_own (world_of l p (call_of l n p)) f at vs s)
 call-sound l lib_keeps n p f at vs s h = in_call IsSound l (leaves-sound l lib_keeps) write-sound end_from-sound n p f at vs s h
 
 -- over a library that keeps memory, a run ends in a sound memory
 pub run_over-sound : (l : Lib) → KeepsMemory l → (p : Typed) (input : List ℤ) (picks : List ℕ) (steps : ℕ)
-    → InOut IsSound (call_of l CALLS p p.main first_place [] (empty_state input picks steps))
+    → InOut IsSound (out_of l p input picks steps)
 run_over-sound l lib_keeps p input picks steps = call-sound l lib_keeps CALLS p p.main first_place [] (empty_state input picks steps) empty-sound
 
 -- a run ends in a sound memory
 pub run-sound : (p : Typed) (input : List ℤ) (picks : List ℕ) (steps : ℕ)
-    → InOut IsSound (call_of lib CALLS p p.main first_place [] (empty_state input picks steps))
+    → InOut IsSound (out_of lib p input picks steps)
 run-sound p input picks steps = run_over-sound lib lib-leaves p input picks steps

@@ -15,6 +15,7 @@ use Rattle.sl_model.specs.Numbers.{is_zero, truth, converted, Answer, value, fau
 use Rattle.sl_syntax.specs.declared.typed.element.ElementPart.{ElementPart}
 use Rattle.sl_syntax.specs.declared.typed.element.ElementPart.TheVariants as parts
 use Rattle.sl_syntax.specs.declared.typed.head.Head.{Head}
+use Rattle.sl_syntax.specs.declared.typed.parameter.ParameterKind.{ParameterKind}
 use Rattle.sl_syntax.specs.declared.typed.step.Fix.{Fix}
 use Rattle.sl_syntax.specs.declared.typed.step.Fix.TheVariants.{Prefix, Postfix}
 use Rattle.sl_syntax.specs.declared.typed.step.Step.{Step}
@@ -27,7 +28,8 @@ use Rattle.sl_model.specs.Values.{Value, number, iterator, pair, two, scalar_at,
 use Rattle.sl_model.specs.Values.{gives, unbuilt}
 use Rattle.sl_model.specs.Ends.{End, Trapped, Language, Thrown, NoMeaning, trap_of, use_trap}
 use Rattle.sl_model.specs.State.{Pointer, iterator_at, reference_to, State, scalar_of, cont_of, iter_of, scalar_value, set_scalar_at}
-use Rattle.sl_model.specs.State.{set_iterator_at, pointer_at, stamp_of}
+use Rattle.sl_model.specs.State.{set_iterator_at, pointer_at, stamp_of, leave}
+use Rattle.sl_model.specs.Binding.{bound}
 
 -- what an expression gives: a value, or the end of the run
 pub data Out : Type 0 where
@@ -39,13 +41,15 @@ pub data Outs : Type 0 where
   AllGive : List Value → State → Outs
   OneStops : End → State → Outs
 
--- what a function does, by its number, the place of the call and its operands
+-- what the body of a function does, by the function's number and the place of the call, from the bound state to the body's end: a value
+-- in the state at the end, with the body's variables still in scope, or the end of the run
 abbrev pub Oracle : Type 0
-Oracle = ℕ → Place → List Value → State → Out
+Oracle = ℕ → Place → State → Out
 
--- what stands around a text: a library, and what the text's own functions do
+-- what stands around an expression: a library, the parameters of the text's functions, and what their bodies do
 pub record World : Type 0 where
   pub lib : Lib
+  pub takes : ℕ → List ParameterKind
   pub own : Oracle
 
 -- what follows a value
@@ -86,6 +90,15 @@ branch false a b s = b s
 abbrev pub answered : Place → Answer → State → Out
 answered at (value z) s = Gives (number z) s
 answered at (fault w) s = Stops (Language at w) s
+
+-- a call comes back from a body that is done: the variables that were in scope before are in scope again
+abbrev pub come_back : State → Out → Out
+come_back before (Gives v s) = Gives v (leave 0 before s)
+come_back before (Stops e s) = Stops e s
+
+-- a call of a function of the text on its operands
+abbrev pub call_own : World → ℕ → Place → List Value → State → Out
+call_own w f at vs s = come_back s (w.own f at (bound (w.takes f) vs s))
 
 -- a set variable's number
 abbrev pub if_set : Place → Option ℤ → State → Out
@@ -194,7 +207,7 @@ abbrev mutual
   eval w (move x it h ops) s = then_call (eval_all w ops s) (λ vs s.
       then_eval (use_library w.lib h (iterator (stamp_of s it) ∷ vs) s) (moved_to x (iter_of s it) (stamp_of s it)))
   eval w (call h ops) s = then_call (eval_all w ops s) (use_library w.lib h)
-  eval w (own_call f at ops) s = then_call (eval_all w ops s) (w.own f at)
+  eval w (own_call f at ops) s = then_call (eval_all w ops s) (call_own w f at)
   eval w (first at a) s = then_eval (eval w a s) (λ v s. Gives (first_of v) s)
   eval w (second at a) s = then_eval (eval w a s) (λ v s. Gives (second_of v) s)
   eval w (container x) s = Gives (container_at (cont_of s x)) s

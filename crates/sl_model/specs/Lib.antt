@@ -25,6 +25,7 @@ pub mod Rows
 pub mod Library
 pub mod State
 pub mod Ends
+pub mod Binding
 pub mod Eval
 pub mod Exec
 pub mod Calls

@@ -10,8 +10,9 @@ use Rattle.sl_model.specs.Values.{Lib, Value, number}
 use Rattle.sl_model.specs.Library.{lib}
 use Rattle.sl_model.specs.Ends.{End, Done, Finish, kept}
 use Rattle.sl_model.specs.State.{State}
-use Rattle.sl_model.specs.Eval.{Out, Gives, Stops}
-use Rattle.sl_model.specs.Calls.{call_of, no_frame}
+use Rattle.sl_model.specs.Binding.{no_frame}
+use Rattle.sl_model.specs.Eval.{Out, Gives, Stops, call_own}
+use Rattle.sl_model.specs.Calls.{world_of, call_of}
 
 -- nothing is there yet
 abbrev pub empty_state : List ℤ → List ℕ → ℕ → State
@@ -41,9 +42,13 @@ abbrev pub finished : Out → Finish
 finished (Gives v s) = record { end = done_with v; output = kept s.written }
 finished (Stops e s) = record { end = e; output = kept s.written }
 
--- the run of a text over a library, on an input, a schedule and a number of steps
+-- what `main` leaves in a run over a library, on an input, a schedule and a number of steps
+abbrev pub out_of : Lib → Typed → List ℤ → List ℕ → ℕ → Out
+out_of lib p input picks steps = call_own (world_of lib p (call_of lib CALLS p)) p.main first_place [] (empty_state input picks steps)
+
+-- the run of a text over a library
 abbrev pub run_over : Lib → Typed → List ℤ → List ℕ → ℕ → Finish
-run_over lib p input picks steps = finished (call_of lib CALLS p p.main first_place [] (empty_state input picks steps))
+run_over lib p input picks steps = finished (out_of lib p input picks steps)
 
 -- the run of a text
 abbrev pub run : Typed → List ℤ → List ℕ → ℕ → Finish
@@ -51,7 +56,7 @@ run = run_over lib
 
 -- what `main` leaves in a run
 abbrev pub main_out : Typed → List ℤ → List ℕ → ℕ → Out
-main_out p input picks steps = call_of lib CALLS p p.main first_place [] (empty_state input picks steps)
+main_out = out_of lib
 
 -- the state at the end
 abbrev pub end_state : Out → State

@@ -20,7 +20,7 @@ use Rattle.sl_model.specs.Schedule.{pick}
 use Rattle.sl_model.specs.Values.{Value, number, iterator, nothing, LibOut, thrown, trapped, gives}
 use Rattle.sl_model.specs.Ends.{Trapped, OutOfSteps, End}
 use Rattle.sl_model.specs.State.{mark_in, iterator_at, Pointer, State, cont_of, iter_of, stamp_of, new_iterator}
-use Rattle.sl_model.specs.Eval.{Oracle, settle_call}
+use Rattle.sl_model.specs.Eval.{World, settle_call}
 use Rattle.sl_model.specs.Exec.{Flow, Next, Over, Meaning, tick, exec, flow_of, on_stamp, declared, affect}
 use Rattle.sl_model.specs.Effects.{picks_with}
 use Rattle.sl_model.specs.Library.{lib}
@@ -36,7 +36,7 @@ use Rattle.sl_tool.proofs.Lists.{there, get_or-there}
 use Rattle.sl_tool.proofs.Calls.{lib-vector, lib-begin, lib-push_back, bare, pushing, pushed_back, lib-star_valid, lib-star_invalid}
 use Rattle.sl_tool.proofs.Calls.{starring, at_element, cont_at-there}
 use Rattle.sl_tool.proofs.Kept.{kept-vector, kept-begin, kept-valid, kept-push, after_push}
-use Rattle.sl_tool.proofs.Steps.{world_of, vector_in, located, vector_flow, push_flow, star_flow}
+use Rattle.sl_tool.proofs.Steps.{with_library, vector_in, located, vector_flow, push_flow, star_flow}
 use Rattle.sl_tool.proofs.Exactly.{IsPlain, IsGone, stands_still, full-vector, full-begin, full-valid, full-push}
 use Rattle.sl_model.proofs.Located.{locate-at, locate-dropped}
 use Rattle.sl_model.proofs.Buried.{dropped-killer}
@@ -75,10 +75,10 @@ none_left zero xs e = e
 none_left (suc n) [] e = refl
 none_left (suc n) (x ∷ xs) e = absurd cc
 
-pub plain-vector : (k : Known) (own : Oracle) (place named : Place) (n : ℕ) (s : State) → IsPlain k (n + 1) s
-    → GoesOn (with_vector k) n (exec (world_of own) (stmt_of (Vector place named)) s)
+pub plain-vector : (k : Known) (own : World) (place named : Place) (n : ℕ) (s : State) → IsPlain k (n + 1) s
+    → GoesOn (with_vector k) n (exec (with_library own) (stmt_of (Vector place named)) s)
 plain-vector k own place named n s p =
-    steps-on (GoesOn (with_vector k) n) (declared (world_of own) (makes f.Vector (free_call (callees.Row vector_row) place []) none)) n s
+    steps-on (GoesOn (with_vector k) n) (declared (with_library own) (makes f.Vector (free_call (callees.Row vector_row) place []) none)) n s
     p.steps (λ m left.
     subst (λ (out : LibOut). GoesOn (with_vector k) n (vector_flow place (record s { steps = m }) out)) (sym (lib-vector s.memory s.picks))
     (record {
@@ -88,14 +88,14 @@ plain-vector k own place named n s p =
       steps = left;
     }))
 
-pub plain-begin : (k : Known) (own : Oracle) (place named : Place) (v name n : ℕ) (s : State) → IsPlain k (n + 1) s → v < length k.filled
-    → GoesOn (with_iterator k v) n (exec (world_of own) (stmt_of (Begin place v name named)) s)
+pub plain-begin : (k : Known) (own : World) (place named : Place) (v name n : ℕ) (s : State) → IsPlain k (n + 1) s → v < length k.filled
+    → GoesOn (with_iterator k v) n (exec (with_library own) (stmt_of (Begin place v name named)) s)
 plain-begin k own place named v name n s p lt =
     let h : Head = member_call begin_row place None v name in
     let d : Describes k s.memory s.frame s.iters = p.described in
     let c = vector_in k s.memory s.frame s.iters v d lt in
     let at : cont_of s v ≡ v = located s.frame.conts (length k.filled) v d.conts_frame lt in
-    steps-on (GoesOn (with_iterator k v) n) (declared (world_of own) (set_iterator (call h none))) n s p.steps (λ m left.
+    steps-on (GoesOn (with_iterator k v) n) (declared (with_library own) (set_iterator (call h none))) n s p.steps (λ m left.
     let now : State = record s { steps = m } in
     subst (λ (out : LibOut). GoesOn (with_iterator k v) n (flow_of (settle_call h [] out now) (on_stamp (λ stamp t. Next (new_iterator stamp t)))))
     (sym (ap (λ (j : ℕ). lib (callees.Row begin_row) (bare (Some j)) s.memory s.picks) at
@@ -124,15 +124,15 @@ push_plain k h vs n s v c z site p at few = by_size (nat_lt ELEMENTS (size c + 1
       steps = p.steps;
     }
 
-pub plain-push : (k : Known) (own : Oracle) (place : Place) (v name site z n : ℕ) (s : State) → IsPlain k (n + 1) s → v < length k.filled
+pub plain-push : (k : Known) (own : World) (place : Place) (v name site z n : ℕ) (s : State) → IsPlain k (n + 1) s → v < length k.filled
     → length k.pushes < ELEMENTS
-    → GoesOn (with_push k v site) n (exec (world_of own) (stmt_of (PushBack place v name site z)) s)
+    → GoesOn (with_push k v site) n (exec (with_library own) (stmt_of (PushBack place v name site z)) s)
 plain-push k own place v name site z n s p lt few =
     let h : Head = member_call push_back_row place (Some site) v name in
     let d : Describes k s.memory s.frame s.iters = p.described in
     let c = vector_in k s.memory s.frame s.iters v d lt in
     let at : cont_of s v ≡ v = located s.frame.conts (length k.filled) v d.conts_frame lt in
-    steps-on (GoesOn (with_push k v site) n) (affect (world_of own) (evaluates (call h (with (literal t.Int (pos z)) none)))) n s p.steps (λ m left.
+    steps-on (GoesOn (with_push k v site) n) (affect (with_library own) (evaluates (call h (with (literal t.Int (pos z)) none)))) n s p.steps (λ m left.
     let now : State = record s { steps = m } in
     subst (λ (out : LibOut). GoesOn (with_push k v site) n (push_flow h (number (pos z) ∷ []) now out))
     (sym (ap (λ (j : ℕ). lib (callees.Row push_back_row) (pushing site j (pos z)) s.memory s.picks) at
@@ -206,10 +206,10 @@ star_plain names k place name it n held_there standing s (x ∷ xs) p at known s
     (locate-dropped s.memory (mark_in held_there) gone.0 p.described.sound (dropped-killer s.memory (mark_in held_there) gone.0 gone.1))))
     (star_gone names place name (mark_in held_there) gone.0 x xs (killers_of k standing) s some gone.1 gone.2)
 
-pub plain-star : (names : List (List ℕ)) (k : Known) (own : Oracle) (place named : Place) (it name n : ℕ) (s : State) → IsPlain k (n + 1) s
+pub plain-star : (names : List (List ℕ)) (k : Known) (own : World) (place named : Place) (it name n : ℕ) (s : State) → IsPlain k (n + 1) s
     → it < length k.iterators
     → GoesOrTraps names (found_valid k it (standing_at k it)) n (standing_at k it).at_element (dereferenced k place name (standing_at k it))
-    (exec (world_of own) (stmt_of (Dereference place it name named)) s)
+    (exec (with_library own) (stmt_of (Dereference place it name named)) s)
 plain-star names k own place named it name n s p lt =
     let d : Describes k s.memory s.frame s.iters = p.described in
     let standing : Standing = standing_at k it in
@@ -220,7 +220,7 @@ plain-star names k own place named it name n s p lt =
     ∙ ap mark_in (get_or-there s.iters it pointer.0 (iterator_at 0) pointer.1) in
     let is : standing ≡ known.0 = get_or-there k.iterators it known.0 (record { vector = 0; at_element = true; since = 0 }) known.1 in
     steps-on (GoesOrTraps names (found_valid k it standing) n standing.at_element (dereferenced k place name standing))
-    (declared (world_of own)
+    (declared (with_library own)
     (set_scalar t.Int (held (element (free_call (callees.Operator operators.Dereference) place (None ∷ Some name ∷ []))
     (with (iterator_operand it) none))))) n s
     p.steps (λ m left.

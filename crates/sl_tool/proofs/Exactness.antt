@@ -13,9 +13,9 @@ use Rattle.sl_model.specs.Numbers.{fits}
 use Rattle.sl_syntax.specs.SubsetView.{stmt_of, stmts_of, typed_of, main_of, brace_site}
 use Rattle.sl_model.specs.Ends.{End, Trapped, Trap, Done, OutOfSteps, Language, Thrown, NoMeaning}
 use Rattle.sl_model.specs.State.{State}
-use Rattle.sl_model.specs.Eval.{Oracle}
+use Rattle.sl_model.specs.Eval.{World, come_back}
 use Rattle.sl_model.specs.Exec.{Flow, Next, Broke, Continued, Returned, Over, Meaning, and_then, exec, exec_all, scoped}
-use Rattle.sl_model.specs.Calls.{called, call_of}
+use Rattle.sl_model.specs.Calls.{body_gives, world_of, call_of}
 use Rattle.sl_model.specs.Run.{empty_state, finished, run}
 use Rattle.sl_model.specs.Library.{lib}
 use Rattle.sl_model.specs.Covers.{Tells, Safe, Warning as WarningValue}
@@ -27,7 +27,7 @@ use Rattle.sl_tool.specs.Means.Told.{report_of, warning_of}
 use Rattle.sl_tool.specs.Exactness.{IsMet, IsExact}
 use Rattle.sl_tool.proofs.Soundness.{same_uses, begins, safe as safe_if_empty}
 use Rattle.sl_tool.proofs.Kept.{valid}
-use Rattle.sl_tool.proofs.Steps.{world_of}
+use Rattle.sl_tool.proofs.Steps.{with_library}
 use Rattle.sl_tool.proofs.Exactly.{IsPlain}
 use Rattle.sl_tool.proofs.ExactSteps.{GoesOn, GoesOrTraps, IsTrap, EndsTrapped, plain-vector, plain-push, plain-begin, plain-star}
 
@@ -63,40 +63,40 @@ one_more : (k : Known) (n : ℕ) (s : State) → IsPlain k (suc n) s → IsPlain
 one_more k n s p = rw add-one p
 
 -- the statements from a state of the plainest run: it ends in a trap that the first warning tells of
-walk_exact : (names : List (List ℕ)) (own : Oracle) (ss : List Stmt) (k : Known) (s : State) (w : Warning) (ws : List Warning)
+walk_exact : (names : List (List ℕ)) (own : World) (ss : List Stmt) (k : Known) (s : State) (w : Warning) (ws : List Warning)
     → IsPlain k (length ss) s → UsesDeclared (length k.filled) (length k.iterators) ss → length k.pushes + length ss ≤ ELEMENTS
     → warnings_of k ss ≡ w ∷ ws
-    → EndsTrapped names w (exec_all (world_of own) (stmts_of ss) s)
+    → EndsTrapped names w (exec_all (with_library own) (stmts_of ss) s)
 walk_exact names own [] k s w ws p u few e = absurd cc
 walk_exact names own (Vector place named ∷ ss) k s w ws p u few e =
     goes-or-traps names (with_vector k) (length ss) true [] (warnings_of (with_vector k) ss) w ws
-    (exec (world_of own) (stmt_of (Vector place named)) s) (exec_all (world_of own) (stmts_of ss)) e
+    (exec (with_library own) (stmt_of (Vector place named)) s) (exec_all (with_library own) (stmts_of ss)) e
     (refl, plain-vector k own place named (length ss) s (one_more k (length ss) s p))
     (λ t q r. walk_exact names own ss (with_vector k) t w ws q (same_uses _ _ _ _ ss (sym (length-append k.filled (false ∷ []))) refl u)
     (omega arith) r)
 walk_exact names own (PushBack place v name site z ∷ ss) k s w ws p u few e =
     goes-or-traps names (with_push k v site) (length ss) true [] (warnings_of (with_push k v site) ss) w ws
-    (exec (world_of own) (stmt_of (PushBack place v name site z)) s) (exec_all (world_of own) (stmts_of ss)) e
+    (exec (with_library own) (stmt_of (PushBack place v name site z)) s) (exec_all (with_library own) (stmts_of ss)) e
     (refl, plain-push k own place v name site z (length ss) s (one_more k (length ss) s p) u.0 (omega arith))
     (λ t q r. walk_exact names own ss (with_push k v site) t w ws q (same_uses _ _ _ _ ss (sym (length-set k.filled v true)) refl u.1)
     (let more = length-append k.pushes (record { vector = v; site = site } ∷ []) in omega arith) r)
 walk_exact names own (Begin place v name named ∷ ss) k s w ws p u few e =
     goes-or-traps names (with_iterator k v) (length ss) true [] (warnings_of (with_iterator k v) ss) w ws
-    (exec (world_of own) (stmt_of (Begin place v name named)) s) (exec_all (world_of own) (stmts_of ss)) e
+    (exec (with_library own) (stmt_of (Begin place v name named)) s) (exec_all (with_library own) (stmts_of ss)) e
     (refl, plain-begin k own place named v name (length ss) s (one_more k (length ss) s p) u.0)
     (λ t q r. walk_exact names own ss (with_iterator k v) t w ws q
     (same_uses _ _ _ _ ss refl (sym (length-append k.iterators (record { vector = v; at_element = is_filled k v; since = length k.pushes } ∷ [])))
     u.1) (omega arith) r)
 walk_exact names own (Dereference place it name named ∷ ss) k s w ws p u few e =
     goes-or-traps names (found_valid k it (standing_at k it)) (length ss) (standing_at k it).at_element (warned k (Dereference place it name named))
-    (warnings_of (found_valid k it (standing_at k it)) ss) w ws (exec (world_of own) (stmt_of (Dereference place it name named)) s)
-    (exec_all (world_of own) (stmts_of ss)) e (plain-star names k own place named it name (length ss) s (one_more k (length ss) s p) u.0)
+    (warnings_of (found_valid k it (standing_at k it)) ss) w ws (exec (with_library own) (stmt_of (Dereference place it name named)) s)
+    (exec_all (with_library own) (stmts_of ss)) e (plain-star names k own place named it name (length ss) s (one_more k (length ss) s p) u.0)
     (λ t q r. walk_exact names own ss (found_valid k it (standing_at k it)) t w ws q
     (same_uses _ _ _ _ ss refl (sym (length-set k.iterators it (valid k (standing_at k it)))) u.1) (omega arith) r)
 
 -- the end of `main` is that of its body
 finished_trap : (names : List (List ℕ)) (w : Warning) (f : Function) (before start : State) (site : ℕ) (flow : Flow) → EndsTrapped names w flow
-    → IsTrap names w (finished (called true f before (scoped site start flow))).end
+    → IsTrap names w (finished (come_back before (body_gives true f (scoped site start flow)))).end
 finished_trap names w f before start site (Next s) h = absurd h
 finished_trap names w f before start site (Broke s) h = absurd h
 finished_trap names w f before start site (Continued s) h = absurd h
@@ -130,8 +130,8 @@ pub meets-first : (p : Text) → UsesDeclared 0 0 p.stmts → length p.stmts ≤
     → warnings_of nothing_known p.stmts ≡ w ∷ ws → IsMet (typed_of p) (warning_of p.names w)
 meets-first p u few w ws e =
     let s : State = empty_state [] [] STATEMENTS in
-    let flow : Flow = exec_all (world_of (call_of lib 255 (typed_of p))) (stmts_of p.stmts) s in
-    let trapped : EndsTrapped p.names w flow = walk_exact p.names (call_of lib 255 (typed_of p)) p.stmts nothing_known s w ws
+    let flow : Flow = exec_all (world_of lib (typed_of p) (call_of lib 255 (typed_of p))) (stmts_of p.stmts) s in
+    let trapped : EndsTrapped p.names w flow = walk_exact p.names (world_of lib (typed_of p) (call_of lib 255 (typed_of p))) p.stmts nothing_known s w ws
     (begins_plain (length p.stmts) few) u (omega arith) e in
     let t = trap_in p.names w (run (typed_of p) [] [] STATEMENTS).end
     (finished_trap p.names w (main_of p.stmts p.close) s s (unwrap_or (brace_site p.stmts) 0) flow trapped) in

@@ -8,9 +8,8 @@ use Rattle.sl_syntax.specs.declared.subset.Text.{Text}
 use Rattle.sl_syntax.specs.SubsetView.{stmts_of, main_of, typed_of}
 use Rattle.sl_base.specs.declared.limits.TheConstants.{CALLS}
 use Rattle.sl_specs.specs.Table.{table}
-use Rattle.sl_model.specs.Calls.{call_of}
 use Rattle.sl_model.specs.Library.{lib}
-use Rattle.sl_model.specs.Run.{empty_state, first_place}
+use Rattle.sl_model.specs.Run.{out_of}
 use Rattle.sl_model.specs.Shapes.{Signature, a_number, lib_shape, lib_makes, signature_of}
 use Rattle.sl_model.specs.Scoped.{InStmts, IsScopedFunction, IsScoped}
 use Rattle.sl_model.proofs.RunGood.{IsGoodOut, run-good}
@@ -52,5 +51,5 @@ is_scoped p of_text =
 
 -- and its runs keep the invariant of states
 pub runs-good : (p : Text) → IsOfText p → (input : List ℤ) (picks : List ℕ) (steps : ℕ)
-    → IsGoodOut (call_of lib CALLS (typed_of p) (typed_of p).main first_place [] (empty_state input picks steps))
+    → IsGoodOut (out_of lib (typed_of p) input picks steps)
 runs-good p of_text input picks steps = run-good (typed_of p) (is_scoped p of_text) input picks steps

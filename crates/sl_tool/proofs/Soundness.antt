@@ -9,9 +9,9 @@ use Rattle.sl_syntax.specs.Typed.{Function}
 use Rattle.sl_syntax.specs.SubsetView.{stmt_of, stmts_of, typed_of, main_of, brace_site}
 use Rattle.sl_model.specs.Ends.{Trap}
 use Rattle.sl_model.specs.State.{State}
-use Rattle.sl_model.specs.Eval.{Oracle}
+use Rattle.sl_model.specs.Eval.{World, come_back}
 use Rattle.sl_model.specs.Exec.{Flow, Next, Broke, Continued, Returned, Over, exec, exec_all, scoped}
-use Rattle.sl_model.specs.Calls.{called, call_of}
+use Rattle.sl_model.specs.Calls.{body_gives, world_of, call_of}
 use Rattle.sl_model.specs.Values.{Value, nothing, number, iterator, pair, two, scalar_at, container_at, element_at}
 use Rattle.sl_model.specs.Run.{done_with, empty_state, finished, run}
 use Rattle.sl_model.specs.Library.{lib}
@@ -25,34 +25,34 @@ use Rattle.sl_tool.specs.Means.Told.{report_of}
 use Rattle.sl_tool.proofs.Describes.{Describes}
 use Rattle.sl_tool.proofs.Goes.{EndsTold, IsTold, goes-on}
 use Rattle.sl_tool.proofs.Kept.{valid}
-use Rattle.sl_tool.proofs.Steps.{world_of, goes-vector, goes-push_back, goes-begin, goes-star}
+use Rattle.sl_tool.proofs.Steps.{with_library, goes-vector, goes-push_back, goes-begin, goes-star}
 
 pub same_uses : (a b c d : ℕ) (ss : List Stmt) → a ≡ c → b ≡ d → UsesDeclared a b ss → UsesDeclared c d ss
 same_uses a b c d ss e q h = rw (← e, ← q) h
 
 -- the statements from a state that is described
-pub walk : (names : List (List ℕ)) (own : Oracle) (ss : List Stmt) (k : Known) (s : State) → Describes k s.memory s.frame s.iters
+pub walk : (names : List (List ℕ)) (own : World) (ss : List Stmt) (k : Known) (s : State) → Describes k s.memory s.frame s.iters
     → UsesDeclared (length k.filled) (length k.iterators) ss
-    → EndsTold names (warnings_of k ss) (exec_all (world_of own) (stmts_of ss) s)
+    → EndsTold names (warnings_of k ss) (exec_all (with_library own) (stmts_of ss) s)
 walk names own [] k s d u = tt
 walk names own (Vector place named ∷ ss) k s d u =
-    goes-on names (with_vector k) true [] (warnings_of (with_vector k) ss) (exec (world_of own) (stmt_of (Vector place named)) s)
-    (exec_all (world_of own) (stmts_of ss)) (goes-vector names k own place named s d)
+    goes-on names (with_vector k) true [] (warnings_of (with_vector k) ss) (exec (with_library own) (stmt_of (Vector place named)) s)
+    (exec_all (with_library own) (stmts_of ss)) (goes-vector names k own place named s d)
     (λ t e. walk names own ss (with_vector k) t e (same_uses _ _ _ _ ss (sym (length-append k.filled (false ∷ []))) refl u))
 walk names own (PushBack place v name site z ∷ ss) k s d u =
-    goes-on names (with_push k v site) true [] (warnings_of (with_push k v site) ss) (exec (world_of own) (stmt_of (PushBack place v name site z)) s)
-    (exec_all (world_of own) (stmts_of ss)) (goes-push_back names k own place v name site z s d u.0)
+    goes-on names (with_push k v site) true [] (warnings_of (with_push k v site) ss) (exec (with_library own) (stmt_of (PushBack place v name site z)) s)
+    (exec_all (with_library own) (stmts_of ss)) (goes-push_back names k own place v name site z s d u.0)
     (λ t e. walk names own ss (with_push k v site) t e (same_uses _ _ _ _ ss (sym (length-set k.filled v true)) refl u.1))
 walk names own (Begin place v name named ∷ ss) k s d u =
-    goes-on names (with_iterator k v) true [] (warnings_of (with_iterator k v) ss) (exec (world_of own) (stmt_of (Begin place v name named)) s)
-    (exec_all (world_of own) (stmts_of ss)) (goes-begin names k own place named v name s d u.0)
+    goes-on names (with_iterator k v) true [] (warnings_of (with_iterator k v) ss) (exec (with_library own) (stmt_of (Begin place v name named)) s)
+    (exec_all (with_library own) (stmts_of ss)) (goes-begin names k own place named v name s d u.0)
     (λ t e. walk names own ss (with_iterator k v) t e
     (same_uses _ _ _ _ ss refl
     (sym (length-append k.iterators (record { vector = v; at_element = is_filled k v; since = length k.pushes } ∷ []))) u.1))
 walk names own (Dereference place it name named ∷ ss) k s d u =
     goes-on names (found_valid k it (standing_at k it)) (standing_at k it).at_element (warned k (Dereference place it name named))
-    (warnings_of (found_valid k it (standing_at k it)) ss) (exec (world_of own) (stmt_of (Dereference place it name named)) s)
-    (exec_all (world_of own) (stmts_of ss)) (goes-star names k own place named it name s d u.0)
+    (warnings_of (found_valid k it (standing_at k it)) ss) (exec (with_library own) (stmt_of (Dereference place it name named)) s)
+    (exec_all (with_library own) (stmts_of ss)) (goes-star names k own place named it name s d u.0)
     (λ t e. walk names own ss (found_valid k it (standing_at k it)) t e
     (same_uses _ _ _ _ ss refl (sym (length-set k.iterators it (valid k (standing_at k it)))) u.1))
 
@@ -84,7 +84,7 @@ done_told names ws (element_at i k p) = tt
 
 -- the end of `main` is that of its body
 finished_told : (names : List (List ℕ)) (ws : List Warning) (f : Function) (before start : State) (site : ℕ) (flow : Flow) → EndsTold names ws flow
-    → IsTold names ws (finished (called true f before (scoped site start flow))).end
+    → IsTold names ws (finished (come_back before (body_gives true f (scoped site start flow)))).end
 finished_told names ws f before start site (Next s) h = tt
 finished_told names ws f before start site (Broke s) h = tt
 finished_told names ws f before start site (Continued s) h = tt
@@ -97,8 +97,8 @@ pub run_told : (p : Text) (input : List ℤ) (picks : List ℕ) (steps : ℕ) �
 run_told p input picks steps u =
     let s : State = empty_state input picks steps in
     finished_told p.names (warnings_of nothing_known p.stmts) (main_of p.stmts p.close) s s (unwrap_or (brace_site p.stmts) 0)
-    (exec_all (world_of (call_of lib 255 (typed_of p))) (stmts_of p.stmts) s)
-    (walk p.names (call_of lib 255 (typed_of p)) p.stmts nothing_known s (begins input picks steps) u)
+    (exec_all (world_of lib (typed_of p) (call_of lib 255 (typed_of p))) (stmts_of p.stmts) s)
+    (walk p.names (world_of lib (typed_of p) (call_of lib 255 (typed_of p))) p.stmts nothing_known s (begins input picks steps) u)
 
 -- the report covers the trap of every run
 pub reports : (p : Text) → UsesDeclared 0 0 p.stmts → Reports (typed_of p) (report_of p.names (warnings_of nothing_known p.stmts))

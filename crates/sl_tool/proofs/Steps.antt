@@ -21,7 +21,7 @@ use Rattle.sl_model.specs.Values.{Value, number, iterator, nothing, element_at, 
 use Rattle.sl_model.specs.Good.{IsAt}
 use Rattle.sl_model.specs.Ends.{Trap}
 use Rattle.sl_model.specs.State.{Pointer, iterator_at, mark_in, State, Frame, cont_of, iter_of, stamp_of, new_scalar, new_iterator, new_container}
-use Rattle.sl_model.specs.Eval.{Oracle, World, then_eval, settle_call, read_at}
+use Rattle.sl_model.specs.Eval.{World, then_eval, settle_call, read_at}
 use Rattle.sl_model.specs.Exec.{Flow, Next, exec, flow_of, on_number, on_stamp, declared, affect}
 use Rattle.sl_model.specs.Effects.{picks_with}
 use Rattle.sl_model.specs.Library.{lib}
@@ -40,18 +40,18 @@ use Rattle.sl_model.proofs.Located.{locate-at, locate-dropped}
 use Rattle.sl_model.proofs.Buried.{dropped-killer}
 
 -- the world of a text: the library, and whatever its own functions do
-abbrev pub world_of : Oracle → World
-world_of own = record { lib = lib; own = own }
+abbrev pub with_library : World → World
+with_library own = record own { lib = lib }
 
 -- what follows the making of a vector
 abbrev pub vector_flow : Place → State → LibOut → Flow
 vector_flow place s out = flow_of (settle_call (free_call (callees.Row vector_row) place []) [] out s)
     (λ v t. Next (new_container (length s.memory.conts) t))
 
-pub goes-vector : (names : List (List ℕ)) (k : Known) (own : Oracle) (place named : Place) (s : State) → Describes k s.memory s.frame s.iters
-    → Goes names (with_vector k) true [] (exec (world_of own) (stmt_of (Vector place named)) s)
+pub goes-vector : (names : List (List ℕ)) (k : Known) (own : World) (place named : Place) (s : State) → Describes k s.memory s.frame s.iters
+    → Goes names (with_vector k) true [] (exec (with_library own) (stmt_of (Vector place named)) s)
 goes-vector names k own place named s d = ticked names (with_vector k) true []
-    (declared (world_of own) (makes f.Vector (free_call (callees.Row vector_row) place []) none)) s (λ n.
+    (declared (with_library own) (makes f.Vector (free_call (callees.Row vector_row) place []) none)) s (λ n.
     subst (λ (out : LibOut). Goes names (with_vector k) true [] (vector_flow place (record s { steps = n }) out))
     (sym (lib-vector s.memory s.picks)) (refl, kept-vector k s.memory s.frame s.iters (pick s.picks) d))
 
@@ -77,28 +77,28 @@ push_case names k h vs s v c z site d at = by_size (nat_lt ELEMENTS (size c + 1)
     by_size true e = tt
     by_size false e = (refl, kept-push k s.memory s.frame s.iters v c z s.picks site d at (ltb-false ELEMENTS (size c + 1) e))
 
-pub goes-push_back : (names : List (List ℕ)) (k : Known) (own : Oracle) (place : Place) (v name site z : ℕ) (s : State)
+pub goes-push_back : (names : List (List ℕ)) (k : Known) (own : World) (place : Place) (v name site z : ℕ) (s : State)
     → Describes k s.memory s.frame s.iters → v < length k.filled
-    → Goes names (with_push k v site) true [] (exec (world_of own) (stmt_of (PushBack place v name site z)) s)
+    → Goes names (with_push k v site) true [] (exec (with_library own) (stmt_of (PushBack place v name site z)) s)
 goes-push_back names k own place v name site z s d lt =
     let h : Head = member_call push_back_row place (Some site) v name in
     let c = vector_in k s.memory s.frame s.iters v d lt in
     let at : cont_of s v ≡ v = located s.frame.conts (length k.filled) v d.conts_frame lt in
-    ticked names (with_push k v site) true [] (affect (world_of own) (evaluates (call h (with (literal t.Int (pos z)) none)))) s (λ n.
+    ticked names (with_push k v site) true [] (affect (with_library own) (evaluates (call h (with (literal t.Int (pos z)) none)))) s (λ n.
     let now : State = record s { steps = n } in
     subst (λ (out : LibOut). Goes names (with_push k v site) true [] (push_flow h (number (pos z) ∷ []) now out))
     (sym (ap (λ (j : ℕ). lib (callees.Row push_back_row) (pushing site j (pos z)) s.memory s.picks) at
     ∙ lib-push_back s.memory v c.0 (pos z) s.picks site c.1 (d.forms v c.0 c.1)))
     (push_case names k h (number (pos z) ∷ []) now v c.0 (converted t.Int (pos z)) site d c.1))
 
-pub goes-begin : (names : List (List ℕ)) (k : Known) (own : Oracle) (place named : Place) (v name : ℕ) (s : State)
+pub goes-begin : (names : List (List ℕ)) (k : Known) (own : World) (place named : Place) (v name : ℕ) (s : State)
     → Describes k s.memory s.frame s.iters → v < length k.filled
-    → Goes names (with_iterator k v) true [] (exec (world_of own) (stmt_of (Begin place v name named)) s)
+    → Goes names (with_iterator k v) true [] (exec (with_library own) (stmt_of (Begin place v name named)) s)
 goes-begin names k own place named v name s d lt =
     let h : Head = member_call begin_row place None v name in
     let c = vector_in k s.memory s.frame s.iters v d lt in
     let at : cont_of s v ≡ v = located s.frame.conts (length k.filled) v d.conts_frame lt in
-    ticked names (with_iterator k v) true [] (declared (world_of own) (set_iterator (call h none))) s (λ n.
+    ticked names (with_iterator k v) true [] (declared (with_library own) (set_iterator (call h none))) s (λ n.
     let now : State = record s { steps = n } in
     subst (λ (out : LibOut). Goes names (with_iterator k v) true []
     (flow_of (settle_call h [] out now) (on_stamp (λ stamp t. Next (new_iterator stamp t)))))
@@ -183,10 +183,10 @@ star_invalid : (names : List (List ℕ)) (k : Known) (place : Place) (name it st
     → Goes names (found_valid k it standing) standing.at_element (dereferenced k place name standing) (star_flow place name stamp s (trapped 1 1))
 star_invalid names k place name it stamp site standing s e h = rw e (told_invalid names place name (killers_of k standing) standing.at_element site h)
 
-pub goes-star : (names : List (List ℕ)) (k : Known) (own : Oracle) (place named : Place) (it name : ℕ) (s : State)
+pub goes-star : (names : List (List ℕ)) (k : Known) (own : World) (place named : Place) (it name : ℕ) (s : State)
     → Describes k s.memory s.frame s.iters → it < length k.iterators
     → Goes names (found_valid k it (standing_at k it)) (standing_at k it).at_element (dereferenced k place name (standing_at k it))
-    (exec (world_of own) (stmt_of (Dereference place it name named)) s)
+    (exec (with_library own) (stmt_of (Dereference place it name named)) s)
 goes-star names k own place named it name s d lt =
     let standing : Standing = standing_at k it in
     let known = there k.iterators it lt in
@@ -197,7 +197,7 @@ goes-star names k own place named it name s d lt =
     ∙ ap mark_in (get_or-there s.iters it pointer.0 (iterator_at 0) pointer.1) in
     let is : standing ≡ known.0 = get_or-there k.iterators it known.0 (record { vector = 0; at_element = true; since = 0 }) known.1 in
     ticked names (found_valid k it standing) standing.at_element (dereferenced k place name standing)
-    (declared (world_of own)
+    (declared (with_library own)
     (set_scalar t.Int (held (element (free_call (callees.Operator operators.Dereference) place (None ∷ Some name ∷ []))
     (with (iterator_operand it) none))))) s (λ n.
     let now : State = record s { steps = n } in

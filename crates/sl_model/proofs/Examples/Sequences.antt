@@ -149,6 +149,12 @@ vector_at_throws : on_first row.VECTOR_AT (number (pos 3) ∷ []) (three f.Vecto
 unfolding table
 vector_at_throws = refl
 
+-- insert(p, n, x) with n as great as a std::size_t may be: too many elements, whatever the room
+vector_insert_too_many : on_first row.VECTOR_INSERT_FILL (iterator 1 ∷ number (pos 18446744073709551615) ∷ number (pos 15) ∷ [])
+    (three f.Vector 3 10 20 30) [] ≡ thrown
+unfolding table
+vector_insert_too_many = refl
+
 vector_subscript_traps : on_first row.VECTOR_SUBSCRIPT (number (pos 3) ∷ []) (three f.Vector 3 10 20 30) [] ≡ trapped 5 0
 unfolding table
 vector_subscript_traps = refl
