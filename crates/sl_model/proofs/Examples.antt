@@ -52,6 +52,7 @@ pub mod ListEdges
 pub mod ListLimits
 pub mod EndTexts
 pub mod Generated
+pub mod SortedLists
 pub mod RunCases1
 pub mod RunCases2
 pub mod RowCases1
