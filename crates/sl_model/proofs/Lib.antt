@@ -57,6 +57,7 @@ pub mod KeysAfter
 pub mod KeyInOrder
 pub mod OrderlyEffects
 pub mod TidyRows
+pub mod RunOrderly
 -- ## Scoped texts: each state of a run is good
 pub mod Locations
 pub mod Levels
