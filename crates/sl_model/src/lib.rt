@@ -1,5 +1,4 @@
-// What a run of a C++17 text with standard containers is. The definitions are in `specs/`; here are some laws about
-// them, and the types of a run's end.
+// What a run of a C++17 text with standard containers is: laws of the definitions in `specs/`, and types for its end.
 #![tactic(auto)]
 
 mod end;
