@@ -52,11 +52,9 @@ pub mod ListEdges
 pub mod ListLimits
 pub mod EndTexts
 pub mod Generated
+pub mod SortedLists
 pub mod RunCases1
 pub mod RunCases2
-pub mod RunCases3
-pub mod RunCases4
-pub mod RunCases5
 pub mod RowCases1
 pub mod RowCases2
 pub mod RowCases3

@@ -57,6 +57,7 @@ pub mod KeysAfter
 pub mod KeyInOrder
 pub mod OrderlyEffects
 pub mod TidyRows
+pub mod RunOrderly
 -- ## Scoped texts: each state of a run is good
 pub mod Locations
 pub mod Levels
@@ -115,6 +116,8 @@ pub mod ScopedTexts
 pub mod FactsIdle
 pub mod EffectsIdle
 pub mod CarryIdle
+-- ## The end of a run, as the code has it
+pub mod EndViews
 -- ## Lists of numbers: words, parts between blanks, and laws
 pub mod ListWords
 pub mod ListParts

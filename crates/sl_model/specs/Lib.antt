@@ -66,4 +66,5 @@ pub mod IteratorFlows
 pub mod Homes
 pub mod Lists
 pub mod EndText
+pub mod EndView
 pub mod Self
