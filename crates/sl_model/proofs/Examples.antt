@@ -27,6 +27,7 @@ pub mod WellTyped
 pub mod WellTypedFunctions
 pub mod Deciding
 pub mod DecidedTexts
+pub mod UndecidedTexts
 pub mod WrongTypes
 pub mod WrongAccess
 pub mod WrongStatements

@@ -1,9 +1,8 @@
 -- Which rules of decided texts a text breaks, and short ways to write texts of hash forms and of loops.
-use Rattle.std.specs.Prelude.{◌≡◌, ◌≢◌, refl, ℕ, suc, ◌+◌, Bool, true, false, List, [], ◌∷◌, ◌++◌, map, replicate, pos, negsuc, Some}
+use Rattle.std.specs.Prelude.{◌≡◌, ◌≢◌, refl, ℕ, suc, ◌+◌, ◌-◌, Bool, true, false, List, [], ◌∷◌, ◌++◌, pos, Some}
 use Rattle.sl_base.specs.declared.place.Place.{Place}
 use Rattle.sl_base.specs.declared.form.Form.TheVariants as f
 use Rattle.sl_base.specs.declared.scalar.Scalar.TheVariants as t
-use Rattle.sl_specs.specs.declared.rows.sequences.TheConstants as sequence
 use Rattle.sl_specs.specs.declared.rows.associative.TheConstants as associative
 use Rattle.sl_syntax.specs.declared.operator.Comparison.TheVariants as c
 use Rattle.sl_syntax.specs.declared.typed.step.Fix.TheVariants as fixes
@@ -79,8 +78,19 @@ decided p h = let both = parts (judged p) [] [] h in (well p both.0, keeps_all p
 -- a text that is decided breaks no rule
 breaks_none : (p : Typed) → Decided p → unkept (kept p) ≡ []
 breaks_none p d =
-    rw (d.no_own_call, d.no_input, d.no_hash_begin, d.no_hash_step, d.no_hash_loop, d.no_hash_range, d.no_hash_erase, d.no_leaving, d.in_time,
-    d.few_tests, d.small) refl
+    rw (
+      d.no_own_call,
+      d.no_input,
+      d.no_hash_begin,
+      d.no_hash_step,
+      d.no_hash_loop,
+      d.no_hash_range,
+      d.no_hash_erase,
+      d.no_leaving,
+      d.in_time,
+      d.few_tests,
+      d.small,
+    ) refl
 
 -- no list is empty and has an element
 not_both : (rs : List Rule) (rule : Rule) → rs ≡ rule ∷ [] → rs ≢ []
@@ -94,15 +104,23 @@ undecided p rule h = let both = parts (judged p) [] (rule ∷ []) h in
 
 -- the same text, which has this literal beside those from 0 to 9
 abbrev pub with_literal : ℕ → Typed → Typed
-with_literal n p = record p { constants = p.constants ++ map (λ k. pos (n + k)) (0 ∷ 1 ∷ 2 ∷ []) }
+with_literal n p = record p { constants = p.constants ++ pos (n - 1) ∷ pos n ∷ pos (n + 1) ∷ [] }
 
 -- `std::unordered_set<int> s;`
 abbrev pub hash_set : Place → Stmt
 hash_set at = made f.HashSet associative.HASH_SET_CONSTRUCTOR at []
 
--- `s.insert(n)`
+-- `s.insert(n);`
 abbrev pub inserted : Place → ℕ → ℕ → Expr → Stmt
 inserted at site s e = done (calls (on_site associative.HASH_SET_INSERT at site s) (e ∷ []))
+
+-- `s.find(7)`
+abbrev pub seven : Place → ℕ → Expr
+seven at s = calls (on associative.HASH_SET_FIND at s) (int 7 ∷ [])
+
+-- `s.end()`
+abbrev pub hash_end : Place → ℕ → Expr
+hash_end at s = calls (on associative.HASH_SET_END at s) []
 
 -- a text of `main` alone that declares a set in hash order first and puts a 7 into it; behind it stand further sorts of variables and statements with
 -- so many sites
@@ -110,7 +128,11 @@ abbrev pub behind_hash : List VariableKind → ℕ → List Stmt → Typed
 behind_hash kinds sites all =
     alone (variables.Container ∷ kinds) (body_at (suc sites) (hash_set (at 2 3) ∷ inserted (at 3 5) 0 0 (int 7) ∷ all)) (suc (suc sites))
 
--- `for (int i = 0; i < n; ++i)` with number 0 on line 2, where i is the scalar x
-abbrev pub counting : ℕ → ℕ → Stmt → Stmt
-counting x n b = for 0 (declares_first (set_scalar t.Int (int 0))) (test (comparison c.Less (at 2 21) (value x) (int n)))
-    (Some (evaluates (increment steps.Up fixes.Prefix t.Int (at 2 26) (scalar x (at 2 28))))) b
+-- `for (int i = 0; i < n; ++i)` on a line, where i is the scalar x
+abbrev pub counting : ℕ → ℕ → ℕ → Stmt → Stmt
+counting line x n b = for 0 (declares_first (set_scalar t.Int (int 0))) (test (comparison c.Less (at line 21) (value x) (int n)))
+    (Some (evaluates (increment steps.Up fixes.Prefix t.Int (at line 26) (scalar x (at line 28))))) b
+
+-- a text of `main` alone with one loop, and so many sites
+abbrev pub looping : List VariableKind → Stmt → ℕ → Typed
+looping kinds b sites = whole (main_of kinds b ∷ []) 0 sites 1
