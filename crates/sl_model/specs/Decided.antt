@@ -1,14 +1,14 @@
--- Decided texts: those of which one run, with no input, an empty schedule and 20,000 steps, tells whether any run fails.
+-- Decided texts: texts so plain that one run, with no input, an empty schedule and 20,000 steps, is meant to tell whether any run fails. Said of
+-- well typed texts.
 --
--- Said of well typed texts. None of it is the standard's; all of it is chosen here, and most of it is told by what ISO/IEC 14882:2017 leaves open. So
--- that every run does the same, a decided text
+-- No section of ISO/IEC 14882:2017 speaks of them: all of it is chosen here, and much of it follows what the standard leaves open. A decided text
 -- - reads nothing: input may be anything;
--- - asks for no order of a hash form, which is the implementation's ([unord.req]): it takes no `begin`, and goes from no element to the next, by
---   `++`, in a range-for, in a range of a call, by `std::advance`, `std::next` or `std::distance`, or by what `erase(p)` gives;
--- - doesn't leave behind an end what is unspecified, as `std::remove` and `std::unique` do ([alg.remove], [alg.unique]).
--- How far a room lies above a size is open too ([vector.capacity], [unord.req]); but the empty schedule has the least room, which invalidates whatever
--- any other does. That run is short and small besides, so that it can be followed step by step: no calls of the text's own functions, at most 20,000
--- steps, at most 1,000 tests of loops, and no container of more than 64 elements.
+-- - asks for no order of a hash form, which is the implementation's ([unord.req]): it takes no `begin`, and goes from no element to the next, be it
+--   by `++`, in a range-for, in a range of a call, by `std::advance`, `std::next` or `std::distance`, or by what `erase(p)` gives;
+-- - leaves nothing unspecified behind an end, as `std::remove` and `std::unique` do ([alg.remove], [alg.unique]).
+-- How far a room lies above a size is open too ([vector.capacity], [unord.req]). But the empty schedule has the least room, which invalidates what
+-- any other does. And that run can be followed step by step: there are no calls of the text's own functions, at most 20,000 steps and 1,000 tests
+-- of loops, and no container of more than 64 elements.
 use Rattle.std.specs.Prelude.{◌≡◌, ℕ, nat_le, Bool, true, false, not, ◌&&◌, ◌||◌, List, [], ◌∷◌, Option, Some, None}
 use Rattle.std.specs.Prelude.{if◌then◌else◌}
 use Rattle.std.specs.List.{list_all, list_any}
@@ -122,8 +122,8 @@ abbrev pub loops_over_hash : Deed → Bool
 loops_over_hash (a_range_for u) = is_hash_container u
 loops_over_hash d = false
 
--- it hands an iterator of a hash form to a call that takes a range, or to `std::advance`, `std::next` or `std::distance`. In a call that takes a range
--- each iterator of a hash form is an end of one: none is a position beside it or an output.
+-- it hands an iterator of a hash form to a call that takes a range, or to `std::advance`, `std::next` or `std::distance`. In a call that takes a
+-- range each iterator of a hash form is an end of one: none is a position beside it or an output.
 abbrev pub goes_along_hash : Deed → Bool
 goes_along_hash (a_library_call used callee us) = is_row_that goes_along callee && has_hash_iterator us
 goes_along_hash d = false
@@ -176,7 +176,7 @@ abbrev pub is_without_meaning : End → Bool
 is_without_meaning (NoMeaning at) = true
 is_without_meaning e = false
 
--- in no moment of the run a container has more elements than the checker knows one by one: with the library that has no such calls it is the same run
+-- at no moment of the run a container has more than 64 elements: over the library without the calls that leave more, it meets none that is missing
 unfoldable pub stays_small : Typed → Bool
 unfolding table
 stays_small p = not (is_without_meaning (run_over (lib_within WINDOW) p [] [] decided_steps).end)
