@@ -92,7 +92,7 @@ pub mod FormsEffects
 pub mod FormsRows
 pub mod LibraryForms
 pub mod SortsFit
-pub mod OperatorsFit
+pub mod OperatorSorts
 pub mod TypedRows
 pub mod TableLetters
 pub mod RowIsThere

@@ -22,7 +22,7 @@ use Rattle.sl_model.specs.WellTypedCalls.{operator_type, call_type}
 use Rattle.sl_model.specs.WellTypedStatements.{is_making}
 use Rattle.sl_model.proofs.Called.{IsCalled, situation, has_object}
 use Rattle.sl_model.proofs.Fitting.{forms_of, IsIteratorOf, Fits, AllFit, ObjectFits}
-use Rattle.sl_model.proofs.OperatorsFit.{operator_operands_of}
+use Rattle.sl_model.proofs.OperatorSorts.{operator_operands_of}
 use Rattle.sl_model.proofs.SortsFit.{is_of_this, iterator_of, more_of, operands_of, appended_operands_of}
 use Rattle.sl_model.proofs.TableLetters.{row_last}
 use Rattle.sl_model.proofs.TypedRows.{IsMember, IsAlgorithm, IsAppending, IsMaker, is_member, is_alone, is_appending, is_maker}
