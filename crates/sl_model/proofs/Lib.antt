@@ -93,6 +93,8 @@ pub mod LibraryGives
 pub mod AnswersFit
 pub mod MembersFit
 pub mod AlgorithmsFit
+pub mod OperatorsFit
+pub mod CallsFit
 -- ## Facts where no way comes
 pub mod FactsIdle
 pub mod EffectsIdle
