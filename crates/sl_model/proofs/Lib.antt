@@ -112,6 +112,8 @@ pub mod ScopedExpressions
 pub mod ScopedScopes
 pub mod ScopedStatements
 pub mod ScopedTexts
+pub mod OperatorsFit
+pub mod CallsFit
 -- ## Facts where no way comes
 pub mod FactsIdle
 pub mod EffectsIdle
