@@ -1,9 +1,8 @@
 -- Scopes of types and counts of variables go on alike: behind declarations, in a range-for and behind parameters.
-use Rattle.std.proofs.Common.{◌≡◌, ℕ, ◌+◌, Bool, true, false, not, ◌&&◌, List, [], ◌∷◌, ◌++◌, length, refl, ap, sym, ◌∙◌, arith, length-append}
+use Rattle.std.proofs.Common.{◌≡◌, ℕ, ◌+◌, Bool, true, not, ◌&&◌, List, [], ◌∷◌, ◌++◌, length, refl, ap, ◌∙◌, arith, length-append}
 use Rattle.std.specs.Prelude.{if◌then◌else◌}
 use Rattle.std.specs.List.{list_all}
 use Rattle.std.proofs.lemmas.List.Folds.{list_all-append}
-use Rattle.sl_base.specs.declared.form.Form.{Form}
 use Rattle.sl_base.specs.declared.scalar.Scalar.TheVariants as t
 use Rattle.sl_syntax.specs.declared.operator.Access.TheVariants as a
 use Rattle.sl_syntax.specs.declared.typed.element.Taken.{Taken}
@@ -14,12 +13,12 @@ use Rattle.sl_syntax.specs.Typed.{Declaration, unset_scalar, set_scalar, set_ite
 use Rattle.sl_syntax.specs.Typed.{does_first, Typed, element}
 use Rattle.sl_syntax.specs.Written.{is_map}
 use Rattle.sl_model.specs.Forms.{is_keyed}
-use Rattle.sl_model.specs.Scoped.{Counts, no_counts, one_scalar, one_container, one_iterator, with_declaration, with_first, with_range}
+use Rattle.sl_model.specs.Scoped.{one_scalar, one_container, one_iterator, with_declaration, with_first, with_range}
 use Rattle.sl_model.specs.Scoped.{with_parameter as counting_parameter, with_parameters as counting_parameters}
 use Rattle.sl_model.specs.WellTypedTypes.{ExprType, scalar_type, iterator_type, container_type, int_reference, entry_reference, Scope, with_scalar}
 use Rattle.sl_model.specs.WellTypedTypes.{with_container, with_iterator, is_const}
 use Rattle.sl_model.specs.WellTypedExpressions.{type_of, type_of_left}
-use Rattle.sl_model.specs.WellTypedStatements.{reference_to, behind, behind_first, may_go_over, with_element, in_range, with_parameter, with_parameters}
+use Rattle.sl_model.specs.WellTypedStatements.{reference_to, behind, behind_first, may_go_over, in_range, with_parameter, with_parameters}
 use Rattle.sl_model.specs.WellTypedStatements.{no_variables}
 use Rattle.sl_model.proofs.Passing.{both_true}
 use Rattle.sl_model.proofs.ScopedGifts.{scope_counts, is_scalar_type, is_container_type, KnowsText}

@@ -1,6 +1,6 @@
 -- A typed statement uses what is in scope, and gives back what is due.
 use Rattle.std.proofs.Common.{◌≡◌, ℕ, Bool, true, false, ◌&&◌, List, [], ◌∷◌, ◌++◌, Option, Some, None, refl, subst, sym}
-use Rattle.std.specs.Prelude.{slice_get, flat_map}
+use Rattle.std.specs.Prelude.{flat_map}
 use Rattle.std.specs.List.{list_all}
 use Rattle.sl_base.specs.declared.scalar.Scalar.TheVariants as t
 use Rattle.sl_syntax.specs.declared.typed.parameter.ParameterKind.{ParameterKind}
@@ -10,10 +10,10 @@ use Rattle.sl_syntax.specs.Typed.{prints, evaluates, assigns, updates, moves_to,
 use Rattle.sl_syntax.specs.Typed.{makes, First, no_first, declares_first, does_first, Stmt, block, declares, choice, choice_else, while, for}
 use Rattle.sl_syntax.specs.Typed.{range_for, break, continue, gives_back, does, Stmts, no_more, followed, Typed}
 use Rattle.sl_model.specs.Good.{AreBelow}
-use Rattle.sl_model.specs.Values.{a_number, a_stamp}
+use Rattle.sl_model.specs.Values.{a_stamp}
 use Rattle.sl_model.specs.Shapes.{Gift, a_value, shape_of_result, gift_of}
 use Rattle.sl_model.specs.Scoped.{Counts, HasObject, InExpr, InCond, InPrinted, InPrint, InEffect, InDeclaration, InFirst, InLast, AsksWell, IsPart}
-use Rattle.sl_model.specs.Scoped.{GivesBack, InStmt, InStmts, with_declaration, with_first, with_range}
+use Rattle.sl_model.specs.Scoped.{GivesBack, InStmt, InStmts}
 use Rattle.sl_model.specs.WellTypedTypes.{ExprType, no_type, scalar_type, element_type, iterator_type, Scope, is_within, variable_type, has_type}
 use Rattle.sl_model.specs.WellTypedTypes.{is_scalar, is_number, is_written, works_in, is_iterator, same_iterators}
 use Rattle.sl_model.specs.WellTypedExpressions.{goes_to, type_given, type_of, type_of_left, types_of}
