@@ -87,6 +87,7 @@ pub mod TypedUses
 -- ## Well typed texts: what is given fits its type, so each call has a meaning
 pub mod Fitting
 -- ## A well typed text is scoped
+pub mod ScopedRows
 pub mod ScopedCalls
 pub mod ScopedGifts
 pub mod ScopedExpressions
