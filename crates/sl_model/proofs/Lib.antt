@@ -106,6 +106,7 @@ pub mod AnswersFit
 pub mod MembersFit
 pub mod AlgorithmsFit
 -- ## A well typed text is scoped
+pub mod ScopedRows
 pub mod ScopedCalls
 pub mod ScopedGifts
 pub mod ScopedExpressions

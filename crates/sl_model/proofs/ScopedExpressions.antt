@@ -1,7 +1,7 @@
 -- An expression that has a type uses what is in scope, and its calls of the text's own get what suits them.
 use Rattle.std.proofs.Common.{◌≡◌, ℕ, zero, suc, ◌==◌, Bool, true, false, not, ◌&&◌, ◌||◌, List, [], ◌∷◌, ◌++◌, Option, Some, None}
 use Rattle.std.proofs.Common.{refl, subst, sym}
-use Rattle.std.proofs.lemmas.Bool.{eq-eqb}
+use Rattle.std.proofs.lemmas.Bool.{eq-eqb, or_left, or_right}
 use Rattle.std.specs.Prelude.{slice_get, flat_map}
 use Rattle.std.specs.List.{list_all}
 use Rattle.sl_base.specs.declared.place.Place.{Place}
@@ -35,7 +35,8 @@ use Rattle.sl_model.proofs.TypedParts.{calculated_numbers, compared_numbers, ste
 use Rattle.sl_model.proofs.TypedParts.{first_stands, second_stands, iterator_there, container_there, handed_there, scalar_there, reference_there}
 use Rattle.sl_model.proofs.TypedExpressions.{comparable_first, comparable_second, function_known}
 use Rattle.sl_model.proofs.TypedVariables.{object_typed}
-use Rattle.sl_model.proofs.ScopedCalls.{IsShaped, call_shaped, moving_shape, call_makes_none}
+use Rattle.sl_model.proofs.ScopedRows.{IsShaped}
+use Rattle.sl_model.proofs.ScopedCalls.{call_shaped, moving_shape, call_makes_none}
 use Rattle.sl_model.proofs.ScopedGifts.{lib_signature, scope_counts, KnowsText, HasGift, expression_gift}
 
 -- no call of the text's own among these nodes binds a variable twice
@@ -56,24 +57,14 @@ containers_at [] = []
 containers_at (container_bound x ∷ vs) = x ∷ containers_at vs
 containers_at (v ∷ vs) = containers_at vs
 
--- one of two answers is true where the first is
-first_true : (b d : Bool) → b ≡ true → (b || d) ≡ true
-first_true true d h = refl
-first_true false d h = absurd cc
-
--- or the second
-second_true : (b d : Bool) → d ≡ true → (b || d) ≡ true
-second_true true d h = refl
-second_true false d h = h
-
 -- a container whose number is among these is among the variables
 among_these : (vs : List Variable) (i x : ℕ) → slice_get (containers_at vs) i ≡ Some x → is_among (container_bound x) vs ≡ true
 among_these [] i x e = absurd cc
 among_these (scalar_bound y ∷ vs) i x e = among_these vs i x e
 among_these (iterator_bound y ∷ vs) i x e = among_these vs i x e
 among_these (container_bound y ∷ vs) zero x e =
-    let same : x ≡ y = cc in first_true (x == y) (is_among (container_bound x) vs) (eq-eqb x y same)
-among_these (container_bound y ∷ vs) (suc i) x e = second_true (x == y) (is_among (container_bound x) vs) (among_these vs i x e)
+    let same : x ≡ y = cc in or_left (x == y) (is_among (container_bound x) vs) (eq-eqb x y same)
+among_these (container_bound y ∷ vs) (suc i) x e = or_right (x == y) (is_among (container_bound x) vs) (among_these vs i x e)
 
 -- a number is none of these
 abbrev IsNone : ℕ → List ℕ → Type 0

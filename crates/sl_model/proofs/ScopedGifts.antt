@@ -24,7 +24,8 @@ use Rattle.sl_model.specs.WellTypedExpressions.{go_to, type_given, function_type
 use Rattle.sl_model.proofs.Passing.{first_of_both, second_of_both}
 use Rattle.sl_model.proofs.TypedOperands.{typed_by}
 use Rattle.sl_model.proofs.TypedParts.{second_stands}
-use Rattle.sl_model.proofs.ScopedCalls.{IsShaped, call_shaped, moving_shape}
+use Rattle.sl_model.proofs.ScopedRows.{IsShaped}
+use Rattle.sl_model.proofs.ScopedCalls.{call_shaped, moving_shape}
 
 -- what is known of the calls in a text over the library
 abbrev pub lib_signature : Typed → Signature
@@ -199,8 +200,9 @@ expression_gift p g (call c ops) k h =
     only_gift (not (is_moving c.callee)) (only_value u) (a_value (lib_shape c.callee)) (λ b typed. value_gift u (lib_shape c.callee)
     (call_shaped g c.callee c.object (types_of g ops) (typed_by (λ w. has_type (only_value w)) refl u typed)) typed) h
 expression_gift p g (own_call n at ops) k h =
-    subst (λ (fs : List Function). HasGift (function_type (not (n == g.main)) (slice_get g.functions n) (types_of g ops)) (a_value (shape_of_call fs n)))
-    k.functions (found_gift (not (n == g.main)) (slice_get g.functions n) (types_of g ops) h)
+    let u = function_type (not (n == g.main)) (slice_get g.functions n) (types_of g ops) in
+    let found = found_gift (not (n == g.main)) (slice_get g.functions n) (types_of g ops) h in
+    subst (λ (fs : List Function). HasGift u (a_value (shape_of_call fs n))) k.functions found
 expression_gift p g (first at e) k h = first_gift (type_of g e) h
 expression_gift p g (second at e) k h =
     second_gift (type_of g e) (gift_of (lib_signature p) e) (expression_gift p g e k (second_stands g at e h)) h

@@ -20,8 +20,8 @@ use Rattle.sl_model.specs.WellTypedExpressions.{goes_to, type_given, type_of, ty
 use Rattle.sl_model.specs.WellTypedNodes.{nodes_in, nodes_in_left, nodes_in_operands, nodes_in_value, nodes_in_cond, nodes_in_printed}
 use Rattle.sl_model.specs.WellTypedNodes.{nodes_in_effect, nodes_in_last, nodes_in_declaration, nodes_in_first, nodes_in_stmt, nodes_in_stmts}
 use Rattle.sl_model.specs.WellTypedStatements.{assigns_others, may_stand_alone, is_written_left, takes, are_ints, is_typed_cond, is_typed_item}
-use Rattle.sl_model.specs.WellTypedStatements.{is_typed_effect, is_typed_last, is_typed_declaration, behind, is_typed_first, behind_first, may_go_over}
-use Rattle.sl_model.specs.WellTypedStatements.{in_range, is_typed_return, is_typed_stmt, are_typed_stmts}
+use Rattle.sl_model.specs.WellTypedStatements.{is_typed_effect, is_typed_last, is_typed_declaration, behind, is_typed_first, behind_first}
+use Rattle.sl_model.specs.WellTypedStatements.{may_go_over, in_range, is_typed_return, is_typed_stmt, are_typed_stmts}
 use Rattle.sl_model.proofs.Passing.{first_of_both, second_of_both, three_parts, five_parts, passes_at}
 use Rattle.sl_model.proofs.TypedNumbers.{variable_is_there}
 use Rattle.sl_model.proofs.TypedOperands.{typed_by, second_iterator_typed}
@@ -130,8 +130,7 @@ declaration-scoped p g (set_iterator e) k n h =
 declaration-scoped p g (binds_reference c ops) k n h = left-scoped p g (element c ops) k (free_before (nodes_in_operands ops) _ n) h
 declaration-scoped p g (makes form c ops) k n h =
     let made = making_makes form c.callee c.object (types_of g ops) h in
-    let known = making_known form c.callee c.object (types_of g ops) h in
-    (
+    let known = making_known form c.callee c.object (types_of g ops) h in (
       (made.0, subst (HasObject (scope_counts g)) (sym made.1) tt),
       operands-scoped p g ops k (free_before (nodes_in_operands ops) _ n) known.0,
     )
