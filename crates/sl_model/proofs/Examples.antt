@@ -25,6 +25,9 @@ pub mod Scoped
 pub mod Trees
 pub mod WellTyped
 pub mod WellTypedFunctions
+pub mod Deciding
+pub mod DecidedTexts
+pub mod UndecidedTexts
 pub mod WrongTypes
 pub mod WrongAccess
 pub mod WrongStatements

@@ -224,11 +224,11 @@ between s a b j h =
     omega arith
 
 -- a container that has an element
-filled_one : (s : Situation) → fails_if (own_size s == 0) EMPTY_CONTAINER 0 ≡ [] → 0 < own_size s
+pub filled_one : (s : Situation) → fails_if (own_size s == 0) EMPTY_CONTAINER 0 ≡ [] → 0 < own_size s
 filled_one s h = let e = no_fails (own_size s == 0) EMPTY_CONTAINER 0 h in let n = eqb-false (own_size s) 0 e in omega arith
 
 -- the failures of a first and a second need
-first_need : (xs ys : List (ℕ × ℕ)) → first_failure (xs ++ ys) ≡ None → xs ≡ []
+pub first_need : (xs ys : List (ℕ × ℕ)) → first_failure (xs ++ ys) ≡ None → xs ≡ []
 first_need xs ys h = none_left xs ys (no_failure (xs ++ ys) h)
 
 second_need : (xs ys zs : List (ℕ × ℕ)) → first_failure (xs ++ (ys ++ zs)) ≡ None → ys ≡ []

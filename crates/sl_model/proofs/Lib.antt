@@ -87,6 +87,34 @@ pub mod TypedVariables
 pub mod TypedUses
 -- ## Well typed texts: what is given fits its type, so each call has a meaning
 pub mod Fitting
+pub mod FormsAfter
+pub mod FormsEffects
+pub mod FormsRows
+pub mod LibraryForms
+pub mod SortsFit
+pub mod OperatorSorts
+pub mod TypedRows
+pub mod TableLetters
+pub mod RowIsThere
+pub mod RowMeant
+pub mod MovingFirst
+pub mod GivenIn
+pub mod ContainersGiveIn
+pub mod AlgorithmsGiveIn
+pub mod LibraryGives
+pub mod AnswersFit
+pub mod MembersFit
+pub mod AlgorithmsFit
+-- ## A well typed text is scoped
+pub mod ScopedRows
+pub mod ScopedCalls
+pub mod ScopedGifts
+pub mod ScopedExpressions
+pub mod ScopedScopes
+pub mod ScopedStatements
+pub mod ScopedTexts
+pub mod OperatorsFit
+pub mod CallsFit
 -- ## Facts where no way comes
 pub mod FactsIdle
 pub mod EffectsIdle

@@ -52,7 +52,7 @@ end_stands c = ap (slice_get (stamps c)) (at_size (length-map c.cells (λ (x : C
     at_size e = omega arith
 
 -- a container holds a stamp at each index up to its size
-place_stands : (c : Cont) (k : ℕ) → k ≤ size c → (s : ℕ) × (slice_get (stamps c) k ≡ Some s)
+pub place_stands : (c : Cont) (k : ℕ) → k ≤ size c → (s : ℕ) × (slice_get (stamps c) k ≡ Some s)
 place_stands c k low = get_some (stamps c) k (within (length-append (map (λ (x : Cell). x.stamp) c.cells) (c.end ∷ []))
     (length-map c.cells (λ (x : Cell). x.stamp)))
   where

@@ -44,6 +44,8 @@ pub mod WellTypedStatements
 pub mod WellTypedOrder
 pub mod WellTypedNumbers
 pub mod WellTyped
+pub mod Deeds
+pub mod Decided
 pub mod Facts
 pub mod FactsLeft
 pub mod FactRules

@@ -24,6 +24,7 @@ mod changes;
 mod classes;
 mod exchanges;
 mod keys;
+mod typed;
 
 pub use changes::{elements_go_over, elements_keep_their_marks};
 pub use classes::{
@@ -32,6 +33,7 @@ pub use classes::{
 };
 pub use exchanges::{merge_moves, splice_moves, swap_exchanges};
 pub use keys::{keys_stay_in_order, ordered_keys_ascend};
+pub use typed::well_typed_texts_are_scoped;
 
 /// One element comes in at the end of a vector of n elements, as `push_back` does it. Where there is room for it, the
 /// iterators at the end are invalidated and at no other place; where there is none, those at every place are. A

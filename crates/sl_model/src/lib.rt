@@ -14,7 +14,7 @@ pub use laws::{
     elements_keep_their_marks, erasures_invalidate, hash_forms_invalidate,
     iterators_go_with_references, keys_stay_in_order, longer_runs, merge_moves, none_vanishes,
     nothing_is_invalidated, one_place, ordered_keys_ascend, push_back_kills, runs_stay_good,
-    splice_moves, swap_exchanges, vectors_invalidate,
+    splice_moves, swap_exchanges, vectors_invalidate, well_typed_texts_are_scoped,
 };
 pub use output::Output;
 pub use trap_info::TrapInfo;
