@@ -115,6 +115,7 @@ pub mod ScopedStatements
 pub mod ScopedTexts
 pub mod OperatorsFit
 pub mod CallsFit
+pub mod LibraryFits
 -- ## Facts where no way comes
 pub mod FactsIdle
 pub mod EffectsIdle

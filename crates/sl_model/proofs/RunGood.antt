@@ -12,13 +12,8 @@ use Rattle.sl_model.specs.Library.{lib}
 use Rattle.sl_model.specs.State.{State}
 use Rattle.sl_model.specs.Eval.{Out, Gives, Stops, World, call_own, eval}
 use Rattle.sl_model.specs.Exec.{Flow, Next, Broke, Continued, Returned, Over, exec, exec_all}
-<<<<<<< HEAD
 use Rattle.sl_model.specs.Calls.{world_of, call_of}
-use Rattle.sl_model.specs.Run.{empty_state, first_place, out_of}
-=======
-use Rattle.sl_model.specs.Calls.{call_of}
-use Rattle.sl_model.specs.Run.{empty_state, first_place, end_state, main_out}
->>>>>>> 8222a776c1a5723fbaa18b278f82f05fa2d5dad9
+use Rattle.sl_model.specs.Run.{empty_state, first_place, out_of, end_state, main_out}
 use Rattle.sl_model.specs.Good.{AreApart, IsGood}
 use Rattle.sl_model.specs.Shapes.{Shape, Gift, a_value, Signature, shape_of_result, gift_of, AllSuit, containers_in, lib_shape, lib_makes}
 use Rattle.sl_model.specs.Scoped.{InExpr, InStmt, InStmts, IsScoped}

@@ -3,12 +3,8 @@ use Rattle.sl_model.specs.Eval.{Out, Gives, Stops}
 use Rattle.sl_model.specs.Good.{IsSound}
 use Rattle.sl_model.specs.Run.{end_state, main_out}
 use Rattle.sl_model.proofs.Keeps.{InOut}
-<<<<<<< HEAD
-use Rattle.sl_model.proofs.RunGood.{IsGoodOut, run-good}
-use Rattle.sl_model.proofs.RunOrderly.{run-orderly}
-=======
 use Rattle.sl_model.proofs.RunGood.{end-good}
->>>>>>> 8222a776c1a5723fbaa18b278f82f05fa2d5dad9
+use Rattle.sl_model.proofs.RunOrderly.{run-orderly}
 use Rattle.sl_model.proofs.RunSound.{run-sound}
 use Rattle.sl_model.proofs.laws.runs_stay_good.Goals as goal
 
