@@ -54,6 +54,7 @@ pub mod Homes
 pub mod ListEdges
 pub mod ListLimits
 pub mod EndTexts
+pub mod EndValues
 pub mod Generated
 pub mod SortedLists
 pub mod RunCases1

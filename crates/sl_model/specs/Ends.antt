@@ -38,7 +38,7 @@ pub data End : Type 0 where
   Language : Place → ℕ → End
   -- an exception
   Thrown : Place → End
-  -- at what has no meaning, as a call that the library doesn't have
+  -- at what has no meaning, as a call that the library doesn't have; no run of a well typed text ends so
   NoMeaning : Place → End
 
 -- the first bytes that were written, and the count of the rest

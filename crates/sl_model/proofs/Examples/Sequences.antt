@@ -281,6 +281,18 @@ list_splice_one : outcome 7 (on_first row.LIST_SPLICE_ONE (iterator 3 ∷ contai
 unfolding table
 list_splice_one = refl
 
+-- so does the second of the other list
+list_splice_second : outcome 7 (on_first row.LIST_SPLICE_ONE (iterator 3 ∷ container_at 1 ∷ iterator 5 ∷ []) (three_and_two f.List 0) []) ≡ Some
+    (record {
+      given = [];
+      number = None;
+      keys = (pos 10 ∷ pos 20 ∷ pos 30 ∷ pos 25 ∷ []) ∷ (pos 15 ∷ []) ∷ [];
+      iterators = in_first 0 ∷ in_first 1 ∷ in_first 2 ∷ in_first 4 ∷ in_second 0 ∷ in_first 3 ∷ in_second 1 ∷ [];
+      references = in_first 0 ∷ in_first 1 ∷ in_first 2 ∷ None ∷ in_second 0 ∷ in_first 3 ∷ None ∷ [];
+    })
+unfolding table
+list_splice_second = refl
+
 -- splice(p, c, f, l): a range
 list_splice_range : outcome 7
     (on_first row.LIST_SPLICE_RANGE (iterator 1 ∷ container_at 1 ∷ iterator 5 ∷ iterator 6 ∷ []) (three_and_two f.List 0) [])
