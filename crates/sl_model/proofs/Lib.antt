@@ -74,6 +74,8 @@ pub mod RunGood
 pub mod Longer
 pub mod LongerExec
 pub mod LongerCalls
+-- ## A run over a library that lacks calls
+pub mod Lacking
 -- ## Well typed texts: what is in them, and what their parts are
 pub mod Passing
 pub mod TypedNumbers
