@@ -1,5 +1,5 @@
 -- A run over a library that lacks calls which another one has is the same, but where it meets a call that is lacking. Here: expressions.
-use Rattle.std.proofs.Common.{ℕ, List, [], ◌∷◌, Bool, true, false, not, ℤ, pos}
+use Rattle.std.proofs.Common.{ℕ, List, Bool, true, false, not, ℤ, pos}
 use Rattle.sl_base.specs.declared.place.Place.{Place}
 use Rattle.sl_syntax.specs.declared.typed.callee.Callee.{Callee}
 use Rattle.sl_syntax.specs.declared.typed.head.Head.{Head}

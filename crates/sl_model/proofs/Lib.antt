@@ -76,6 +76,7 @@ pub mod LongerExec
 pub mod LongerCalls
 -- ## A run over a library that lacks calls
 pub mod Lacking
+pub mod LackingExec
 -- ## Well typed texts: what is in them, and what their parts are
 pub mod Passing
 pub mod TypedNumbers
