@@ -77,6 +77,7 @@ pub mod LongerCalls
 -- ## A run over a library that lacks calls
 pub mod Lacking
 pub mod LackingExec
+pub mod LackingCalls
 -- ## Well typed texts: what is in them, and what their parts are
 pub mod Passing
 pub mod TypedNumbers
