@@ -75,6 +75,10 @@ pub mod RunGood
 pub mod Longer
 pub mod LongerExec
 pub mod LongerCalls
+-- ## A run over a library that lacks calls
+pub mod Lacking
+pub mod LackingExec
+pub mod LackingCalls
 -- ## Well typed texts: what is in them, and what their parts are
 pub mod Passing
 pub mod TypedNumbers
