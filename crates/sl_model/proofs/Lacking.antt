@@ -12,6 +12,7 @@ use Rattle.sl_model.specs.Containers.{Memory}
 use Rattle.sl_model.specs.Values.{Value, nothing, number, iterator, pair, two, scalar_at, container_at, element_at, Args, LibOut, unbuilt}
 use Rattle.sl_model.specs.Ends.{NoMeaning}
 use Rattle.sl_model.specs.State.{State}
+use Rattle.sl_model.specs.Eval.{call_own}
 use Rattle.sl_model.specs.Eval.{Out, Gives, Stops, Outs, AllGive, OneStops, World, then_eval, with_number, then_number, add_value, then_rest}
 use Rattle.sl_model.specs.Eval.{then_call, branch, answered, settle_call, use_library, eval, reach, eval_all}
 
@@ -33,7 +34,7 @@ pub data LackingOuts : Outs → Outs → Type 0 where
 -- a world has the library and the functions of another one, but for what is lacking
 pub record Lacks (few many : World) : Type 0 where
   pub lib : (callee : Callee) (a : Args) (m : Memory) (picks : List ℕ) → LackingAnswer (few.lib callee a m picks) (many.lib callee a m picks)
-  pub own : (f : ℕ) (at : Place) (vs : List Value) (s : State) → LackingOut (few.own f at vs s) (many.own f at vs s)
+  pub own : (f : ℕ) (at : Place) (vs : List Value) (s : State) → LackingOut (call_own few f at vs s) (call_own many f at vs s)
 
 -- what follows a value
 pub then_eval-lacking : (go other : Value → State → Out) {a b : Out} → LackingOut a b → ((v : Value) (s : State) → LackingOut (go v s) (other v s))
