@@ -21,6 +21,7 @@ use Rattle.sl_model.specs.Exec.{after_body, counted, turns, loop, asks, hidden_a
 use Rattle.sl_model.specs.Exec.{exec_all}
 use Rattle.sl_model.proofs.Lacking.{LackingOut, same, lacks, Lacks, then_call-lacking, use_library-lacking, eval-lacking, reach-lacking}
 use Rattle.sl_model.proofs.Lacking.{eval_all-lacking}
+use Rattle.sl_model.proofs.LongerExec.{turn}
 
 -- where a statement goes, and where it goes over the other library: to the same, or the run ends at what has no meaning
 pub data LackingFlow : Flow → Flow → Type 0 where
@@ -162,10 +163,6 @@ begun-lacking few many l (does_first e) s = affect-lacking few many l e s
 ended-lacking : (few many : World) → Lacks few many → (last : Option Effect) → LackingMeaning (ended few last) (ended many last)
 ended-lacking few many l None s = same_flow _
 ended-lacking few many l (Some e) s = affect-lacking few many l e s
-
--- what follows the test of a loop that has n turns left
-abbrev turn : (State → (Bool → Meaning) → Flow) → Meaning → Meaning → ℕ → Bool → Meaning
-turn check body last n v = either_way v (λ s. after_body (body s) (λ s. and_then (last s) (turns n check body last))) Next
 
 -- the turns of a loop
 turns-lacking : (check check' : State → (Bool → Meaning) → Flow) (body body' last last' : Meaning) → LackingCheck check check'

@@ -79,6 +79,7 @@ pub mod LongerCalls
 pub mod Lacking
 pub mod LackingExec
 pub mod LackingCalls
+pub mod SmallRuns
 -- ## Well typed texts: what is in them, and what their parts are
 pub mod Passing
 pub mod TypedNumbers
