@@ -49,7 +49,8 @@ and_then-lacking go other (same_flow (Over e s)) h = same_flow _
 and_then-lacking go other (flow_lacks at s x) h = flow_lacks at s _
 
 -- what comes after a loop's body
-after_body-lacking : (go other : Meaning) {a b : Flow} → LackingFlow a b → LackingMeaning go other → LackingFlow (after_body a go) (after_body b other)
+after_body-lacking : (go other : Meaning) {a b : Flow} → LackingFlow a b → LackingMeaning go other
+    → LackingFlow (after_body a go) (after_body b other)
 after_body-lacking go other (same_flow (Next s)) h = h s
 after_body-lacking go other (same_flow (Broke s)) h = same_flow _
 after_body-lacking go other (same_flow (Continued s)) h = h s
@@ -221,7 +222,8 @@ mutual
       (λ v. either_way-lacking v _ _ _ _ (exec-lacking few many l a) (exec-lacking few many l b)) s) s
   exec-lacking few many l (while n k body) s = tick-lacking _ _
       (loop-lacking _ _ _ _ Next Next (tested-lacking few many l k) (exec-lacking few many l body) (λ s. same_flow _)) s
-  exec-lacking few many l (for n head k last body) s = tick-lacking _ _ (λ s. scoped-lacking 0 s (and_then-lacking _ _ (begun-lacking few many l head s)
+  exec-lacking few many l (for n head k last body) s = tick-lacking _ _ (λ s. scoped-lacking 0 s
+      (and_then-lacking _ _ (begun-lacking few many l head s)
       (loop-lacking _ _ _ _ _ _ (tested-lacking few many l k) (exec-lacking few many l body) (ended-lacking few many l last)))) s
   exec-lacking few many l (range_for n taken.Value x at name body) s = tick-lacking _ _ (λ s. scoped-lacking 0 s
       (over_range-lacking few many l at name (length s.iters) (length s.iters + 1) (takes_number at (length s.scalars) (exec few body))

@@ -1,4 +1,5 @@
--- Over the library without the calls that leave more than n elements in a container, none ever has more; so it is in the run of a text that stays small.
+-- Over the library without the calls that leave more than n elements in a container none ever has more. So it is in the run of a text that stays
+-- small.
 use Rattle.std.proofs.Common.{◌≡◌, refl, sym, subst, ℕ, zero, suc, Bool, true, false, List, [], ◌∷◌, length, Option, Some, None}
 use Rattle.std.specs.Prelude.{ℤ, take, nat_le, slice_get, slice_set, if◌then◌else◌}
 use Rattle.std.specs.List.{list_all}
