@@ -32,3 +32,6 @@ pub const NOT_PARTITIONED: u8 = 10;
 
 /// A range that isn't sorted.
 pub const NOT_SORTED: u8 = 11;
+
+/// A reference to an element that an operation may have invalidated.
+pub const INVALID_REFERENCE: u8 = 12;

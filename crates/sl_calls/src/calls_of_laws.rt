@@ -8,7 +8,8 @@ use sl_model::{
     elements_keep_their_marks, erasures_invalidate, hash_forms_invalidate,
     iterators_go_with_references, keys_stay_in_order, longer_runs, merge_moves, none_vanishes,
     nothing_is_invalidated, one_place, ordered_keys_ascend, push_back_kills, runs_stay_good,
-    splice_moves, swap_exchanges, vectors_invalidate,
+    splice_moves, swap_exchanges, vectors_invalidate, well_typed_texts_are_scoped,
+    well_typed_texts_have_meaning,
 };
 use sl_specs::{numbers_are_places, rows_differ};
 use sl_tool::{each_text_is_reported, each_text_is_scoped, one_refusal};
@@ -44,6 +45,8 @@ fn laws() {
     merge_moves();
     keys_stay_in_order();
     ordered_keys_ascend();
+    well_typed_texts_are_scoped();
+    well_typed_texts_have_meaning();
     covers_more();
     stays_ascending();
     tells_its_sites();

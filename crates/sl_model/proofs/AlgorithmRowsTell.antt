@@ -225,7 +225,7 @@ appending-tells = (
 )
 
 -- the iterator that an operator moves stands somewhere
-moved-stands : (m : Memory) (o : Option (ℕ × ℕ)) (z : ℤ) → first_failure (step_fails m o z) ≡ None → (p : ℕ × ℕ) × (o ≡ Some p)
+pub moved-stands : (m : Memory) (o : Option (ℕ × ℕ)) (z : ℤ) → first_failure (step_fails m o z) ≡ None → (p : ℕ × ℕ) × (o ≡ Some p)
 moved-stands m None z e = absurd (cc)
 moved-stands m (Some p) z e = (p, refl)
 

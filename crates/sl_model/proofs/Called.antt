@@ -37,7 +37,7 @@ abbrev pub situation : Args → Memory → List ℕ → ℕ → Situation
 situation a m picks j = record { memory = m; object = j; values = a.values; picks = picks; site = a.site }
 
 -- the object that a call has is there
-has_object : (a : Args) (m : Memory) (picks : List ℕ) (o : Object) (given : Option ℕ) (j : ℕ) → object_in m o given a.values ≡ Some j
+pub has_object : (a : Args) (m : Memory) (picks : List ℕ) (o : Object) (given : Option ℕ) (j : ℕ) → object_in m o given a.values ≡ Some j
     → HasObject o (situation a m picks j)
 has_object a m picks (of_form form) None j e = absurd (cc)
 has_object a m picks (of_form form) (Some i) j e = by_form (is_of_form form (slice_get m.conts i)) refl e

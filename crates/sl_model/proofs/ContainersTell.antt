@@ -80,7 +80,7 @@ place_or-low None n h = omega arith
 place_or-low (Some k) n h = let r : k < n = h k refl in omega arith
 
 -- the place of a key in the object
-key_index-low : (s : Situation) (z : ℤ) (k : ℕ) → key_index s z ≡ Some k → k < own_size s
+pub key_index-low : (s : Situation) (z : ℤ) (k : ℕ) → key_index s z ≡ Some k → k < own_size s
 key_index-low s z k e = let r = first_of_key-low z 0 (keys (own s)) k e in let q = keys-length (own s) in omega arith
 
 -- how many keys are below, or up to, a number
@@ -91,7 +91,7 @@ up_to-low : (s : Situation) (z : ℤ) → up_to s z ≤ own_size s
 up_to-low s z = let r = how_many-low (λ y. int_le y z) (keys (own s)) in let q = keys-length (own s) in omega arith
 
 -- the old elements in the order in which a new key finds them are as many
-key_order-length : (c : Cont) (picks : List ℕ) → length (key_order c picks) ≡ size c
+pub key_order-length : (c : Cont) (picks : List ℕ) → length (key_order c picks) ≡ size c
 key_order-length c picks = by_hash (is_hash c.form) (is_full c 1)
   where
     by_hash : (h full : Bool) → length (if h
@@ -102,7 +102,7 @@ key_order-length c picks = by_hash (is_hash c.form) (is_full c 1)
     by_hash false full = numbers-length 0 (size c)
 
 -- the place of a new key is one of the container with it
-key_place-low : (c : Cont) (z : ℤ) (picks : List ℕ) → key_place c z picks ≤ size c
+pub key_place-low : (c : Cont) (z : ℤ) (picks : List ℕ) → key_place c z picks ≤ size c
 key_place-low c z picks = by_hash (is_hash c.form)
   where
     ordered : ordered_place c z ≤ size c
@@ -113,7 +113,7 @@ key_place-low c z picks = by_hash (is_hash c.form)
     by_hash false = ordered
 
 -- a key that keeps an equal one out has a place in the container
-known_key-low : (c : Cont) (z : ℤ) (k : ℕ) → known_key c z ≡ Some k → k < size c
+pub known_key-low : (c : Cont) (z : ℤ) (k : ℕ) → known_key c z ≡ Some k → k < size c
 known_key-low c z k e = by_equal (holds_equal_keys c.form) e
   where
     by_equal : (b : Bool) → (if b then None else index_of_key z (keys c)) ≡ Some k → k < size c

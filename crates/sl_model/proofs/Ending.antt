@@ -57,7 +57,7 @@ in_front (suc n) (y ∷ xs) zero x low e = e
 in_front (suc n) (y ∷ xs) (suc j) x low e = in_front n xs j x (omega arith) e
 
 -- mapped lists that are cut
-map_take : {A B : Type 0} (f : A → B) (n : ℕ) (xs : List A) → map f (take n xs) ≡ take n (map f xs)
+pub map_take : {A B : Type 0} (f : A → B) (n : ℕ) (xs : List A) → map f (take n xs) ≡ take n (map f xs)
 map_take f zero xs = refl
 map_take f (suc n) [] = refl
 map_take f (suc n) (x ∷ xs) = ap (λ l. f x ∷ l) (map_take f n xs)

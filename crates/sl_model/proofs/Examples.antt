@@ -25,6 +25,9 @@ pub mod Scoped
 pub mod Trees
 pub mod WellTyped
 pub mod WellTypedFunctions
+pub mod Deciding
+pub mod DecidedTexts
+pub mod UndecidedTexts
 pub mod WrongTypes
 pub mod WrongAccess
 pub mod WrongStatements
@@ -51,12 +54,11 @@ pub mod Homes
 pub mod ListEdges
 pub mod ListLimits
 pub mod EndTexts
+pub mod EndValues
 pub mod Generated
+pub mod SortedLists
 pub mod RunCases1
 pub mod RunCases2
-pub mod RunCases3
-pub mod RunCases4
-pub mod RunCases5
 pub mod RowCases1
 pub mod RowCases2
 pub mod RowCases3

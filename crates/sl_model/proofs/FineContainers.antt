@@ -224,11 +224,11 @@ between s a b j h =
     omega arith
 
 -- a container that has an element
-filled_one : (s : Situation) → fails_if (own_size s == 0) EMPTY_CONTAINER 0 ≡ [] → 0 < own_size s
+pub filled_one : (s : Situation) → fails_if (own_size s == 0) EMPTY_CONTAINER 0 ≡ [] → 0 < own_size s
 filled_one s h = let e = no_fails (own_size s == 0) EMPTY_CONTAINER 0 h in let n = eqb-false (own_size s) 0 e in omega arith
 
 -- the failures of a first and a second need
-first_need : (xs ys : List (ℕ × ℕ)) → first_failure (xs ++ ys) ≡ None → xs ≡ []
+pub first_need : (xs ys : List (ℕ × ℕ)) → first_failure (xs ++ ys) ≡ None → xs ≡ []
 first_need xs ys h = none_left xs ys (no_failure (xs ++ ys) h)
 
 second_need : (xs ys zs : List (ℕ × ℕ)) → first_failure (xs ++ (ys ++ zs)) ≡ None → ys ≡ []
@@ -528,10 +528,10 @@ containers-fine = all_parts LineIsFine 7 container_lines makings (all_parts Line
                   (in_container s 1 1 s.object (first_need _ _ none)) (not_too_many _ go)),
               (
                 (λ form class b s sound h none go. puts-fine class s (index s 1) _ (own_there form s h.object)
-                    (in_container s 1 1 s.object (first_need _ _ none)) (not_too_many _ go)),
+                    (in_container s 1 1 s.object (first_need _ _ none)) (let l = replicate-length (count_of s 2) (item (int_of s 3)) in let m = not_too_many (own_size s + count_of s 2) go in omega arith)),
                 (
                   (λ form class b s sound h none go. puts-fine class s (index s 1) _ (own_there form s h.object)
-                      (in_container s 1 1 s.object (first_need _ _ none)) (not_too_many _ go)),
+                      (in_container s 1 1 s.object (first_need _ _ none)) (let l = as_items-length (range_keys s 2) in let m = not_too_many (own_size s + length (range_keys s 2)) go in omega arith)),
                   (
                     (λ form class b s sound h none go. (own_there form s h.object, not_too_many _ go)),
                     (

@@ -1,6 +1,6 @@
 -- Each call of a well typed text's own functions gives what is of the type of the function: its parameters take what is of their types, and what lies
 -- on the caller's stacks stays of its types.
-use Rattle.std.proofs.Common.{◌≡◌, ℕ, zero, suc, ◌<◌, ◌==◌, Bool, true, false, ◌&&◌, List, [], ◌∷◌, ◌++◌, Option, Some, None, length, refl, ap, sym, ◌∙◌}
+use Rattle.std.proofs.Common.{◌≡◌, ℕ, zero, suc, ◌<◌, ◌≤◌, ◌==◌, Bool, true, false, ◌&&◌, List, [], ◌∷◌, ◌++◌, Option, Some, None, length, refl, ap, sym, ◌∙◌}
 use Rattle.std.proofs.Common.{subst, arith}
 use Rattle.std.specs.Prelude.{pos, slice_get}
 use Rattle.std.proofs.lemmas.Bool.{eqb-true}
@@ -36,11 +36,11 @@ use Rattle.sl_model.proofs.Called.{one_form}
 use Rattle.sl_model.proofs.TypedStatements.{functions_with_parameters, function_is_typed, HasMain, main_is_there}
 use Rattle.sl_model.proofs.Fitting.{forms_of, IsNumber, IsIteratorOf, IsContainerOf, IsScalarAt, Fits, AllFit, FitsTypes}
 use Rattle.sl_model.proofs.Levels.{Level, level_of, counts_of, Now, Above}
-use Rattle.sl_model.proofs.Gifts.{KeepsGood}
+use Rattle.sl_model.proofs.Gifts.{KeepsGood, now_again}
 use Rattle.sl_model.proofs.GoodBinding.{at_bound}
 use Rattle.sl_model.proofs.GoodCalls.{TakesParameters, at_call_of}
 use Rattle.sl_model.proofs.StackTypes.{Kind, iterator_of, Stack, StacksFit, HasMeaning, ContFits, ScopeFits, MemoryFits, new_pointer-fits, length-forms}
-use Rattle.sl_model.proofs.StackTypes.{end-fits}
+use Rattle.sl_model.proofs.StackTypes.{end-fits, from_now, now-fits, then-fits}
 use Rattle.sl_model.proofs.StackScopes.{conts_with, iters_new, numbers_with, last_there, IsNumberType}
 use Rattle.sl_model.proofs.FitOuts.{OutFits, number_fits}
 use Rattle.sl_model.proofs.FitEval.{OwnFits}
@@ -219,16 +219,22 @@ fit_back ends due ps d before (Gives v s) conts iters h = (
 )
 fit_back ends due ps d before (Stops e s) conts iters h = h
 
+-- what fits from a state on fits from before
+fit_from : (d : Stack) (s : State) (u : ExprType) (o : Out) → d.used ≤ s.memory.fresh → StacksFit d s → OutFits (from_now d s) u o → OutFits d u o
+fit_from d s u (Gives v t) less h i = (i.0, then-fits d s t less h i.1)
+fit_from d s u (Stops e t) less h i = i
+
 -- so each call gives what is of the type of its function
 own-fits : (ends : MemoryFits) (p : Typed) (w : World) (sig : Signature) → sig.functions ≡ p.functions → TakesParameters sig w → BodiesFit p w.own
     → OwnFits sig w
 own-fits ends p w sig same takes bodies f h at L d gifts us vs s there suit apart given goes typed fits conts iters stacks =
     subst (λ (ks : List ParameterKind). OutFits d (type_given h.result) (come_back s (w.own f at (bound ks vs s)))) (sym (takes f h there))
-    (fit_back ends h.result h.parameters d s (w.own f at (bound h.parameters vs s)) conts_here iters_here
-    (let start = at_bound L d.used h.parameters gifts vs s suit given.given given.used apart given.now in
-    bodies f h at (with_iters (iters_bound h.parameters d.iters) d) (bound h.parameters vs s)
+    (fit_from d s (type_given h.result) (come_back s (w.own f at (bound h.parameters vs s))) given.now.later stacks
+    (fit_back ends h.result h.parameters (from_now d s) s (w.own f at (bound h.parameters vs s)) conts_here iters_here
+    (let start = at_bound L s.memory.fresh h.parameters gifts vs s suit given.given given.used apart (now_again L d.used s given.now) in
+    bodies f h at (with_iters (iters_bound h.parameters d.iters) (from_now d s)) (bound h.parameters vs s)
     (subst (λ (fs : List Function). slice_get fs f ≡ Some h) same there) in_body.scope
-    (record { good = start.0.good; level = refl; later = start.0.later }) start.1 in_body.stacks))
+    (record { good = start.0.good; level = refl; later = start.0.later }) start.1 in_body.stacks)))
   where
     conts_here : length d.conts ≡ length s.memory.conts
     conts_here = conts ∙ sym (ap (λ (l : Level). l.conts) given.now.level)
@@ -236,10 +242,11 @@ own-fits ends p w sig same takes bodies f h at L d gifts us vs s there suit apar
     iters_here : length d.iters ≡ length s.iters
     iters_here = iters ∙ sym (ap (λ (l : Level). l.iters) given.now.level)
 
-    in_body : IsBound (with_parameters h.parameters (no_variables p)) (iters_bound h.parameters d.iters) d s.memory (bound h.parameters vs s)
-    in_body = bind_kinds d (no_variables p) d.iters (record s { frame = no_frame }) h.parameters us vs goes fits (record {
+    in_body : IsBound (with_parameters h.parameters (no_variables p)) (iters_bound h.parameters d.iters) (from_now d s) s.memory
+        (bound h.parameters vs s)
+    in_body = bind_kinds (from_now d s) (no_variables p) d.iters (record s { frame = no_frame }) h.parameters us vs goes fits (record {
       scope = record { scalars = tt; conts_high = conts_here; iters_high = iters_here; containers = tt; iterators = tt };
-      stacks = stacks;
+      stacks = now-fits d s stacks;
       memory = refl;
     })
 

@@ -1,5 +1,5 @@
 -- A well typed text never ends for want of a meaning, over any library that fits types.
-use Rattle.std.proofs.Common.{◌≡◌, ◌≢◌, ℕ, List, [], Some, refl, sym, subst, arith}
+use Rattle.std.proofs.Common.{◌≡◌, ◌≢◌, ℕ, true, List, [], Some, refl, sym, subst, arith}
 use Rattle.std.specs.Prelude.{ℤ, slice_get}
 use Rattle.sl_base.specs.declared.limits.TheConstants.{CALLS}
 use Rattle.sl_base.specs.declared.place.Place.{Place}
@@ -21,6 +21,7 @@ use Rattle.sl_model.specs.WellTyped.{WellTyped}
 use Rattle.sl_model.proofs.TypedOperands.{typed_by}
 use Rattle.sl_model.proofs.TypedStatements.{HasMain, main_is_there}
 use Rattle.sl_model.proofs.Fitting.{FitsTypes}
+use Rattle.sl_model.proofs.FormsAfter.{write-forms, ended-forms, ended-fits}
 use Rattle.sl_model.proofs.Locations.{apart_none}
 use Rattle.sl_model.proofs.Levels.{level_of}
 use Rattle.sl_model.proofs.Gifts.{KeepsGood}
@@ -28,6 +29,10 @@ use Rattle.sl_model.proofs.RunGood.{empty-good, good_now}
 use Rattle.sl_model.proofs.StackTypes.{Stack, StacksFit, HasMeaning, MemoryFits}
 use Rattle.sl_model.proofs.FitOuts.{OutHas, OutFits, Of}
 use Rattle.sl_model.proofs.FitCalls.{fit_call_of}
+
+-- what a memory owes to what fits
+memory_owes : MemoryFits
+memory_owes = record { writes = write-forms; ends = ended-forms; ends_fit = ended-fits }
 
 -- nothing is known of the stacks
 abbrev nothing_known : Stack
@@ -72,4 +77,4 @@ pub fits-run : (l : Lib) → FitsTypes l → KeepsGood lib_shape lib_makes l →
     → (input : List ℤ) (picks : List ℕ) (steps : ℕ) (at : Place) → (run_over l p input picks steps).end ≢ NoMeaning at
 fits-run l types keeps p typed scoped input picks steps at = meant_differs (run_over l p input picks steps).end at
     (finish_meant nothing_known (type_given (main_is_there p typed).function.result) (out_of l p input picks steps)
-    (main_fits memory_fits l types keeps p typed scoped input picks steps))
+    (main_fits memory_owes l types keeps p typed scoped input picks steps))

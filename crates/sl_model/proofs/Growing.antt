@@ -40,7 +40,7 @@ grows_then b m t u g h = record {
 }
 
 -- a change of one container
-after-grows : (ch : Change) (m : Memory) (j : ℕ) (c : Cont) (site : ℕ) → Grows false m (after ch m j c site)
+pub after-grows : (ch : Change) (m : Memory) (j : ℕ) (c : Cont) (site : ℕ) → Grows false m (after ch m j c site)
 after-grows ch m j c site = record { many = length-set m.conts j (changed m.fresh ch c); later = omega arith }
 
 -- changes of two containers
@@ -65,7 +65,7 @@ append_all-grows site j (x ∷ xs) left = grows_then false left.memory (append s
     c = cont_at left.memory j
 
 -- a key that comes
-insert_key-grows : (class : Class) (site j : ℕ) (c : Cont) (x : ℤ × ℤ) (left : Left)
+pub insert_key-grows : (class : Class) (site j : ℕ) (c : Cont) (x : ℤ × ℤ) (left : Left)
     → Grows false left.memory (insert_key class site j c x left).memory
 insert_key-grows class site j c x left =
     elim (known_key c x.0) as (λ o. Grows false left.memory (elim o as (λ _. Left) [

@@ -57,6 +57,7 @@ pub mod KeysAfter
 pub mod KeyInOrder
 pub mod OrderlyEffects
 pub mod TidyRows
+pub mod RunOrderly
 -- ## Scoped texts: each state of a run is good
 pub mod Locations
 pub mod Levels
@@ -74,6 +75,11 @@ pub mod RunGood
 pub mod Longer
 pub mod LongerExec
 pub mod LongerCalls
+-- ## A run over a library that lacks calls
+pub mod Lacking
+pub mod LackingExec
+pub mod LackingCalls
+pub mod SmallRuns
 -- ## Well typed texts: what is in them, and what their parts are
 pub mod Passing
 pub mod TypedNumbers
@@ -86,6 +92,36 @@ pub mod TypedVariables
 pub mod TypedUses
 -- ## Well typed texts: what is given fits its type, so each call has a meaning
 pub mod Fitting
+pub mod FormsAfter
+pub mod FormsEffects
+pub mod FormsRows
+pub mod LibraryForms
+pub mod SortsFit
+pub mod OperatorSorts
+pub mod TypedRows
+pub mod TableLetters
+pub mod RowIsThere
+pub mod RowMeant
+pub mod MovingFirst
+pub mod GivenIn
+pub mod ContainersGiveIn
+pub mod AlgorithmsGiveIn
+pub mod LibraryGives
+pub mod AnswersFit
+pub mod MembersFit
+pub mod AlgorithmsFit
+-- ## A well typed text is scoped
+pub mod ScopedRows
+pub mod ScopedCalls
+pub mod ScopedGifts
+pub mod ScopedExpressions
+pub mod ScopedScopes
+pub mod ScopedStatements
+pub mod ScopedTexts
+pub mod OperatorsFit
+pub mod CallsFit
+pub mod LibraryFits
+-- ## A well typed text never ends for want of a meaning
 pub mod StackTypes
 pub mod StackScopes
 pub mod FitOuts
@@ -102,6 +138,8 @@ pub mod FitRun
 pub mod FactsIdle
 pub mod EffectsIdle
 pub mod CarryIdle
+-- ## The end of a run, as the code has it
+pub mod EndViews
 -- ## Lists of numbers: words, parts between blanks, and laws
 pub mod ListWords
 pub mod ListParts

@@ -53,7 +53,7 @@ table-tells appends = all_table (TableRowTells appends)
     (algorithms-tell appends)
 
 -- the row of what is called
-row-tells : (callee : Callee) (r : Row) → row_of callee ≡ Some r → RowTells r
+pub row-tells : (callee : Callee) (r : Row) → row_of callee ≡ Some r → RowTells r
 row-tells = row-holds RowTells table-tells operator-tells
 
 -- what is given has the shape of the answer

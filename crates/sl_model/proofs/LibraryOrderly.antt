@@ -66,7 +66,7 @@ out-orderly r s fine tidy sound orderly called = by_failure (first_failure (r.fa
     by_failure None e = by_stop (r.action.stops s) refl e
 
 -- so does each call of the library
-answer-orderly : (callee : Callee) (a : Args) (m : Memory) (picks : List ℕ) → IsSound m → IsOrderly m → InAnswer IsOrderly (lib callee a m picks)
+pub answer-orderly : (callee : Callee) (a : Args) (m : Memory) (picks : List ℕ) → IsSound m → IsOrderly m → InAnswer IsOrderly (lib callee a m picks)
 answer-orderly callee a m picks sound orderly = by_row (row_of callee) refl
   where
     by_row : (o : Option Row) → row_of callee ≡ o → InAnswer IsOrderly (called_row o a m picks)

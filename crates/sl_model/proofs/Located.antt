@@ -40,7 +40,7 @@ index_none s i (x ∷ xs) h = by_test (index_none s (i + 1) xs (λ n g. h (suc n
     by_test rest false t = rest
 
 -- two places are equal where their parts are
-same_pair : (a b c d : ℕ) → a ≡ c → b ≡ d → ◌≡◌ {A = Option (ℕ × ℕ)} (Some (a, b)) (Some (c, d))
+pub same_pair : (a b c d : ℕ) → a ≡ c → b ≡ d → ◌≡◌ {A = Option (ℕ × ℕ)} (Some (a, b)) (Some (c, d))
 same_pair a b c d p q = ap (λ n. Some (n, b)) p ∙ ap (λ n. Some (c, n)) q
 
 -- a number that stands once is found where it stands, lists counted from j

@@ -232,7 +232,7 @@ ended-later w own None s = next s
 ended-later w own (Some e) s = affect-later w own e s
 
 -- what follows the test of a loop that has n turns left
-abbrev turn : (State → (Bool → Meaning) → Flow) → Meaning → Meaning → ℕ → Bool → Meaning
+abbrev pub turn : (State → (Bool → Meaning) → Flow) → Meaning → Meaning → ℕ → Bool → Meaning
 turn check body last n v = either_way v (λ s. after_body (body s) (λ s. and_then (last s) (turns n check body last))) Next
 
 turns-later : {k : ℕ} (check : State → (Bool → Meaning) → Flow) (body last : Meaning) → SameCheck k check → SameFlow k body → SameFlow k last →

@@ -20,7 +20,7 @@ last_one xs x y j above h = by_place (j - length xs) refl (sym (get_right xs (x 
     by_place (suc d) e g = absurd (cc)
 
 -- a mapped list with one more
-map_last : {A B : Type 0} (f : A → B) (xs : List A) (x : A) → map f (xs ++ x ∷ []) ≡ map f xs ++ f x ∷ []
+pub map_last : {A B : Type 0} (f : A → B) (xs : List A) (x : A) → map f (xs ++ x ∷ []) ≡ map f xs ++ f x ∷ []
 map_last f [] x = refl
 map_last f (y ∷ xs) x = ap (λ l. f y ∷ l) (map_last f xs x)
 
@@ -100,10 +100,10 @@ pub fresh-size : (form : Form) (room : ℕ) (xs : List (ℤ × ℤ)) (m : Memory
 fresh-size form room xs m = new_size (m.fresh + 1) xs
 
 -- its stamps: those of the elements behind that of the end
-abbrev FreshStamp : Memory → ℕ → ℕ → ℕ → Type 0
+abbrev pub FreshStamp : Memory → ℕ → ℕ → ℕ → Type 0
 FreshStamp m n k s = ((s ≡ (m.fresh + 1) + k) × (k < n)) ⊎ ((s ≡ m.fresh) × (k ≡ n))
 
-fresh_stamps : (form : Form) (room : ℕ) (xs : List (ℤ × ℤ)) (m : Memory) (k s : ℕ) → slice_get (stamps (fresh_cont form room xs m)) k ≡ Some s
+pub fresh_stamps : (form : Form) (room : ℕ) (xs : List (ℤ × ℤ)) (m : Memory) (k s : ℕ) → slice_get (stamps (fresh_cont form room xs m)) k ≡ Some s
     → FreshStamp m (length xs) k s
 fresh_stamps form room xs m k s h = ⊎_elim
     (λ (low : k < length (map (λ (x : Cell). x.stamp) (new_cells (m.fresh + 1) xs))).
@@ -120,7 +120,7 @@ fresh_stamps-once m n k h s (inl a) (inr b) = let e : s ≡ (m.fresh + 1) + k = 
 fresh_stamps-once m n k h s (inr a) (inl b) = let e : s ≡ m.fresh = a.0 in let g : s ≡ (m.fresh + 1) + h = b.0 in absurd (omega arith)
 fresh_stamps-once m n k h s (inr a) (inr b) = a.1 ∙ sym b.1
 
-fresh_stamps-between : (m : Memory) (n k s : ℕ) → FreshStamp m n k s → (m.fresh ≤ s) × (s < (m.fresh + 1) + n)
+pub fresh_stamps-between : (m : Memory) (n k s : ℕ) → FreshStamp m n k s → (m.fresh ≤ s) × (s < (m.fresh + 1) + n)
 fresh_stamps-between m n k s (inl a) = let e : s ≡ (m.fresh + 1) + k = a.0 in let w : k < n = a.1 in (omega arith, omega arith)
 fresh_stamps-between m n k s (inr a) = let e : s ≡ m.fresh = a.0 in (omega arith, omega arith)
 

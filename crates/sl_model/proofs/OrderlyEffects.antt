@@ -7,7 +7,7 @@ use Rattle.sl_base.specs.declared.form.Form.{Form}
 use Rattle.sl_base.specs.declared.scalar.Scalar.TheVariants as t
 use Rattle.sl_specs.specs.declared.class.Class.{Class}
 use Rattle.sl_model.specs.Containers.{Cell, Cont, Memory, cont_at, size, keys, new_cells, made, end_from, Part, key_part, value_part, with_part}
-use Rattle.sl_model.specs.Containers.{is_writable, cont_with, write_element}
+use Rattle.sl_model.specs.Containers.{is_writable, cont_with, write_element, empty_memory}
 use Rattle.sl_model.specs.Edits.{Change, old, numbers, theirs_from, change_of, changed, rebuilt, next_of_two, after, after_two}
 use Rattle.sl_model.specs.Forms.{is_hash, is_keyed}
 use Rattle.sl_model.specs.Numbers.{converted, fits}
@@ -297,3 +297,7 @@ write-orderly m j k part z orderly = by_cont (slice_get m.conts j) refl
 -- containers that end leave the others orderly
 pub end-orderly : (site n : ℕ) (m : Memory) → IsOrderly m → IsOrderly (end_from site n m)
 end-orderly site n m orderly j c at = orderly j c (get_take n m.conts j c at).1
+
+-- the memory without containers is orderly
+pub empty-orderly : IsOrderly empty_memory
+empty-orderly j c at = absurd (cc)

@@ -76,7 +76,7 @@ given_passes test gives (z ∷ zs) (suc i) x y h e g =
     given_passes test gives zs i x y (rest_put_passes test (gives z) (filter_map gives zs) h) e g
 
 -- a test that all of two lists pass is passed by all of each
-both_lists : {Y : Type 0} (test : Y → Bool) (ys zs : List Y) → list_all test (ys ++ zs) ≡ true → (list_all test ys && list_all test zs) ≡ true
+pub both_lists : {Y : Type 0} (test : Y → Bool) (ys zs : List Y) → list_all test (ys ++ zs) ≡ true → (list_all test ys && list_all test zs) ≡ true
 both_lists test ys zs h = sym (list_all-append test ys zs) ∙ h
 
 -- a list that one of another list gives passes the test that all pass that any of these gives

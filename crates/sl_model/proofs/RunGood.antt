@@ -13,7 +13,7 @@ use Rattle.sl_model.specs.State.{State}
 use Rattle.sl_model.specs.Eval.{Out, Gives, Stops, World, call_own, eval}
 use Rattle.sl_model.specs.Exec.{Flow, Next, Broke, Continued, Returned, Over, exec, exec_all}
 use Rattle.sl_model.specs.Calls.{world_of, call_of}
-use Rattle.sl_model.specs.Run.{empty_state, first_place, out_of}
+use Rattle.sl_model.specs.Run.{empty_state, first_place, out_of, end_state, main_out}
 use Rattle.sl_model.specs.Good.{AreApart, IsGood}
 use Rattle.sl_model.specs.Shapes.{Shape, Gift, a_value, Signature, shape_of_result, gift_of, AllSuit, containers_in, lib_shape, lib_makes}
 use Rattle.sl_model.specs.Scoped.{InExpr, InStmt, InStmts, IsScoped}
@@ -137,3 +137,13 @@ run_over-good shape makes_one l lib_keeps p scoped input picks steps =
 pub run-good : (p : Typed) → IsScoped lib_shape lib_makes p → (input : List ℤ) (picks : List ℕ) (steps : ℕ)
     → IsGoodOut (out_of lib p input picks steps)
 run-good p scoped input picks steps = run_over-good lib_shape lib_makes lib lib-good p scoped input picks steps
+
+-- what ends well ends in a good state
+good_end : (o : Out) → IsGoodOut o → IsGood (end_state o)
+good_end (Gives v s) h = h
+good_end (Stops e s) h = h
+
+-- so the state at the end of such a run is good
+pub end-good : (p : Typed) → IsScoped lib_shape lib_makes p → (input : List ℤ) (picks : List ℕ) (steps : ℕ)
+    → IsGood (end_state (main_out p input picks steps))
+end-good p scoped input picks steps = good_end (main_out p input picks steps) (run-good p scoped input picks steps)

@@ -35,7 +35,7 @@ pub empty-sound : IsSound empty_memory
 empty-sound = record { stamps_apart = nothing_apart; refers_apart = nothing_apart; small = λ j c h. absurd (cc) }
 
 -- a library that keeps memory leaves each sound memory sound
-leaves-sound : (l : Lib) → KeepsMemory l → (c : Callee) (a : Args) (m : Memory) (picks : List ℕ) → IsSound m
+pub leaves-sound : (l : Lib) → KeepsMemory l → (c : Callee) (a : Args) (m : Memory) (picks : List ℕ) → IsSound m
     → InAnswer IsSound (l c a m picks)
 leaves-sound l lib_keeps c a m picks sound = sound-answer m a.site (l c a m picks) (lib_keeps c a m picks sound)
 

@@ -100,7 +100,7 @@ loop_is_there p w node at n g =
     below_count loop_in (length p.loops) (nodes_in_stmt at.function.body) at.place node n all at.there g
 
 -- a variable that has a type is there
-variable_is_there : (us : List ExprType) (x : ℕ) → has_type (variable_type us x) ≡ true → x < length us
+pub variable_is_there : (us : List ExprType) (x : ℕ) → has_type (variable_type us x) ≡ true → x < length us
 variable_is_there [] x h = absurd cc
 variable_is_there (u ∷ us) zero h = omega arith
 variable_is_there (u ∷ us) (suc x) h = let there = variable_is_there us x h in omega (arith, there)

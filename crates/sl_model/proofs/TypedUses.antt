@@ -177,7 +177,7 @@ return_below g None (Some e) w h = absurd cc
 return_below g (Some k) (Some e) w h = passing_below g e (goes_to k) (no_type_goes k) w h
 
 -- no range-for goes over what isn't there
-nothing_gone_over : (how : Taken) → may_go_over how no_type ≡ false
+pub nothing_gone_over : (how : Taken) → may_go_over how no_type ≡ false
 nothing_gone_over taken.Value = refl
 nothing_gone_over taken.Reference = refl
 

@@ -79,7 +79,7 @@ row_object_typed g None x us h = absurd cc
 row_object_typed g (Some row) x us h = typed_by (λ u. has_type (member_type row u us)) refl (variable_type g.containers x) h
 
 -- the object of a call of the library has a type
-object_typed : (g : Scope) (callee : Callee) (x : ℕ) (us : List ExprType) → has_type (call_type g callee (Some x) us) ≡ true
+pub object_typed : (g : Scope) (callee : Callee) (x : ℕ) (us : List ExprType) → has_type (call_type g callee (Some x) us) ≡ true
     → has_type (variable_type g.containers x) ≡ true
 object_typed g (callees.Row n) x us h = row_object_typed g (row_at n) x us h
 object_typed g (callees.Appends n) x us h = absurd cc

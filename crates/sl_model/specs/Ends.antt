@@ -5,7 +5,7 @@
 -- Chosen here: a run ends at its first failure. The faults by their numbers: 1 an overflow, 2 a zero divisor, 3 a variable that isn't
 -- set, 4 no return value, 5 too many calls in progress. Of the bytes written, 65,536 are kept.
 use Rattle.std.specs.Prelude.{ℕ, zero, suc, ◌-◌, ◌==◌, true, false, List, ℤ, Option, Some, None, take, length, slice_get, slice_index_or, codes}
-use Rattle.sl_base.specs.declared.failures.TheConstants.{INVALID_ITERATOR}
+use Rattle.sl_base.specs.declared.failures.TheConstants.{INVALID_ITERATOR, INVALID_REFERENCE}
 use Rattle.sl_base.specs.declared.limits.TheConstants.{OUTPUT_BYTES}
 use Rattle.sl_base.specs.declared.place.Place.{Place}
 use Rattle.sl_syntax.specs.declared.typed.head.Head.{Head}
@@ -22,10 +22,6 @@ pub record Trap : Type 0 where
   pub name : Option ℕ
   pub killer : Option ℕ
 
--- the kind of a use of an invalid reference
-abbrev pub invalid_reference : ℕ
-invalid_reference = 12
-
 -- how a run ends
 pub data End : Type 0 where
   -- by the end of `main`, with what it gives
@@ -38,7 +34,7 @@ pub data End : Type 0 where
   Language : Place → ℕ → End
   -- an exception
   Thrown : Place → End
-  -- what has no meaning, as a call that the library doesn't have: no well typed text has such a node
+  -- at what has no meaning, as a call that the library doesn't have; no run of a well typed text ends so
   NoMeaning : Place → End
 
 -- the first bytes that were written, and the count of the rest
@@ -85,4 +81,4 @@ trap_of h kind a vs m = record {
 
 -- the trap of a use of a reference that is invalid: where it is used, the number of its name, and the site that dropped it
 abbrev pub use_trap : Place → ℕ → Option ℕ → Trap
-use_trap at name site = record { place = at; kind = invalid_reference; call = codes "use"; argument = 1; name = Some name; killer = site }
+use_trap at name site = record { place = at; kind = INVALID_REFERENCE; call = codes "use"; argument = 1; name = Some name; killer = site }

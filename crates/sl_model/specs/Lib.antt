@@ -44,6 +44,8 @@ pub mod WellTypedStatements
 pub mod WellTypedOrder
 pub mod WellTypedNumbers
 pub mod WellTyped
+pub mod Deeds
+pub mod Decided
 pub mod Facts
 pub mod FactsLeft
 pub mod FactRules
@@ -66,4 +68,5 @@ pub mod IteratorFlows
 pub mod Homes
 pub mod Lists
 pub mod EndText
+pub mod EndView
 pub mod Self

@@ -4,7 +4,7 @@
 -- meaning, else it throws or has its effects and its result.
 -- Chosen here: needs come first, by ascending kind and then argument; then exceptions; then the effect. A call that no row takes has
 -- no meaning: a number without a row, an object that isn't there, is of another form or is too many, another number or sort of
--- operands. No well typed text has one.
+-- operands. No run of a well typed text meets one.
 use Rattle.std.specs.Prelude.{ℕ, List, length, Option, Some, None, slice_get, slice_index_or, if◌then◌else◌}
 use Rattle.sl_base.specs.declared.form.Form.{Form}
 use Rattle.sl_model.specs.Containers.{Memory, stamp_at}

@@ -3,7 +3,7 @@
 --
 -- Restates ISO/IEC 14882:2017, [algorithms] (operands of algorithms), [alg.merge], [alg.set.operations], [alg.copy] and
 -- [iterator.operations].
--- Chosen here: a call whose operands don't fit has no meaning; no well typed text has one. The number of elements that a set
+-- Chosen here: a call whose operands don't fit has no meaning; no run of a well typed text meets one. The number of elements that a set
 -- operation writes is told where both its ranges are in order.
 use Rattle.std.specs.Prelude.{ℕ, ◌+◌, ◌&&◌, nat_lt, Bool, true, false, not, List, [], ◌∷◌, ◌++◌, length, ℤ, pos, neg_ℤ, Option, Some, None}
 use Rattle.std.specs.Prelude.{slice_get, if◌then◌else◌}

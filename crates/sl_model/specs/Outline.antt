@@ -1,5 +1,6 @@
 -- What an outline of a text is, and one that is open at places: lists of facts for the heads of its loops and for the entries and exits of
--- its functions that are carried from each to the next. Nothing fails in a run of a text that has an outline.
+-- its functions. The fact rules carry them from each to the next, and give what each node needs that isn't open; and each form that has a
+-- need of the library has a rule, or it is open.
 --
 -- Restates no section of ISO/IEC 14882:2017.
 -- Chosen here: the list at the entry of `main` is empty; an exit's list speaks of parameters by reference alone. A function that nothing

@@ -1,4 +1,4 @@
--- When the body of a range-for over a container leaves the container's elements where they are: the container stands in the body only in
+-- When the body of a range-for over a container counts as leaving its elements where they are: the container stands in the body only in
 -- calls that read it, as a bound of a range, or as an argument for a reference that is const or for elements alone. By reference over a
 -- form with keys and values it doesn't stand before `[]` either.
 --

@@ -13,31 +13,31 @@ use Rattle.sl_model.specs.Effects.{picks_with, insertion}
 abbrev pub puts : Situation → ℕ → List (ℤ × ℤ) → Effect
 puts s k xs = edits (picks_with (own s).form (own s) (length xs)) (insertion (own s) k xs s.picks)
 
--- these come into the object at a place, unless they are too many
-abbrev pub insertion_at : (Situation → ℕ) → (Situation → List (ℤ × ℤ)) → (Situation → Answer) → Action
-insertion_at place xs answer = record {
-  stops = λ s. too_many (own_size s + length (xs s));
+-- so many come into the object at a place, these, unless they are too many
+abbrev pub insertion_at : (Situation → ℕ) → (Situation → ℕ) → (Situation → List (ℤ × ℤ)) → (Situation → Answer) → Action
+insertion_at place count xs answer = record {
+  stops = λ s. too_many (own_size s + count s);
   effect = λ s. puts s (place s) (xs s);
   answer = answer;
 }
 
 -- push_back(x)
 abbrev pub push_back : Action
-push_back = insertion_at own_size (λ s. item (int_of s 1) ∷ []) (λ s. nothing)
+push_back = insertion_at own_size (λ s. 1) (λ s. item (int_of s 1) ∷ []) (λ s. nothing)
 
 -- push_front(x)
 abbrev pub push_front : Action
-push_front = insertion_at (λ s. 0) (λ s. item (int_of s 1) ∷ []) (λ s. nothing)
+push_front = insertion_at (λ s. 0) (λ s. 1) (λ s. item (int_of s 1) ∷ []) (λ s. nothing)
 
--- these come into the object before the position, argument 1, and the first of them is given, or the position
-abbrev pub insertion_before : (Situation → List (ℤ × ℤ)) → Action
-insertion_before xs = insertion_at (λ s. index s 1) xs (λ s. gives_place s.object (index s 1))
+-- so many come into the object before the position, argument 1, these, and the first of them is given, or the position
+abbrev pub insertion_before : (Situation → ℕ) → (Situation → List (ℤ × ℤ)) → Action
+insertion_before count xs = insertion_at (λ s. index s 1) count xs (λ s. gives_place s.object (index s 1))
 
 -- insert(p, n, x), insert(p, f, l) and insert(p, x), by the operands behind the position
 abbrev pub insert : List Letter → Action
-insert (a.Count ∷ rest) = insertion_before (λ s. replicate (count_of s 2) (item (int_of s 3)))
-insert (a.IntRange ∷ rest) = insertion_before (λ s. as_items (range_keys s 2))
-insert letters = insertion_before (λ s. item (int_of s 2) ∷ [])
+insert (a.Count ∷ rest) = insertion_before (λ s. count_of s 2) (λ s. replicate (count_of s 2) (item (int_of s 3)))
+insert (a.IntRange ∷ rest) = insertion_before (λ s. length (range_keys s 2)) (λ s. as_items (range_keys s 2))
+insert letters = insertion_before (λ s. 1) (λ s. item (int_of s 2) ∷ [])
 
 -- `gone` elements of the object go from place k on
 abbrev pub drops : Situation → ℕ → ℕ → Effect

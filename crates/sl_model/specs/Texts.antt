@@ -6,10 +6,9 @@ use Rattle.std.specs.Prelude.{ℕ, ◌==◌, ◌||◌, nat_eq, Bool, List, [], �
 use Rattle.std.specs.Prelude.{if◌then◌else◌}
 use Rattle.std.specs.Cmp.Lexicographic.{pointwise}
 use Rattle.std.specs.List.{flat_map}
-use Rattle.sl_base.specs.declared.failures.TheConstants.{INVALID_ITERATOR}
+use Rattle.sl_base.specs.declared.failures.TheConstants.{INVALID_ITERATOR, INVALID_REFERENCE}
 use Rattle.sl_base.specs.declared.place.Place.{Place}
 use Rattle.sl_model.specs.Covers.{Warning}
-use Rattle.sl_model.specs.Ends.{invalid_reference}
 
 -- the words for the kinds of failures, by their numbers from 1 on
 abbrev pub kinds : List (List ℕ)
@@ -60,7 +59,7 @@ sites_text sites (site ∷ more) = codes ", invalidated at " ++ (site_text sites
 
 -- these sites where the kind is that of an invalid iterator or of an invalid reference
 abbrev pub killers_text : List Place → ℕ → List ℕ → List ℕ
-killers_text sites kind killers = if kind == INVALID_ITERATOR || kind == invalid_reference then sites_text sites killers else []
+killers_text sites kind killers = if kind == INVALID_ITERATOR || kind == INVALID_REFERENCE then sites_text sites killers else []
 
 -- the line of a warning in a file with this name
 abbrev pub warning_line : List ℕ → List Place → Warning → List ℕ

@@ -12,21 +12,17 @@ use denote.Enum.Bare.{sameb}
 use Rattle.sl_base.specs.declared.place.Place.{Place}
 use Rattle.sl_specs.specs.declared.class.Class.TheVariants as k
 use Rattle.sl_specs.specs.Rows.{Row}
-use Rattle.sl_specs.specs.Texts.{call_text}
 use Rattle.sl_syntax.specs.contracts.typed.variable.VariableKind.{the_type}
-use Rattle.sl_syntax.specs.declared.operator.Comparison.{Comparison}
-use Rattle.sl_syntax.specs.declared.operator.Comparison.TheVariants as comparisons
 use Rattle.sl_syntax.specs.declared.typed.callee.Callee.{Callee}
 use Rattle.sl_syntax.specs.declared.typed.callee.Callee.TheVariants as callees
 use Rattle.sl_syntax.specs.declared.typed.head.Head.{Head}
-use Rattle.sl_syntax.specs.declared.typed.operator.Operator.{Operator}
-use Rattle.sl_syntax.specs.declared.typed.operator.Operator.TheVariants as operators
 use Rattle.sl_syntax.specs.declared.typed.parameter.ParameterKind.{ParameterKind}
 use Rattle.sl_syntax.specs.declared.typed.parameter.ParameterKind.TheVariants as parameters
 use Rattle.sl_syntax.specs.declared.typed.variable.Variable.{Variable}
 use Rattle.sl_syntax.specs.declared.typed.variable.VariableKind.{VariableKind}
 use Rattle.sl_syntax.specs.declared.typed.variable.VariableKind.TheVariants as variables
 use Rattle.sl_syntax.specs.Typed.{Function, Typed}
+use Rattle.sl_model.specs.Rows.{call_name}
 use Rattle.sl_model.specs.WellTypedCalls.{row_at}
 use Rattle.sl_model.specs.WellTypedTypes.{same_answer}
 use Rattle.sl_model.specs.WellTypedNodes.{Node, a_literal, a_call, a_use, a_loop, a_range, a_variable, a_brace, nodes_in_stmt}
@@ -135,34 +131,6 @@ literal_is_held zs node = true
 abbrev pub are_constants : List ℤ → Bool
 are_constants zs = ascend zs && holds zs (pos 0) && holds zs (pos 1)
 
--- the word of a comparison
-abbrev pub comparison_word : Comparison → List ℕ
-comparison_word comparisons.Equal = codes "=="
-comparison_word comparisons.NotEqual = codes "!="
-comparison_word comparisons.Less = codes "<"
-comparison_word comparisons.LessEqual = codes "<="
-comparison_word comparisons.Greater = codes ">"
-comparison_word comparisons.GreaterEqual = codes ">="
-
--- the word of an operator
-abbrev pub operator_word : Operator → List ℕ
-operator_word operators.Dereference = codes "*"
-operator_word operators.ArrowFirst = codes "->"
-operator_word operators.ArrowSecond = codes "->"
-operator_word operators.Increment = codes "++"
-operator_word operators.Decrement = codes "--"
-operator_word operators.Add = codes "+"
-operator_word operators.Subtract = codes "-"
-operator_word operators.AddAssign = codes "+="
-operator_word operators.SubtractAssign = codes "-="
-operator_word operators.Difference = codes "-"
-operator_word (operators.Compare o) = comparison_word o
-
--- the name of the call that a row is of, if it is there
-abbrev pub row_word : Option Row → List ℕ
-row_word None = []
-row_word (Some row) = call_text row.call
-
 -- a row, if it is there, has needs
 abbrev pub row_asks : Option Row → Bool
 row_asks None = false
@@ -175,21 +143,14 @@ pub record Asked : Type 0 where
   pub names : List (Option ℕ)
 
 -- a call of the library has needs; every operator has
-abbrev pub has_needs : Callee → Bool
-has_needs (callees.Row n) = row_asks (row_at n)
-has_needs (callees.Appends n) = row_asks (row_at n)
-has_needs callee = true
-
--- the name of a call of the library
-abbrev pub callee_word : Callee → List ℕ
-callee_word (callees.Row n) = row_word (row_at n)
-callee_word (callees.Appends n) = row_word (row_at n)
-callee_word (callees.Operator o) = operator_word o
-callee_word (callees.Hidden o) = codes "for"
+abbrev pub call_asks : Callee → Bool
+call_asks (callees.Row n) = row_asks (row_at n)
+call_asks (callees.Appends n) = row_asks (row_at n)
+call_asks callee = true
 
 -- what a call of the library asks, if it has needs
 abbrev pub asked_by_call : Head → Option Asked
-asked_by_call h = if has_needs h.callee then Some (record { place = h.place; word = callee_word h.callee; names = h.names }) else None
+asked_by_call h = if call_asks h.callee then Some (record { place = h.place; word = call_name h.callee; names = h.names }) else None
 
 -- what a node asks, if it has needs: a use of a reference has its name for argument 1, and a range-for that of its container for arguments 1 and 2
 abbrev pub asked_by : Node → Option Asked

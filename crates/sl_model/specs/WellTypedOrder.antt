@@ -1,4 +1,4 @@
--- Typed texts in which no open order of effects could matter, and in which no variable is bound to two references of a call.
+-- Typed texts that keep a rule on what stands beside effects in an open order, and in which no variable is bound to two references of a call.
 --
 -- Restates ISO/IEC 14882:2017, [intro.execution] (the operands of an operator and the arguments of a call are evaluated in no order that is said),
 -- [expr.log.and] and [expr.log.or] (the left operand first), [expr.ass] and [dcl.init.list] (elements in braces in their order).

@@ -14,6 +14,7 @@ ghost use Rattle.sl_model.specs.Rows.{Row, row_numbered};
 ghost use Rattle.sl_model.specs.Values.{Args, Value, gives};
 ghost use Rattle.sl_model.specs.Library.{lib};
 ghost use Rattle.sl_model.specs.Good.{IsAt, IsGood, IsSound, NoneVanishes, RefersTo};
+ghost use Rattle.sl_model.specs.Orderly.{IsOrderly};
 ghost use Rattle.sl_model.specs.Scoped.{IsScoped};
 ghost use Rattle.sl_model.specs.Shapes.{lib_makes, lib_shape};
 ghost use Rattle.sl_model.specs.Ends.{OutOfSteps};
@@ -23,6 +24,7 @@ mod changes;
 mod classes;
 mod exchanges;
 mod keys;
+mod typed;
 
 pub use changes::{elements_go_over, elements_keep_their_marks};
 pub use classes::{
@@ -31,6 +33,7 @@ pub use classes::{
 };
 pub use exchanges::{merge_moves, splice_moves, swap_exchanges};
 pub use keys::{keys_stay_in_order, ordered_keys_ascend};
+pub use typed::well_typed_texts_are_scoped;
 
 /// One element comes in at the end of a vector of n elements, as `push_back` does it. Where there is room for it, the
 /// iterators at the end are invalidated and at no other place; where there is none, those at every place are. A
@@ -79,11 +82,13 @@ pub fn longer_runs()
         (run p input picks n).end ≢ OutOfSteps → run p input picks (n + more) ≡ run p input picks n }
 {}
 
-/// Memory is sound at the end of each run. In a text in which each variable that is used is in scope, the whole state
-/// is good there.
+/// Memory is sound and orderly at the end of each run. In a text in which each variable that is used is in scope, the
+/// whole state is good there.
 pub fn runs_stay_good()
     ensures sound { (p : Typed) (input : List ℤ) (picks : List ℕ) (steps : ℕ) →
         IsSound (end_state (main_out p input picks steps)).memory }
+    ensures orderly { (p : Typed) (input : List ℤ) (picks : List ℕ) (steps : ℕ) →
+        IsOrderly (end_state (main_out p input picks steps)).memory }
     ensures good { (p : Typed) (input : List ℤ) (picks : List ℕ) (steps : ℕ) → IsScoped lib_shape lib_makes p →
         IsGood (end_state (main_out p input picks steps)) }
 {}

@@ -4,8 +4,7 @@ ghost use Rattle.sl_kind.specs.Kills.{has};
 ghost use Rattle.sl_model.specs.Texts.{place_text, site_text, further_sites, sites_text, killers_text};
 ghost use Rattle.sl_warnings.specs.Views.{sites_in};
 
-use crate::warning::INVALID_REFERENCE;
-use sl_base::failures::INVALID_ITERATOR;
+use sl_base::failures::{INVALID_ITERATOR, INVALID_REFERENCE};
 use sl_base::limits::SITES;
 use sl_base::{Items, Place, Site};
 use sl_kind::Kills;

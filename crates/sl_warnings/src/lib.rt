@@ -12,4 +12,4 @@ mod wording;
 pub use laws::{covers_more, stays_ascending, tells_its_sites};
 pub use rendering::render;
 pub use report::Report;
-pub use warning::{INVALID_REFERENCE, Warning};
+pub use warning::Warning;

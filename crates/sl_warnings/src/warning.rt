@@ -4,9 +4,6 @@ use crate::spot::Spot;
 use sl_base::{Name, Place};
 use sl_kind::Kills;
 
-/// The kind of a use of a reference to an element that an operation may have invalidated.
-pub const INVALID_REFERENCE: u8 = 12;
-
 /// A need of a call that may not hold: the place of the call, the number of the kind of the failure, the name of the
 /// call, the number of the argument whose need it is, from 0 for the object, the argument's name where it has one, and
 /// for an iterator or a reference the sites at which it may have been invalidated.

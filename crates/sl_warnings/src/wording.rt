@@ -2,7 +2,6 @@
 ghost use Rattle.std.specs.Prelude.{◌≡◌, ◌++◌, OnOk};
 ghost use Rattle.sl_model.specs.Texts.{kind_text, who_text, name_text, name_in_for};
 
-use crate::warning::INVALID_REFERENCE;
 use sl_base::{Items, Name, failures};
 use std::alloc::{AllocError, Global};
 
@@ -22,7 +21,7 @@ pub fn kind_words(kind: u8) -> &'static str
         failures::OVERLAP => "overlap",
         failures::NOT_PARTITIONED => "not partitioned",
         failures::NOT_SORTED => "not sorted",
-        INVALID_REFERENCE => "invalid reference",
+        failures::INVALID_REFERENCE => "invalid reference",
         _ => "",
     }
 }

@@ -1,16 +1,22 @@
 -- Closed runs of calls, each worked out by hand.
-use Rattle.std.specs.Prelude.{◌≡◌, refl, [], ◌∷◌, Some, None, pos, codes}
+use Rattle.std.specs.Prelude.{◌≡◌, refl, List, [], ◌∷◌, Some, None, pos, codes, false}
 use Rattle.std.specs.Fmt.{digits}
 use Rattle.sl_base.specs.declared.scalar.Scalar.TheVariants as t
 use Rattle.sl_base.specs.declared.form.Form.TheVariants as f
 use Rattle.sl_syntax.specs.declared.operator.Access.TheVariants as a
 use Rattle.sl_syntax.specs.declared.operator.Arithmetic.TheVariants as o
 use Rattle.sl_syntax.specs.declared.operator.Comparison.TheVariants as c
+use Rattle.sl_syntax.specs.declared.typed.parameter.ParameterKind.{ParameterKind}
 use Rattle.sl_syntax.specs.declared.typed.parameter.ParameterKind.TheVariants as parameter
 use Rattle.sl_syntax.specs.Typed.{literal, held, arithmetic, comparison, own_call, container, handed_scalar, scalar, none, with, test, text, number}
 use Rattle.sl_syntax.specs.Typed.{reads, prints, evaluates, assigns, updates, set_scalar, block, declares, choice, gives_back, does, Typed}
 use Rattle.sl_specs.specs.Table.{table}
+use Rattle.sl_model.specs.Containers.{made, empty_memory}
+use Rattle.sl_model.specs.Values.{number as number_value, iterator as iterator_value, scalar_at, container_at}
+use Rattle.sl_model.specs.State.{State, iterator_at, set_scalar_at}
 use Rattle.sl_model.specs.Ends.{Done, Trapped, OutOfSteps, Language}
+use Rattle.sl_model.specs.Binding.{bound}
+use Rattle.sl_model.specs.Eval.{Gives, come_back}
 use Rattle.sl_model.specs.Run.{run}
 use Rattle.sl_model.proofs.Examples.Short.{at, all, vector, push, start, deref, main_of, text_of, finish, trap}
 
@@ -241,3 +247,37 @@ right_first_traps = refl
 right_first_with_room : run right_first [] (2 ∷ []) 100 ≡ finish (Done (pos 0)) (codes "5") 0
 unfolding digits table
 right_first_with_room = refl
+
+-- a state in which a scalar, an iterator and a container of the caller are in scope
+abbrev of_caller : State
+of_caller = record {
+  frame = record { scalars = 0 ∷ []; conts = 0 ∷ []; iters = 0 ∷ [] };
+  scalars = record { ty = t.Int; value = Some (pos 7) } ∷ [];
+  iters = iterator_at 5 ∷ [];
+  memory = made f.Vector 0 [] empty_memory;
+  input = [];
+  picks = [];
+  steps = 9;
+  tests = 0;
+  written = [];
+}
+
+-- what a function takes: an int, one by reference, a vector and an iterator
+abbrev kinds : List ParameterKind
+kinds = parameter.Value t.Int ∷ parameter.Reference t.Int ∷ parameter.Container a.Whole f.Vector ∷ parameter.Iterator false f.Vector ∷ []
+
+-- the state in which its body starts: the int and the iterator are copied, the two references have the caller's locations, and nothing
+-- else of the caller's is in scope
+bound_state : bound kinds (number_value (pos 3) ∷ scalar_at 0 ∷ container_at 0 ∷ iterator_value 5 ∷ []) of_caller ≡ record of_caller {
+  frame = record { scalars = 1 ∷ 0 ∷ []; conts = 0 ∷ []; iters = 1 ∷ [] };
+  scalars = record { ty = t.Int; value = Some (pos 7) } ∷ record { ty = t.Int; value = Some (pos 3) } ∷ [];
+  iters = iterator_at 5 ∷ iterator_at 5 ∷ [];
+}
+bound_state = refl
+
+-- a body that wrote 4 through the reference and gives 2: behind the call the caller's variables are in scope again, and 4 is kept
+comes_back : come_back of_caller (Gives (number_value (pos 2)) (set_scalar_at 0 (pos 4) (bound kinds (number_value (pos 3) ∷ scalar_at 0
+    ∷ container_at 0 ∷ iterator_value 5 ∷ []) of_caller))) ≡ Gives (number_value (pos 2)) (record of_caller {
+      scalars = record { ty = t.Int; value = Some (pos 4) } ∷ [];
+    })
+comes_back = refl

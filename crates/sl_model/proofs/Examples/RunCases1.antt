@@ -9,12 +9,12 @@ use Rattle.std.specs.Prelude.{◌≡◌, refl, [], ◌∷◌, Some, None, pos, n
 use Rattle.std.specs.Fmt.{digits}
 use Rattle.sl_syntax.specs.declared.typed.step.Fix.TheVariants.{Prefix}
 use Rattle.sl_syntax.specs.declared.typed.step.Step.TheVariants.{Up}
-use Rattle.sl_syntax.specs.Typed.{literal, held, convert, negate, increment, call, own_call, scalar, element, none, with, text, number}
-use Rattle.sl_syntax.specs.Typed.{prints, evaluates, updates, set_scalar, makes, block, declares, does, Typed}
+use Rattle.sl_syntax.specs.Typed.{literal, held, convert, negate, increment, call, own_call, scalar, element, none, with, number, prints}
+use Rattle.sl_syntax.specs.Typed.{evaluates, updates, set_scalar, makes, block, declares, does, Typed}
 use Rattle.sl_specs.specs.Table.{table}
-use Rattle.sl_model.specs.Ends.{Done, Language, Thrown}
+use Rattle.sl_model.specs.Ends.{Trapped, Language, Thrown}
 use Rattle.sl_model.specs.Run.{run}
-use Rattle.sl_model.proofs.Examples.Short.{at, head, all, finish}
+use Rattle.sl_model.proofs.Examples.Short.{at, head, all, finish, trap}
 
 -- no return value, bool: language fault
 -- bool f() {
@@ -57,8 +57,8 @@ no_return_value_bool_language_fault_ends = refl
 --   int x = 0;
 --   x /= x;
 -- }
-abbrev pub zero_divisor_language_fault_2 : Typed
-zero_divisor_language_fault_2 = record {
+abbrev pub zero_divisor_language_fault : Typed
+zero_divisor_language_fault = record {
   functions =
       record {
         name = codes "main";
@@ -79,8 +79,8 @@ zero_divisor_language_fault_2 = record {
   constants = negsuc 0 ∷ pos 0 ∷ pos 1 ∷ [];
 }
 
-zero_divisor_language_fault_2_ends : run zero_divisor_language_fault_2 [] [] 500 ≡ finish (Language (at 3 5) 2) [] 0
-zero_divisor_language_fault_2_ends = refl
+zero_divisor_language_fault_ends : run zero_divisor_language_fault [] [] 500 ≡ finish (Language (at 3 5) 2) [] 0
+zero_divisor_language_fault_ends = refl
 
 -- exception, constructor(n) negative: exception
 -- int main() {
@@ -118,8 +118,8 @@ exception_constructor_n_negative_exception_ends = refl
 --   int x = 2147483647;
 --   ++x;
 -- }
-abbrev pub overflow_language_fault_4 : Typed
-overflow_language_fault_4 = record {
+abbrev pub overflow_language_fault : Typed
+overflow_language_fault = record {
   functions =
       record {
         name = codes "main";
@@ -140,8 +140,8 @@ overflow_language_fault_4 = record {
   constants = pos 0 ∷ pos 1 ∷ pos 2147483646 ∷ pos 2147483647 ∷ pos 2147483648 ∷ [];
 }
 
-overflow_language_fault_4_ends : run overflow_language_fault_4 [] [] 500 ≡ finish (Language (at 3 3) 1) [] 0
-overflow_language_fault_4_ends = refl
+overflow_language_fault_ends : run overflow_language_fault [] [] 500 ≡ finish (Language (at 3 3) 1) [] 0
+overflow_language_fault_ends = refl
 
 -- exception, constructor(n): exception
 -- int main() {
@@ -172,68 +172,6 @@ exception_constructor_n_exception = record {
 exception_constructor_n_exception_ends : run exception_constructor_n_exception [] [] 500 ≡ finish (Thrown (at 2 3)) [] 0
 unfolding table
 exception_constructor_n_exception_ends = refl
-
--- query map.size() of an empty one: done
--- int main() {
---   std::map<int, int> c;
---   std::cout << c.size() << " ";
--- }
-abbrev pub query_map_size_of_an_empty_one_done : Typed
-query_map_size_of_an_empty_one_done = record {
-  functions =
-      record {
-        name = codes "main";
-        parameters = [];
-        result = Some (parameter.Value t.Int);
-        variables = record { kind = sort.Container; name = 0; place = at 2 22 } ∷ [];
-        body = block (Some 0) (all (
-            declares (makes f.Map (head (callees.Row 112) (at 2 3) None None []) none) ∷
-            does (prints (number (call (head (callees.Row 117) (at 3 18) None (Some 0) (Some 0 ∷ [])) none) ∷ text (codes " ") ∷ [])) ∷
-            []));
-        close = at 4 1;
-      } ∷
-      [];
-  main = 0;
-  sites = at 4 1 ∷ [];
-  loops = [];
-  names = codes "c" ∷ [];
-  constants = pos 0 ∷ pos 1 ∷ [];
-}
-
-query_map_size_of_an_empty_one_done_ends : run query_map_size_of_an_empty_one_done [] [] 500 ≡ finish (Done (pos 0)) (codes "0 ") 0
-unfolding digits table
-query_map_size_of_an_empty_one_done_ends = refl
-
--- query map.empty() of an empty one: done
--- int main() {
---   std::map<int, int> c;
---   std::cout << c.empty() << " ";
--- }
-abbrev pub query_map_empty_of_an_empty_one_done : Typed
-query_map_empty_of_an_empty_one_done = record {
-  functions =
-      record {
-        name = codes "main";
-        parameters = [];
-        result = Some (parameter.Value t.Int);
-        variables = record { kind = sort.Container; name = 0; place = at 2 22 } ∷ [];
-        body = block (Some 0) (all (
-            declares (makes f.Map (head (callees.Row 112) (at 2 3) None None []) none) ∷
-            does (prints (number (call (head (callees.Row 118) (at 3 18) None (Some 0) (Some 0 ∷ [])) none) ∷ text (codes " ") ∷ [])) ∷
-            []));
-        close = at 4 1;
-      } ∷
-      [];
-  main = 0;
-  sites = at 4 1 ∷ [];
-  loops = [];
-  names = codes "c" ∷ [];
-  constants = pos 0 ∷ pos 1 ∷ [];
-}
-
-query_map_empty_of_an_empty_one_done_ends : run query_map_empty_of_an_empty_one_done [] [] 500 ≡ finish (Done (pos 0)) (codes "1 ") 0
-unfolding digits table
-query_map_empty_of_an_empty_one_done_ends = refl
 
 -- exception, constructor(n, x): exception
 -- int main() {
@@ -297,41 +235,6 @@ exception_at_of_unordered_map_exception = record {
 exception_at_of_unordered_map_exception_ends : run exception_at_of_unordered_map_exception [] [] 500 ≡ finish (Thrown (at 3 18)) [] 0
 unfolding table
 exception_at_of_unordered_map_exception_ends = refl
-
--- query set.count(k) 2 of an empty one: done
--- int main() {
---   std::set<int> c;
---   std::cout << c.count(2) << " ";
--- }
-abbrev pub query_set_count_k_2_of_an_empty_one_done : Typed
-query_set_count_k_2_of_an_empty_one_done = record {
-  functions =
-      record {
-        name = codes "main";
-        parameters = [];
-        result = Some (parameter.Value t.Int);
-        variables = record { kind = sort.Container; name = 0; place = at 2 17 } ∷ [];
-        body = block (Some 0) (all (
-            declares (makes f.Set (head (callees.Row 92) (at 2 3) None None []) none) ∷
-            does (prints (
-            number (call (head (callees.Row 109) (at 3 18) None (Some 0) (Some 0 ∷ [])) (with (literal t.Int (pos 2)) none)) ∷
-            text (codes " ") ∷
-            [])) ∷
-            []));
-        close = at 4 1;
-      } ∷
-      [];
-  main = 0;
-  sites = at 4 1 ∷ [];
-  loops = [];
-  names = codes "c" ∷ [];
-  constants = pos 0 ∷ pos 1 ∷ pos 2 ∷ pos 3 ∷ [];
-}
-
-query_set_count_k_2_of_an_empty_one_done_ends : run query_set_count_k_2_of_an_empty_one_done [] [] 500
-    ≡ finish (Done (pos 0)) (codes "0 ") 0
-unfolding digits table
-query_set_count_k_2_of_an_empty_one_done_ends = refl
 
 -- exception, reserve of unordered_map: exception
 -- int main() {
@@ -398,3 +301,83 @@ exception_reserve_of_unordered_set_exception_ends : run exception_reserve_of_uno
     ≡ finish (Thrown (at 3 5)) [] 0
 unfolding table
 exception_reserve_of_unordered_set_exception_ends = refl
+
+-- exception, at of vector: exception
+-- int main() {
+--   std::vector<int> v = {1, 2};
+--   std::cout << v.at(1);
+--   std::cout << v.at(2);
+-- }
+abbrev pub exception_at_of_vector_exception : Typed
+exception_at_of_vector_exception = record {
+  functions =
+      record {
+        name = codes "main";
+        parameters = [];
+        result = Some (parameter.Value t.Int);
+        variables = record { kind = sort.Container; name = 0; place = at 2 20 } ∷ [];
+        body = block (Some 0) (all (
+            declares (makes f.Vector (head (callees.Row 1) (at 2 3) None None [])
+            (with (literal t.Int (pos 1)) (with (literal t.Int (pos 2)) none))) ∷
+            does (prints (
+            number (held (element (head (callees.Row 13) (at 3 18) None (Some 0) (Some 0 ∷ []))
+            (with (convert t.Size (literal t.Int (pos 1))) none))) ∷
+            [])) ∷
+            does (prints (
+            number (held (element (head (callees.Row 13) (at 4 18) None (Some 0) (Some 0 ∷ []))
+            (with (convert t.Size (literal t.Int (pos 2))) none))) ∷
+            [])) ∷
+            []));
+        close = at 5 1;
+      } ∷
+      [];
+  main = 0;
+  sites = at 5 1 ∷ [];
+  loops = [];
+  names = codes "v" ∷ [];
+  constants = pos 0 ∷ pos 1 ∷ pos 2 ∷ pos 3 ∷ [];
+}
+
+exception_at_of_vector_exception_ends : run exception_at_of_vector_exception [] [] 500 ≡ finish (Thrown (at 4 18)) (codes "2") 0
+unfolding digits table
+exception_at_of_vector_exception_ends = refl
+
+-- exception, insert(p, n, x), need first: trap
+-- int main() {
+--   std::vector<int> v = {1, 2};
+--   std::vector<int> w;
+--   v.insert(w.begin(), -1, 1);
+-- }
+abbrev pub exception_insert_p_n_x_need_first_trap : Typed
+exception_insert_p_n_x_need_first_trap = record {
+  functions =
+      record {
+        name = codes "main";
+        parameters = [];
+        result = Some (parameter.Value t.Int);
+        variables =
+            record { kind = sort.Container; name = 0; place = at 2 20 } ∷
+            record { kind = sort.Container; name = 1; place = at 3 20 } ∷
+            [];
+        body = block (Some 1) (all (
+            declares (makes f.Vector (head (callees.Row 1) (at 2 3) None None [])
+            (with (literal t.Int (pos 1)) (with (literal t.Int (pos 2)) none))) ∷
+            declares (makes f.Vector (head (callees.Row 0) (at 3 3) None None []) none) ∷
+            does (evaluates (call (head (callees.Row 18) (at 4 5) (Some 0) (Some 0) (Some 0 ∷ [])) (with
+            (call (head (callees.Row 7) (at 4 14) None (Some 1) (Some 1 ∷ [])) none)
+            (with (convert t.Size (negate t.Int (at 4 23) (literal t.Int (pos 1)))) (with (literal t.Int (pos 1)) none))))) ∷
+            []));
+        close = at 5 1;
+      } ∷
+      [];
+  main = 0;
+  sites = at 4 5 ∷ at 5 1 ∷ [];
+  loops = [];
+  names = codes "v" ∷ codes "w" ∷ [];
+  constants = pos 0 ∷ pos 1 ∷ pos 2 ∷ pos 3 ∷ [];
+}
+
+exception_insert_p_n_x_need_first_trap_ends : run exception_insert_p_n_x_need_first_trap [] [] 500
+    ≡ finish (Trapped (trap (at 4 5) 2 (codes "insert") 1 None None)) [] 0
+unfolding table
+exception_insert_p_n_x_need_first_trap_ends = refl

@@ -149,6 +149,12 @@ vector_at_throws : on_first row.VECTOR_AT (number (pos 3) ∷ []) (three f.Vecto
 unfolding table
 vector_at_throws = refl
 
+-- insert(p, n, x) with n as great as a std::size_t may be: too many elements, whatever the room
+vector_insert_too_many : on_first row.VECTOR_INSERT_FILL (iterator 1 ∷ number (pos 18446744073709551615) ∷ number (pos 15) ∷ [])
+    (three f.Vector 3 10 20 30) [] ≡ thrown
+unfolding table
+vector_insert_too_many = refl
+
 vector_subscript_traps : on_first row.VECTOR_SUBSCRIPT (number (pos 3) ∷ []) (three f.Vector 3 10 20 30) [] ≡ trapped 5 0
 unfolding table
 vector_subscript_traps = refl
@@ -274,6 +280,18 @@ list_splice_one : outcome 7 (on_first row.LIST_SPLICE_ONE (iterator 3 ∷ contai
     })
 unfolding table
 list_splice_one = refl
+
+-- so does the second of the other list
+list_splice_second : outcome 7 (on_first row.LIST_SPLICE_ONE (iterator 3 ∷ container_at 1 ∷ iterator 5 ∷ []) (three_and_two f.List 0) []) ≡ Some
+    (record {
+      given = [];
+      number = None;
+      keys = (pos 10 ∷ pos 20 ∷ pos 30 ∷ pos 25 ∷ []) ∷ (pos 15 ∷ []) ∷ [];
+      iterators = in_first 0 ∷ in_first 1 ∷ in_first 2 ∷ in_first 4 ∷ in_second 0 ∷ in_first 3 ∷ in_second 1 ∷ [];
+      references = in_first 0 ∷ in_first 1 ∷ in_first 2 ∷ None ∷ in_second 0 ∷ in_first 3 ∷ None ∷ [];
+    })
+unfolding table
+list_splice_second = refl
 
 -- splice(p, c, f, l): a range
 list_splice_range : outcome 7

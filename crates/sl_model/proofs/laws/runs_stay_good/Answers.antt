@@ -1,9 +1,10 @@
--- The library keeps memory sound and states good, so each run does.
+-- The library keeps memory sound and orderly and states good, so each run does.
 use Rattle.sl_model.specs.Eval.{Out, Gives, Stops}
-use Rattle.sl_model.specs.Good.{IsGood, IsSound}
+use Rattle.sl_model.specs.Good.{IsSound}
 use Rattle.sl_model.specs.Run.{end_state, main_out}
 use Rattle.sl_model.proofs.Keeps.{InOut}
-use Rattle.sl_model.proofs.RunGood.{IsGoodOut, run-good}
+use Rattle.sl_model.proofs.RunGood.{end-good}
+use Rattle.sl_model.proofs.RunOrderly.{run-orderly}
 use Rattle.sl_model.proofs.RunSound.{run-sound}
 use Rattle.sl_model.proofs.laws.runs_stay_good.Goals as goal
 
@@ -11,12 +12,11 @@ sound_end : (o : Out) → InOut IsSound o → IsSound (end_state o).memory
 sound_end (Gives v s) h = h
 sound_end (Stops e s) h = h
 
-good_end : (o : Out) → IsGoodOut o → IsGood (end_state o)
-good_end (Gives v s) h = h
-good_end (Stops e s) h = h
-
 pub returns-clause-sound : goal.returns-clause-sound
 returns-clause-sound c = λ p input picks steps. sound_end (main_out p input picks steps) (run-sound p input picks steps)
 
+pub returns-clause-orderly : goal.returns-clause-orderly
+returns-clause-orderly c = run-orderly
+
 pub returns-clause-good : goal.returns-clause-good
-returns-clause-good c = λ p input picks steps scoped. good_end (main_out p input picks steps) (run-good p scoped input picks steps)
+returns-clause-good c = λ p input picks steps scoped. end-good p scoped input picks steps

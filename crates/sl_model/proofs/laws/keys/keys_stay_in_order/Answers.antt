@@ -1,6 +1,6 @@
 -- Each row of the library leaves keys in order.
 use Rattle.sl_model.proofs.LibraryOrderly.{lib-orderly}
-use Rattle.sl_model.proofs.OrderlyEffects.{write-orderly, end-orderly}
+use Rattle.sl_model.proofs.OrderlyEffects.{write-orderly, end-orderly, empty-orderly}
 use Rattle.sl_model.proofs.laws.keys.keys_stay_in_order.Goals as goal
 
 pub returns-clause-called : goal.returns-clause-called
@@ -13,4 +13,4 @@ pub returns-clause-ended : goal.returns-clause-ended
 returns-clause-ended c = end-orderly
 
 pub returns-clause-empty : goal.returns-clause-empty
-returns-clause-empty c = λ j d at. absurd (cc)
+returns-clause-empty c = empty-orderly

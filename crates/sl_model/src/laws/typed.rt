@@ -1,0 +1,16 @@
+//! What holds of each well typed text.
+ghost use Rattle.std.specs.Prelude.{ℕ, ℤ, List};
+ghost use Rattle.sl_syntax.specs.Typed.{Typed};
+ghost use Rattle.sl_model.specs.Good.{IsGood};
+ghost use Rattle.sl_model.specs.Run.{end_state, main_out};
+ghost use Rattle.sl_model.specs.Scoped.{IsScoped};
+ghost use Rattle.sl_model.specs.Shapes.{lib_makes, lib_shape};
+ghost use Rattle.sl_model.specs.WellTyped.{WellTyped};
+
+/// In a well typed text each variable that is used is in scope, and each operand has the shape that is asked for. So
+/// each of its runs ends in a good state.
+pub fn well_typed_texts_are_scoped()
+    ensures scoped { (p : Typed) → WellTyped p → IsScoped lib_shape lib_makes p }
+    ensures good { (p : Typed) → WellTyped p → (input : List ℤ) (picks : List ℕ) (steps : ℕ) →
+        IsGood (end_state (main_out p input picks steps)) }
+{}
