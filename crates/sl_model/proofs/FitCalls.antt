@@ -39,7 +39,7 @@ use Rattle.sl_model.proofs.Levels.{Level, level_of, counts_of, Now, Above}
 use Rattle.sl_model.proofs.Gifts.{KeepsGood, now_again}
 use Rattle.sl_model.proofs.GoodBinding.{at_bound}
 use Rattle.sl_model.proofs.GoodCalls.{TakesParameters, at_call_of}
-use Rattle.sl_model.proofs.StackTypes.{Kind, iterator_of, Stack, StacksFit, HasMeaning, ContFits, ScopeFits, MemoryFits, new_pointer-fits, length-forms}
+use Rattle.sl_model.proofs.StackTypes.{Kind, iterator_of, Stack, StacksFit, HasMeaning, ContFits, ScopeFits, new_pointer-fits, length-forms}
 use Rattle.sl_model.proofs.StackTypes.{end-fits, from_now, now-fits, then-fits}
 use Rattle.sl_model.proofs.StackScopes.{conts_with, iters_new, numbers_with, last_there, IsNumberType}
 use Rattle.sl_model.proofs.FitOuts.{OutFits, number_fits}
@@ -210,14 +210,14 @@ BodiesFit p own = (f : ℕ) (h : Function) (at : Place) (d : Stack) (s : State) 
     → counts_of s.frame ≡ counts_with h.parameters no_counts → StacksFit d s → OutFits d (type_given h.result) (own f at s)
 
 -- coming back from a body: what lies on the caller's stacks is of its types
-fit_back : (ends : MemoryFits) (due : Option ParameterKind) (ps : List ParameterKind) (d : Stack) (before : State) (o : Out)
+fit_back : (due : Option ParameterKind) (ps : List ParameterKind) (d : Stack) (before : State) (o : Out)
     → length d.conts ≡ length before.memory.conts → length d.iters ≡ length before.iters
     → OutFits (with_iters (iters_bound ps d.iters) d) (type_given due) o → OutFits d (type_given due) (come_back before o)
-fit_back ends due ps d before (Gives v s) conts iters h = (
-  given_ended ends due 0 (length before.memory.conts) s.memory v h.0,
-  end-fits ends d 0 (length before.memory.conts) (length before.iters) s.memory s.iters conts iters (before_bound ps d.iters d s h.1),
+fit_back due ps d before (Gives v s) conts iters h = (
+  given_ended due 0 (length before.memory.conts) s.memory v h.0,
+  end-fits d 0 (length before.memory.conts) (length before.iters) s.memory s.iters conts iters (before_bound ps d.iters d s h.1),
 )
-fit_back ends due ps d before (Stops e s) conts iters h = h
+fit_back due ps d before (Stops e s) conts iters h = h
 
 -- what fits from a state on fits from before
 fit_from : (d : Stack) (s : State) (u : ExprType) (o : Out) → d.used ≤ s.memory.fresh → StacksFit d s → OutFits (from_now d s) u o → OutFits d u o
@@ -225,12 +225,12 @@ fit_from d s u (Gives v t) less h i = (i.0, then-fits d s t less h i.1)
 fit_from d s u (Stops e t) less h i = i
 
 -- so each call gives what is of the type of its function
-own-fits : (ends : MemoryFits) (p : Typed) (w : World) (sig : Signature) → sig.functions ≡ p.functions → TakesParameters sig w → BodiesFit p w.own
+own-fits : (p : Typed) (w : World) (sig : Signature) → sig.functions ≡ p.functions → TakesParameters sig w → BodiesFit p w.own
     → OwnFits sig w
-own-fits ends p w sig same takes bodies f h at L d gifts us vs s there suit apart given goes typed fits conts iters stacks =
+own-fits p w sig same takes bodies f h at L d gifts us vs s there suit apart given goes typed fits conts iters stacks =
     subst (λ (ks : List ParameterKind). OutFits d (type_given h.result) (come_back s (w.own f at (bound ks vs s)))) (sym (takes f h there))
     (fit_from d s (type_given h.result) (come_back s (w.own f at (bound h.parameters vs s))) given.now.later stacks
-    (fit_back ends h.result h.parameters (from_now d s) s (w.own f at (bound h.parameters vs s)) conts_here iters_here
+    (fit_back h.result h.parameters (from_now d s) s (w.own f at (bound h.parameters vs s)) conts_here iters_here
     (let start = at_bound L s.memory.fresh h.parameters gifts vs s suit given.given given.used apart (now_again L d.used s given.now) in
     bodies f h at (with_iters (iters_bound h.parameters d.iters) (from_now d s)) (bound h.parameters vs s)
     (subst (λ (fs : List Function). slice_get fs f ≡ Some h) same there) in_body.scope
@@ -285,7 +285,7 @@ function_parts p h e = let g = with_parameters h.parameters (no_variables p) in
       second_of_both (is_block h.body && has_type (type_given h.result) && is_within g) (is_typed_stmt g h.result false h.body) e,
     )
 
-module _ (l : Lib) (types : FitsTypes l) (ends : MemoryFits) (shape : Callee → Shape) (makes_one : Callee → Bool)
+module _ (l : Lib) (types : FitsTypes l) (shape : Callee → Shape) (makes_one : Callee → Bool)
     (lib_keeps : KeepsGood shape makes_one l) (p : Typed) (typed : WellTyped p) (scoped : IsScoped shape makes_one p) where
   -- the result of `main` is an int
   main_int : (f : ℕ) (h : Function) → slice_get p.functions f ≡ Some h → (f == p.main) ≡ true → is_scalar t.Int (type_given h.result) ≡ true
@@ -301,12 +301,12 @@ module _ (l : Lib) (types : FitsTypes l) (ends : MemoryFits) (shape : Callee →
       (let parts = function_parts p h (function_is_typed p typed f h there) in
       fit_given d (f == p.main) h (exec (world_of l p (call_of l k p)) h.body s) (main_int f h there)
       (fit_exec (world_of l p (call_of l k p)) (signature_of shape makes_one p) lib_keeps (at_call_of shape makes_one l lib_keeps p scoped k) types
-      (own-fits ends p (world_of l p (call_of l k p)) (signature_of shape makes_one p) refl (λ n x e. ap parameters_in e) (fit_bodies k))
-      ends h.result (shape_of_result h.result) parts.0 h.body false (level_of s) (with_parameters h.parameters (no_variables p)) d s
+      (own-fits p (world_of l p (call_of l k p)) (signature_of shape makes_one p) refl (λ n x e. ap parameters_in e) (fit_bodies k))
+      h.result (shape_of_result h.result) parts.0 h.body false (level_of s) (with_parameters h.parameters (no_variables p)) d s
       (sym (functions_with_parameters h.parameters (no_variables p))) scope
       (subst (λ (c : Counts). InStmt (signature_of shape makes_one p) (shape_of_result h.result) c h.body) (sym counts) (scoped.bodies f h there))
       parts.1 now stacks))
 
   -- and so does each call
   pub fit_call_of : (k : ℕ) → OwnFits (signature_of shape makes_one p) (world_of l p (call_of l k p))
-  fit_call_of k = own-fits ends p (world_of l p (call_of l k p)) (signature_of shape makes_one p) refl (λ n x e. ap parameters_in e) (fit_bodies k)
+  fit_call_of k = own-fits p (world_of l p (call_of l k p)) (signature_of shape makes_one p) refl (λ n x e. ap parameters_in e) (fit_bodies k)

@@ -36,13 +36,14 @@ use Rattle.sl_model.proofs.Passing.{first_of_both, second_of_both}
 use Rattle.sl_model.proofs.Called.{one_form}
 use Rattle.sl_model.proofs.TypedOperands.{typed_by}
 use Rattle.sl_model.proofs.TypedCalls.{making_known}
+use Rattle.sl_model.proofs.ScopedStatements.{second_is_iterator}
 use Rattle.sl_model.proofs.TypedStatements.{no_type_taken}
 use Rattle.sl_model.proofs.Fitting.{Fits, IsElement, IsMeant, FitsTypes}
 use Rattle.sl_model.proofs.Levels.{Level, counts_of, Now}
 use Rattle.sl_model.proofs.Gifts.{KeepsGood, OwnKeepsGood, Gave, OutsAt, gift_of_left, at_then_number, at_answer, at_read}
 use Rattle.sl_model.proofs.GoodEval.{at_eval, at_reach, at_all}
 use Rattle.sl_model.proofs.GoodEffects.{at_printed}
-use Rattle.sl_model.proofs.StackTypes.{Kind, iterator_of, a_reference, Stack, Holds, Lies, StacksFit, IterFits, ScopeFits, MemoryFits, write-fits}
+use Rattle.sl_model.proofs.StackTypes.{Kind, iterator_of, a_reference, Stack, Holds, Lies, StacksFit, IterFits, ScopeFits, write-fits}
 use Rattle.sl_model.proofs.StackTypes.{set_iterator-fits, one_iter, one_cont, new_pointer-fits, new_container-fits}
 use Rattle.sl_model.proofs.FitOuts.{Of, ANumber, IsPlace, APlace, OutsFit, fit_then_number, fit_answer, fit_read}
 use Rattle.sl_model.proofs.FitEval.{OwnFits, kind_of, fit_eval, fit_reach, fit_all, fit_place}
@@ -54,11 +55,6 @@ set_kind : (d : Stack) (m : Memory) (held : List Pointer) (l x : ℕ) (k : Kind)
     → Lies d m held → Lies d m (slice_set held l (iterator_at x))
 set_kind d m held l x (iterator_of form) there fits h = set_iterator-fits d m held l x form there fits h
 set_kind d m held l x a_reference there fits h = absurd fits
-
--- the second of two iterators of one type is one
-same_iterator : (u v : ExprType) → same_iterators u v ≡ true → is_iterator v ≡ true
-same_iterator (iterator_type b x) (iterator_type c y) h = refl
-same_iterator u v h = absurd (cc)
 
 -- where the first is, one of the second's kind is
 same_kind : (ks : List Kind) (u v : ExprType) (l : ℕ) → same_iterators u v ≡ true → IterFits ks u l → slice_get ks l ≡ Some (kind_in v)
@@ -88,7 +84,7 @@ module _ (due : Option ParameterKind) (d : Stack) where
   fit_stamp L e u go v s t h k = absurd (cc)
 
 module _ (w : World) (sig : Signature) (lib_keeps : KeepsGood sig.shape sig.makes w.lib) (own_keeps : OwnKeepsGood sig w)
-    (types : FitsTypes w.lib) (own_fits : OwnFits sig w) (ends : MemoryFits) (due : Option ParameterKind) (shape : Shape) (L : Level) (g : Scope)
+    (types : FitsTypes w.lib) (own_fits : OwnFits sig w) (due : Option ParameterKind) (shape : Shape) (L : Level) (g : Scope)
     (known : sig.functions ≡ g.functions) (d : Stack) (q : ScopeFits L g d.conts d.iters) where
   -- as many iterators are known as there are
   iters_here : (s : State) → Now L d.used s → length d.iters ≡ length s.iters
@@ -104,7 +100,7 @@ module _ (w : World) (sig : Signature) (lib_keeps : KeepsGood sig.shape sig.make
       → ((v : Value) (s : State) → Gave L d.used (gift_of sig a) v s → Fits s.memory (type_of g a) v → StacksFit d s → FlowFits due d e (go v s))
       → Now L d.used s → StacksFit d s → FlowFits due d e (flow_of (eval w a s) go)
   fit_of_value e a go s i t k h f = fit_value due L d e (gift_of sig a) (Of (type_of g a)) (eval w a s) go
-      (at_eval w sig lib_keeps own_keeps L a d.used s i h) (fit_eval w sig lib_keeps own_keeps types own_fits ends L g known a d s q i t h f) k
+      (at_eval w sig lib_keeps own_keeps L a d.used s i h) (fit_eval w sig lib_keeps own_keeps types own_fits L g known a d s q i t h f) k
 
   -- what follows an expression that gives a number
   fit_of_number : (e : Stack) (a : Expr) (go : ℤ → Meaning) (s : State) → InExpr sig (counts_of L.frame) a → has_type (type_of g a) ≡ true
@@ -150,7 +146,7 @@ module _ (w : World) (sig : Signature) (lib_keeps : KeepsGood sig.shape sig.make
       → ((v : Value) (s : State) → Gave L d.used (gift_of_left l) v s → IsPlace v → StacksFit d s → FlowFits due d d (go v s))
       → Now L d.used s → StacksFit d s → FlowFits due d d (flow_of (reach w l s) go)
   fit_of_left l go s i t k h f = fit_value due L d d (gift_of_left l) APlace (reach w l s) go
-      (at_reach w sig lib_keeps own_keeps L l d.used s i h) (fit_reach w sig lib_keeps own_keeps types own_fits ends L g known l d s q i t h f) k
+      (at_reach w sig lib_keeps own_keeps L l d.used s i h) (fit_reach w sig lib_keeps own_keeps types own_fits L g known l d s q i t h f) k
 
   -- the end of an assignment with an operator
   fit_finish : (op : Arithmetic) (ty left_ty : Scalar) (at : Place) (l : Left) (y : ℤ) (v : Value) (s : State)
@@ -167,7 +163,7 @@ module _ (w : World) (sig : Signature) (lib_keeps : KeepsGood sig.shape sig.make
       (λ x s. answered at (operated op ty (converted ty x) y) s) (at_read L d.used (name_place l) l v s h) (fit_read L d (name_place l) v s p f)
       (λ x s i f. fit_answer L d at (operated op ty (converted ty x) y) s f))
       (λ u s i n f. fit_on_number due L d d (λ z s. Next (write_at v (converted left_ty z) s)) u s
-      (λ z. write-fits ends d v (converted left_ty z) s i.now.good i.now.later f))
+      (λ z. write-fits d v (converted left_ty z) s i.now.good i.now.later f))
 
   -- each effect
   pub fit_affect : (e : Effect) (s : State) → InEffect sig (counts_of L.frame) e → is_typed_effect g e ≡ true → Now L d.used s → StacksFit d s
@@ -183,7 +179,7 @@ module _ (w : World) (sig : Signature) (lib_keeps : KeepsGood sig.shape sig.make
       let left_typed = typed_by (λ u. takes u (type_of g a)) refl (type_of_left g l) t in
       fit_of_number d a (λ z s. flow_of (reach w l s) (λ at_l s. Next (write_at at_l z s))) s i.0 value_typed
       (λ z s j f. fit_of_left l (λ at_l s. Next (write_at at_l z s)) s i.1 left_typed
-      (λ v s k p f. write-fits ends d v z s k.now.good k.now.later f) j f) h f
+      (λ v s k p f. write-fits d v z s k.now.good k.now.later f) j f) h f
   fit_affect (updates op ty left_ty at l a) s i t h f =
       let both = first_of_both (is_written_left g left_ty l && works_in left_ty ty) (is_scalar ty (type_of g a)) t in
       let left = first_of_both (is_written_left g left_ty l) (works_in left_ty ty) both in
@@ -198,11 +194,11 @@ module _ (w : World) (sig : Signature) (lib_keeps : KeepsGood sig.shape sig.make
       (on_number (λ z s. Next (write_at at_l (converted left_ty z) s)))) s i.1 (typed_by (is_scalar left_ty) refl (type_of_left g l) number)
       (λ v s k p f. fit_finish op ty left_ty at l y v s k p f) j f) h f
   fit_affect (moves_to it a) s i t h f =
-      let stands = same_iterator (variable_type g.iterators it) (type_of g a) t in
+      let stands = second_is_iterator (variable_type g.iterators it) (type_of g a) t in
       fit_of_stamp d a (λ stamp s. Next (set_iterator_at (iter_of s it) stamp s)) s i.1.1 (typed_by is_iterator refl (type_of g a) stands) stands
       (λ x s holds j f. set_kind d s.memory s.iters (iter_of s it) x (kind_in (type_of g a))
       (same_kind d.iters (variable_type g.iterators it) (type_of g a) (iter_of s it) t
-      (kind_of w sig lib_keeps own_keeps types own_fits ends L g known d it s q i.0 j)) holds f) h f
+      (kind_of w sig lib_keeps own_keeps types own_fits L g known d it s q i.0 j)) holds f) h f
 
   -- the container that a call made
   fit_made : (form : Form) (hd : Head) (vs : List Value) (n : ℕ) (o : LibOut) (s : State) → Now L d.used s → IsMeant (form ∷ []) s.memory empty_type o
@@ -236,13 +232,13 @@ module _ (w : World) (sig : Signature) (lib_keeps : KeepsGood sig.shape sig.make
   fit_declared (binds_reference hd ops) s i t h f = fit_value due L d (one_iter a_reference d) (a_value an_element) IsElement
       (then_call (eval_all w ops s) (use_library w.lib hd)) (binds_to hd.place)
       (at_reach w sig lib_keeps own_keeps L (element hd ops) d.used s i h)
-      (fit_place w sig lib_keeps own_keeps types own_fits ends L g known hd ops d s q i.1 t h f)
+      (fit_place w sig lib_keeps own_keeps types own_fits L g known hd ops d s q i.1 t h f)
       (λ v s j there f. fit_binds due d hd.place v s (iters_here s j.now) there f)
   fit_declared (makes form hd ops) s i t h f =
       let all = making_known form hd.callee hd.object (types_of g ops) t in
       fit_make (gifts_of sig ops) (types_of g ops) form hd (length s.memory.conts) (eval_all w ops s) t
       (at_all w sig lib_keeps own_keeps L ops d.used s i.1 h)
-      (fit_all w sig lib_keeps own_keeps types own_fits ends L g known ops d s q i.1 all.0 h f)
+      (fit_all w sig lib_keeps own_keeps types own_fits L g known ops d s q i.1 all.0 h f)
 
   -- the first part of a `for`
   pub fit_begun : (head : First) (s : State) → InFirst sig (counts_of L.frame) head → is_typed_first g head ≡ true → Now L d.used s → StacksFit d s

@@ -32,6 +32,7 @@ use Rattle.sl_model.specs.WellTypedExpressions.{is_variable, type_of, type_of_le
 use Rattle.sl_model.proofs.Passing.{first_of_both, second_of_both}
 use Rattle.sl_model.proofs.TypedOperands.{typed_by, only_holds, only_rest, all_typed}
 use Rattle.sl_model.proofs.TypedCalls.{call_known}
+use Rattle.sl_model.proofs.TypedRows.{not_so}
 use Rattle.sl_model.proofs.TypedParts.{converted_number, negated_number, inverted_number, numbers_of_and, numbers_of_or}
 use Rattle.sl_model.proofs.TypedParts.{calculated_numbers, compared_numbers, stepped_number, moving_call, value_call, element_call, function_call}
 use Rattle.sl_model.proofs.TypedParts.{first_stands, second_stands}
@@ -41,7 +42,7 @@ use Rattle.sl_model.proofs.Levels.{Level, counts_of, Now}
 use Rattle.sl_model.proofs.Gifts.{AllUsed, KeepsGood, OwnKeepsGood, AllGave, gift_of_left, stamp_used, now_again, at_answer}
 use Rattle.sl_model.proofs.Gifts.{at_read, at_library}
 use Rattle.sl_model.proofs.GoodEval.{at_eval, at_reach, at_all}
-use Rattle.sl_model.proofs.StackTypes.{Kind, a_reference, Stack, StacksFit, IterFits, ScopeFits, MemoryFits, write-fits, from_now}
+use Rattle.sl_model.proofs.StackTypes.{Kind, a_reference, Stack, StacksFit, IterFits, ScopeFits, write-fits, from_now}
 use Rattle.sl_model.proofs.StackTypes.{now-fits, then-fits}
 use Rattle.sl_model.proofs.StackScopes.{conts_at, iters_at, IsNumberType, scalars_at, iterator-held, IsReference, reference-held}
 use Rattle.sl_model.proofs.FitOuts.{OutHas, Of, ANumber, IsPlace, APlace, OutFits, OutsFit, out_as, fits_only, numbered, numbered_only, given_value}
@@ -59,11 +60,6 @@ OwnFits sig w = (f : ℕ) (h : Function) (at : Place) (L : Level) (d : Stack) (g
 -- the frame of a state at a level
 pub frame_here : (L : Level) (n : ℕ) (s : State) → Now L n s → s.frame ≡ L.frame
 frame_here L n s h = ap (λ (l : Level). l.frame) h.level
-
--- what isn't denied
-pub not_true : (b : Bool) → not b ≡ true → b ≡ false
-not_true true h = absurd (cc)
-not_true false h = refl
 
 -- a part of a reference that has a type is of one
 use_kind : (ks : List Kind) (part : ElementPart) (u : ExprType) (l : ℕ) → has_type (type_of_use part u) ≡ true → IterFits ks u l
@@ -117,7 +113,7 @@ fit_used d at name part (reference_to refer bound) s h f =
 fit_used d at name part (iterator_at stamp) s h f = absurd h
 
 module _ (w : World) (sig : Signature) (lib_keeps : KeepsGood sig.shape sig.makes w.lib) (own_keeps : OwnKeepsGood sig w)
-    (types : FitsTypes w.lib) (own_fits : OwnFits sig w) (ends : MemoryFits) (L : Level) (g : Scope) (known : sig.functions ≡ g.functions) where
+    (types : FitsTypes w.lib) (own_fits : OwnFits sig w) (L : Level) (g : Scope) (known : sig.functions ≡ g.functions) where
   -- what is in scope is where its type says
   abbrev Scoped : Stack → Type 0
   Scoped d = ScopeFits L g d.conts d.iters
@@ -220,7 +216,7 @@ module _ (w : World) (sig : Signature) (lib_keeps : KeepsGood sig.shape sig.make
   fit_increased d step x ty at l old s h f = fit_then_number L d (a_value a_number) ANumber ANumber (answered at (operated o.Add ty old (by_one step)) s)
       (λ new s. Gives (chosen x (number old) (number new)) (write_at l new s)) (at_answer L d.used at (operated o.Add ty old (by_one step)) s h)
       (fit_answer L d at (operated o.Add ty old (by_one step)) s f)
-      (λ z s i j. (chosen_number x old z, write-fits ends d l z s i.good i.later j))
+      (λ z s i j. (chosen_number x old z, write-fits d l z s i.good i.later j))
 
   -- whether a value is zero
   abbrev whether : ℤ → State → Out
@@ -314,7 +310,7 @@ module _ (w : World) (sig : Signature) (lib_keeps : KeepsGood sig.shape sig.make
         (given_value u m v (only_rest (not (is_moving hd.callee)) (only_value u) t) given))
         (fit_call L d (gifts_of sig ops) (types_of g ops) (λ m v. IsGiven m u v) (eval_all w ops s) (use_library w.lib hd)
         (at_all w sig lib_keeps own_keeps L ops d.used s i.1 h) (fit_all ops d s q i.1 all.0 h f)
-        (λ vs s j fits k. fit_library d hd (types_of g ops) vs s q (not_true (is_moving hd.callee) parts.0) parts.1 i.0.1 j.now j.used fits k))
+        (λ vs s j fits k. fit_library d hd (types_of g ops) vs s q (not_so (is_moving hd.callee) parts.0) parts.1 i.0.1 j.now j.used fits k))
     fit_eval (own_call n at ops) d s q i t h f =
         let typed = function_call g n at ops t in
         let all = function_known g.functions n (not (n == g.main)) (slice_get g.functions n) (types_of g ops) refl typed in

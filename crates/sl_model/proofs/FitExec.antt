@@ -37,7 +37,7 @@ use Rattle.sl_model.proofs.GoodFlow.{FlowIn}
 use Rattle.sl_model.proofs.GoodEffects.{level_declared, level_begun, counts_declared, counts_begun, at_begun, at_ended}
 use Rattle.sl_model.proofs.GoodRange.{level_hidden, level_range, counts_range, range-now, numbered-now, at_takes_number, at_takes_element}
 use Rattle.sl_model.proofs.GoodExec.{part_stays, first_hidden, second_hidden, at_exec}
-use Rattle.sl_model.proofs.StackTypes.{Stack, StacksFit, ContFits, ScopeFits, MemoryFits, one_iter, a_reference}
+use Rattle.sl_model.proofs.StackTypes.{Stack, StacksFit, ContFits, ScopeFits, one_iter, a_reference}
 use Rattle.sl_model.proofs.StackScopes.{conts_at}
 use Rattle.sl_model.proofs.FitEval.{OwnFits, frame_here}
 use Rattle.sl_model.proofs.FitFlow.{FlowFits, flow_as, fit_scope, fit_after, Fit, fit_either, fit_tick, fit_turns}
@@ -90,7 +90,7 @@ form_there fs m (container_type access form) l keep h = keep l form h
 form_there fs m u l keep h = absurd h
 
 module _ (w : World) (sig : Signature) (lib_keeps : KeepsGood sig.shape sig.makes w.lib) (own_keeps : OwnKeepsGood sig w)
-    (types : FitsTypes w.lib) (own_fits : OwnFits sig w) (ends : MemoryFits) (due : Option ParameterKind) (shape : Shape)
+    (types : FitsTypes w.lib) (own_fits : OwnFits sig w) (due : Option ParameterKind) (shape : Shape)
     (given : has_type (type_given due) ≡ true) where
   -- a part of a statement stays at its level
   good_part : (a : Stmt) (L : Level) (n : ℕ) → IsPart a → InStmt sig shape (counts_of L.frame) a → (s : State) → Now L n s
@@ -128,7 +128,7 @@ module _ (w : World) (sig : Signature) (lib_keeps : KeepsGood sig.shape sig.make
       (new_scalar t.Int None (range_start (cont_of s x) s))))
   range_by_value L g d x at name a s q low well part i k h f = let form = form_in (variable_type g.containers x) in
       let e = stack_range taken.Value form d in let M = level_range taken.Value L in
-      fit_scope due ends d 0 s (over_range w at name (length s.iters) (length s.iters + 1) (takes_number at (length s.scalars) (exec w a))
+      fit_scope due d 0 s (over_range w at name (length s.iters) (length s.iters + 1) (takes_number at (length s.scalars) (exec w a))
       (new_scalar t.Int None (range_start (cont_of s x) s))) (conts_here L g d s q h) (iters_here L g d s q h)
       (flow_as due e e d d (over_range w at name (length s.iters) (length s.iters + 1) (takes_number at (length s.scalars) (exec w a))
       (new_scalar t.Int None (range_start (cont_of s x) s))) (before_hidden form d) (before_hidden form d)
@@ -136,7 +136,7 @@ module _ (w : World) (sig : Signature) (lib_keeps : KeepsGood sig.shape sig.make
       (first_hidden w sig lib_keeps own_keeps shape d.used L s h) (second_hidden w sig lib_keeps own_keeps shape d.used L s h) well
       (first_known d.iters form (length s.iters) (iters_here L g d s q h)) (second_known d.iters form (length s.iters) (iters_here L g d s q h))
       (at_takes_number shape M d.used at (length s.scalars) (exec w a) (good_part a M d.used part i))
-      (fit_takes_number ends due shape M e at (length s.scalars) (exec w a) k)
+      (fit_takes_number due shape M e at (length s.scalars) (exec w a) k)
       (new_scalar t.Int None (range_start (cont_of s x) s)) (numbered-now L d.used x s low h) (hidden_there L g d x s q low h f)))
 
   -- a range-for by reference
@@ -149,7 +149,7 @@ module _ (w : World) (sig : Signature) (lib_keeps : KeepsGood sig.shape sig.make
       (range_start (cont_of s x) s)))
   range_by_reference L g d x at name a s q low well part i high k h f = let form = form_in (variable_type g.containers x) in
       let e = stack_hidden form d in let M = level_hidden L in
-      fit_scope due ends d 0 s (over_range w at name (length s.iters) (length s.iters + 1) (takes_element at (exec w a))
+      fit_scope due d 0 s (over_range w at name (length s.iters) (length s.iters + 1) (takes_element at (exec w a))
       (range_start (cont_of s x) s)) (conts_here L g d s q h) (iters_here L g d s q h)
       (flow_as due e e d d (over_range w at name (length s.iters) (length s.iters + 1) (takes_element at (exec w a))
       (range_start (cont_of s x) s)) (before_hidden form d) (before_hidden form d)
@@ -157,7 +157,7 @@ module _ (w : World) (sig : Signature) (lib_keeps : KeepsGood sig.shape sig.make
       (first_hidden w sig lib_keeps own_keeps shape d.used L s h) (second_hidden w sig lib_keeps own_keeps shape d.used L s h) well
       (first_known d.iters form (length s.iters) (iters_here L g d s q h)) (second_known d.iters form (length s.iters) (iters_here L g d s q h))
       (at_takes_element shape M d.used at (exec w a) (good_part a (level_range taken.Reference L) d.used part i))
-      (fit_takes_element ends due shape M e at (exec w a) q.conts_high high k)
+      (fit_takes_element due shape M e at (exec w a) q.conts_high high k)
       (range_start (cont_of s x) s) (range-now L d.used x s low h) (hidden_there L g d x s q low h f)))
 
   mutual
@@ -168,19 +168,19 @@ module _ (w : World) (sig : Signature) (lib_keeps : KeepsGood sig.shape sig.make
         → ScopeFits L g d.conts d.iters → InStmt sig shape (counts_of L.frame) a → is_typed_stmt g due inside a ≡ true → Now L d.used s
         → StacksFit d s → FlowFits due d d (exec w a s)
     fit_exec (block site all) inside L g d s known q i typed h f =
-        fit_scope due ends d (unwrap_or site 0) s (exec_all w all s) (conts_here L g d s q h) (iters_here L g d s q h)
+        fit_scope due d (unwrap_or site 0) s (exec_all w all s) (conts_here L g d s q h) (iters_here L g d s q h)
         (fit_exec_all all inside L g d s known q i typed h f)
     fit_exec (declares x) inside L g d s known q i typed h f = absurd (cc)
     fit_exec (choice k a) inside L g d s known q i typed h f =
         let condition = first_of_both (is_typed_cond g k) (is_typed_stmt g due inside a) typed in
         let body = second_of_both (is_typed_cond g k) (is_typed_stmt g due inside a) typed in
         fit_tick due L d d (λ s. tested w k s (λ v. either_way v (exec w a) Next))
-        (fit_tested w sig lib_keeps own_keeps types own_fits ends due shape L g known d q k i.0 condition (λ v. either_way v (exec w a) Next)
+        (fit_tested w sig lib_keeps own_keeps types own_fits due shape L g known d q k i.0 condition (λ v. either_way v (exec w a) Next)
         (λ v. fit_either due L d d v (exec w a) Next (λ s j f. fit_exec a inside L g d s known q i.1.1 body j f) (λ s j f. f))) s h f
     fit_exec (choice_else k a b) inside L g d s known q i typed h f =
         let parts = three_parts (is_typed_cond g k) (is_typed_stmt g due inside a) (is_typed_stmt g due inside b) typed in
         fit_tick due L d d (λ s. tested w k s (λ v. either_way v (exec w a) (exec w b)))
-        (fit_tested w sig lib_keeps own_keeps types own_fits ends due shape L g known d q k i.0 parts.0 (λ v. either_way v (exec w a) (exec w b))
+        (fit_tested w sig lib_keeps own_keeps types own_fits due shape L g known d q k i.0 parts.0 (λ v. either_way v (exec w a) (exec w b))
         (λ v. fit_either due L d d v (exec w a) (exec w b) (λ s j f. fit_exec a inside L g d s known q i.1.0.1 parts.1 j f)
         (λ s j f. fit_exec b inside L g d s known q i.1.1.1 parts.2 j f))) s h f
     fit_exec (while number k a) inside L g d s known q i typed h f =
@@ -188,7 +188,7 @@ module _ (w : World) (sig : Signature) (lib_keeps : KeepsGood sig.shape sig.make
         let body = second_of_both (is_typed_cond g k) (is_typed_stmt g due true a) typed in
         fit_tick due L d d (loop (tested w k) (exec w a) Next)
         (λ s j f. fit_turns due L d shape (suc s.steps) (tested w k) (exec w a) Next (good_part a L d.used i.1.0 i.1.1) (λ s l. l)
-        (fit_tested w sig lib_keeps own_keeps types own_fits ends due shape L g known d q k i.0 condition)
+        (fit_tested w sig lib_keeps own_keeps types own_fits due shape L g known d q k i.0 condition)
         (λ s l f. fit_exec a true L g d s known q i.1.1 body l f) (λ s l f. f) s j f) s h f
     fit_exec (for number head k last a) inside L g d s known q i typed h f =
         let r = behind_first head g in let M = level_begun head L in let e = stack_begun g head d in
@@ -198,17 +198,17 @@ module _ (w : World) (sig : Signature) (lib_keeps : KeepsGood sig.shape sig.make
         let in_last = subst (λ (c : Counts). InLast sig c last) (sym (counts_begun head L)) i.1.1.0 in
         let in_cond = subst (λ (c : Counts). InCond sig c k) (sym (counts_begun head L)) i.1.0 in
         fit_tick due L d d (λ s. scoped 0 s (and_then (begun w head s) (loop (tested w k) (exec w a) (ended w last))))
-        (λ s j f. fit_scope due ends d 0 s (and_then (begun w head s) (loop (tested w k) (exec w a) (ended w last))) (conts_here L g d s q j)
+        (λ s j f. fit_scope due d 0 s (and_then (begun w head s) (loop (tested w k) (exec w a) (ended w last))) (conts_here L g d s q j)
         (iters_here L g d s q j)
         (fit_after due L d e d shape L (Now M d.used) (Now L d.used) (begun w head s) (loop (tested w k) (exec w a) (ended w last))
         (at_begun w sig lib_keeps own_keeps shape L d.used head s i.0 j)
-        (fit_begun w sig lib_keeps own_keeps types own_fits ends due shape L g known d q head s i.0 parts.0 j f)
+        (fit_begun w sig lib_keeps own_keeps types own_fits due shape L g known d q head s i.0 parts.0 j f)
         (λ s l f. flow_as due e e d d (loop (tested w k) (exec w a) (ended w last) s) (before_begun g head d) (before_begun g head d)
         (fit_turns due M e shape (suc s.steps) (tested w k) (exec w a) (ended w last) (good_part a M d.used i.1.1.1.0 in_body)
         (λ s l. at_ended w sig lib_keeps own_keeps shape M d.used last s in_last l)
-        (fit_tested w sig lib_keeps own_keeps types own_fits ends due shape M r functions e there k in_cond parts.2)
+        (fit_tested w sig lib_keeps own_keeps types own_fits due shape M r functions e there k in_cond parts.2)
         (λ s l f. fit_exec a true M r e s functions there in_body parts.4 l f)
-        (λ s l f. fit_ended w sig lib_keeps own_keeps types own_fits ends due shape M r functions e there last s in_last parts.3 l f) s l f)))) s h f
+        (λ s l f. fit_ended w sig lib_keeps own_keeps types own_fits due shape M r functions e there last s in_last parts.3 l f) s l f)))) s h f
     fit_exec (range_for number taken.Value x at name a) inside L g d s known q i typed h f =
         let u = variable_type g.containers x in let r = in_range taken.Value u g in let M = level_range taken.Value L in
         let parts = three_parts (may_go_over taken.Value u) (is_within r) (is_typed_stmt r due true a) typed in
@@ -235,10 +235,10 @@ module _ (w : World) (sig : Signature) (lib_keeps : KeepsGood sig.shape sig.make
     fit_exec (gives_back None) inside L g d s known q i typed h f =
         fit_tick due L d d (Returned nothing) (λ s j f. (nothing_fits g due s.memory typed, f)) s h f
     fit_exec (gives_back (Some a)) inside L g d s known q i typed h f = fit_tick due L d d (λ s. flow_of (eval w a s) Returned)
-        (λ s j f. fit_of_value w sig lib_keeps own_keeps types own_fits ends due shape L g known d q d a Returned s i.1 (returned_typed g due a typed)
+        (λ s j f. fit_of_value w sig lib_keeps own_keeps types own_fits due shape L g known d q d a Returned s i.1 (returned_typed g due a typed)
         (λ v s l fits f. (returned_fits g due a s.memory v given typed fits, f)) j f) s h f
     fit_exec (does e) inside L g d s known q i typed h f = fit_tick due L d d (affect w e)
-        (λ s j f. fit_affect w sig lib_keeps own_keeps types own_fits ends due shape L g known d q e s i typed j f) s h f
+        (λ s j f. fit_affect w sig lib_keeps own_keeps types own_fits due shape L g known d q e s i typed j f) s h f
 
     -- statements and declarations in turn
     pub fit_exec_all : (all : Stmts) (inside : Bool) (L : Level) (g : Scope) (d : Stack) (s : State) → sig.functions ≡ g.functions
@@ -251,7 +251,7 @@ module _ (w : World) (sig : Signature) (lib_keeps : KeepsGood sig.shape sig.make
         fit_after due L d e d shape L (Now M d.used) (Now L d.used) (exec w (declares x) s) (exec_all w rest)
         (at_exec w sig lib_keeps own_keeps shape d.used (declares x) L s i.0 h)
         (fit_tick due L d e (declared w x)
-        (λ s j f. fit_declared w sig lib_keeps own_keeps types own_fits ends due shape L g known d q x s i.0 parts.0 j f) s h f)
+        (λ s j f. fit_declared w sig lib_keeps own_keeps types own_fits due shape L g known d q x s i.0 parts.0 j f) s h f)
         (λ s j f. flow_as due e e d d (exec_all w rest s) (before_declared g x d) (before_declared g x d)
         (fit_exec_all rest inside M r e s (known ∙ sym (functions_behind x g)) (scope_declared L g d.conts d.iters x parts.0 q)
         (subst (λ (c : Counts). InStmts sig shape c rest) (sym (counts_declared x L)) i.1) parts.2 j f))

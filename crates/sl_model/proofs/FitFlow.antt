@@ -14,10 +14,11 @@ use Rattle.sl_model.specs.Exec.{scoped, read_all, after_body, counted, turns}
 use Rattle.sl_model.specs.Shapes.{Shape, Gift}
 use Rattle.sl_model.specs.WellTypedExpressions.{type_given}
 use Rattle.sl_model.proofs.Fitting.{StampFits, IsIteratorOf, Fits}
+use Rattle.sl_model.proofs.FormsAfter.{ended-fits}
 use Rattle.sl_model.proofs.Levels.{Level, Now, apart_from_stacks, set_scalar-now}
 use Rattle.sl_model.proofs.Gifts.{Gave, OutAt}
 use Rattle.sl_model.proofs.GoodFlow.{FlowIn}
-use Rattle.sl_model.proofs.StackTypes.{Stack, StacksFit, HasMeaning, MemoryFits, set_scalar-fits, end-fits}
+use Rattle.sl_model.proofs.StackTypes.{Stack, StacksFit, HasMeaning, set_scalar-fits, end-fits}
 use Rattle.sl_model.proofs.FitOuts.{OutHas}
 
 -- What a statement leaves: stacks that fit what is known behind it where the next statement comes, and what was known before it on each other way
@@ -30,19 +31,19 @@ FlowFits due d e (Returned v s) = Fits s.memory (type_given due) v × StacksFit 
 FlowFits due d e (Over x s) = HasMeaning x
 
 -- an iterator goes on to be of its form where scopes end
-iterator_ended : (ends : MemoryFits) (site n : ℕ) (m : Memory) (form : Form) (v : Value) → IsIteratorOf m form v
+iterator_ended : (site n : ℕ) (m : Memory) (form : Form) (v : Value) → IsIteratorOf m form v
     → IsIteratorOf (end_from site n m) form v
-iterator_ended ends site n m form (iterator stamp) h = ends.ends_fit site n m form stamp h
-iterator_ended ends site n m form v h = h
+iterator_ended site n m form (iterator stamp) h = ended-fits site n m form stamp h
+iterator_ended site n m form v h = h
 
 -- what a function gives goes on to be of its type
-pub given_ended : (ends : MemoryFits) (due : Option ParameterKind) (site n : ℕ) (m : Memory) (v : Value) → Fits m (type_given due) v
+pub given_ended : (due : Option ParameterKind) (site n : ℕ) (m : Memory) (v : Value) → Fits m (type_given due) v
     → Fits (end_from site n m) (type_given due) v
-given_ended ends None site n m v h = h
-given_ended ends (Some (parameters.Value s)) site n m v h = h
-given_ended ends (Some (parameters.Reference s)) site n m v h = h
-given_ended ends (Some (parameters.Container access x)) site n m v h = h
-given_ended ends (Some (parameters.Iterator b x)) site n m v h = iterator_ended ends site n m x v h
+given_ended None site n m v h = h
+given_ended (Some (parameters.Value s)) site n m v h = h
+given_ended (Some (parameters.Reference s)) site n m v h = h
+given_ended (Some (parameters.Container access x)) site n m v h = h
+given_ended (Some (parameters.Iterator b x)) site n m v h = iterator_ended site n m x v h
 
 module _ (due : Option ParameterKind) where
   -- other things that are known, where what is known before lets them be known
@@ -55,16 +56,16 @@ module _ (due : Option ParameterKind) where
   flow_as d e p q (Over x s) k l h = h
 
   -- a scope ends on each way out of it
-  pub fit_scope : (ends : MemoryFits) (d : Stack) (site : ℕ) (start : State) (w : Flow) → length d.conts ≡ length start.memory.conts
+  pub fit_scope : (d : Stack) (site : ℕ) (start : State) (w : Flow) → length d.conts ≡ length start.memory.conts
       → length d.iters ≡ length start.iters → FlowFits due d d w → FlowFits due d d (scoped site start w)
-  fit_scope ends d site start (Next s) c i h = end-fits ends d site (length start.memory.conts) (length start.iters) s.memory s.iters c i h
-  fit_scope ends d site start (Broke s) c i h = end-fits ends d site (length start.memory.conts) (length start.iters) s.memory s.iters c i h
-  fit_scope ends d site start (Continued s) c i h = end-fits ends d site (length start.memory.conts) (length start.iters) s.memory s.iters c i h
-  fit_scope ends d site start (Returned v s) c i h = (
-    given_ended ends due site (length start.memory.conts) s.memory v h.0,
-    end-fits ends d site (length start.memory.conts) (length start.iters) s.memory s.iters c i h.1,
+  fit_scope d site start (Next s) c i h = end-fits d site (length start.memory.conts) (length start.iters) s.memory s.iters c i h
+  fit_scope d site start (Broke s) c i h = end-fits d site (length start.memory.conts) (length start.iters) s.memory s.iters c i h
+  fit_scope d site start (Continued s) c i h = end-fits d site (length start.memory.conts) (length start.iters) s.memory s.iters c i h
+  fit_scope d site start (Returned v s) c i h = (
+    given_ended due site (length start.memory.conts) s.memory v h.0,
+    end-fits d site (length start.memory.conts) (length start.iters) s.memory s.iters c i h.1,
   )
-  fit_scope ends d site start (Over x s) c i h = h
+  fit_scope d site start (Over x s) c i h = h
 
   module _ (L : Level) (d : Stack) where
     -- what comes after a statement

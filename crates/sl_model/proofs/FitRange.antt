@@ -37,7 +37,7 @@ use Rattle.sl_model.proofs.Gifts.{AllUsed, KeepsGood, Gave, at_element, gave_as}
 use Rattle.sl_model.proofs.GoodFlow.{FlowIn, flow_value, flow_stamp}
 use Rattle.sl_model.proofs.GoodEffects.{at_binds}
 use Rattle.sl_model.proofs.GoodRange.{level_range, hidden_used, asked}
-use Rattle.sl_model.proofs.StackTypes.{Kind, iterator_of, a_reference, Stack, Lies, StacksFit, ContFits, IterFits, ScopeFits, MemoryFits, set_scalar-fits}
+use Rattle.sl_model.proofs.StackTypes.{Kind, iterator_of, a_reference, Stack, Lies, StacksFit, ContFits, IterFits, ScopeFits, set_scalar-fits}
 use Rattle.sl_model.proofs.StackTypes.{set_iterator-fits, one_iter, new_pointer-fits}
 use Rattle.sl_model.proofs.StackScopes.{iters_new, numbers_with, last_there, iterator-held}
 use Rattle.sl_model.proofs.FitOuts.{ANumber, fit_read, fit_settle}
@@ -171,7 +171,7 @@ scope_range L g fs ks taken.Reference (container_type access form) l there q = r
     hidden_high = one_higher (ks ++ iterator_of form ∷ []) (iterator_of form) (L.iters + 1) (one_higher ks (iterator_of form) L.iters q.iters_high)
 scope_range L g fs ks how u l there q = absurd there
 
-module _ (ends : MemoryFits) (due : Option ParameterKind) (shape : Shape) (L : Level) (d : Stack) where
+module _ (due : Option ParameterKind) (shape : Shape) (L : Level) (d : Stack) where
   -- a range-for's variable takes the number of an element
   pub fit_takes_number : (at : Place) (x : ℕ) (body : Meaning) → Fit due L d d body → (v : Value) (s : State)
       → Gave L d.used (a_value an_element) v s → IsElement s.memory v → StacksFit d s → FlowFits due d d (takes_number at x body v s)
@@ -185,7 +185,7 @@ module _ (ends : MemoryFits) (due : Option ParameterKind) (shape : Shape) (L : L
   pub fit_takes_element : (at : Place) (body : Meaning) → length d.conts ≡ L.conts → length d.iters ≡ L.iters
       → Fit due (with_iterator L) (one_iter a_reference d) (one_iter a_reference d) body → (v : Value) (s : State)
       → Gave L d.used (a_value an_element) v s → IsElement s.memory v → StacksFit d s → FlowFits due d d (takes_element at body v s)
-  fit_takes_element at body conts iters k v s h there f = fit_scope due ends d 0 s (and_then (binds_to at v s) body)
+  fit_takes_element at body conts iters k v s h there f = fit_scope due d 0 s (and_then (binds_to at v s) body)
       (conts ∙ sym (ap (λ (l : Level). l.conts) h.now.level)) iters_here
       (fit_after due L d (one_iter a_reference d) d shape L (Now (with_iterator L) d.used) (Now L d.used) (binds_to at v s) body
       (at_binds shape L d.used (Now L d.used) at v s h) (fit_binds due d at v s iters_here there f)

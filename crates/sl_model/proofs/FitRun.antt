@@ -12,7 +12,8 @@ use Rattle.sl_model.specs.Values.{Value, number, Lib}
 use Rattle.sl_model.specs.Ends.{End, NoMeaning, Finish}
 use Rattle.sl_model.specs.Eval.{Out, Gives, Stops, call_own}
 use Rattle.sl_model.specs.Calls.{world_of, call_of}
-use Rattle.sl_model.specs.Run.{empty_state, first_place, done_with, finished, out_of, run_over}
+use Rattle.sl_model.specs.Library.{lib}
+use Rattle.sl_model.specs.Run.{run, empty_state, first_place, done_with, finished, out_of, run_over}
 use Rattle.sl_model.specs.Shapes.{AllSuit, signature_of, lib_shape, lib_makes}
 use Rattle.sl_model.specs.Scoped.{IsScoped}
 use Rattle.sl_model.specs.WellTypedTypes.{ExprType, has_type, is_scalar}
@@ -21,18 +22,16 @@ use Rattle.sl_model.specs.WellTyped.{WellTyped}
 use Rattle.sl_model.proofs.TypedOperands.{typed_by}
 use Rattle.sl_model.proofs.TypedStatements.{HasMain, main_is_there}
 use Rattle.sl_model.proofs.Fitting.{FitsTypes}
-use Rattle.sl_model.proofs.FormsAfter.{write-forms, ended-forms, ended-fits}
 use Rattle.sl_model.proofs.Locations.{apart_none}
+use Rattle.sl_model.proofs.LibraryFits.{lib-fits}
+use Rattle.sl_model.proofs.LibraryGood.{lib-good}
+use Rattle.sl_model.proofs.ScopedTexts.{well-typed-scoped}
 use Rattle.sl_model.proofs.Levels.{level_of}
 use Rattle.sl_model.proofs.Gifts.{KeepsGood}
 use Rattle.sl_model.proofs.RunGood.{empty-good, good_now}
-use Rattle.sl_model.proofs.StackTypes.{Stack, StacksFit, HasMeaning, MemoryFits}
+use Rattle.sl_model.proofs.StackTypes.{Stack, StacksFit, HasMeaning}
 use Rattle.sl_model.proofs.FitOuts.{OutHas, OutFits, Of}
 use Rattle.sl_model.proofs.FitCalls.{fit_call_of}
-
--- what a memory owes to what fits
-memory_owes : MemoryFits
-memory_owes = record { writes = write-forms; ends = ended-forms; ends_fit = ended-fits }
 
 -- nothing is known of the stacks
 abbrev nothing_known : Stack
@@ -61,11 +60,11 @@ meant_differs : (e : End) (at : Place) → HasMeaning e → e ≢ NoMeaning at
 meant_differs e at h same = subst (λ (x : End). HasMeaning x) same h
 
 -- what `main` leaves in a run of a well typed text
-main_fits : (ends : MemoryFits) (l : Lib) → FitsTypes l → KeepsGood lib_shape lib_makes l → (p : Typed) (typed : WellTyped p)
+main_fits : (l : Lib) → FitsTypes l → KeepsGood lib_shape lib_makes l → (p : Typed) (typed : WellTyped p)
     → IsScoped lib_shape lib_makes p → (input : List ℤ) (picks : List ℕ) (steps : ℕ)
     → OutFits nothing_known (type_given (main_is_there p typed).function.result) (out_of l p input picks steps)
-main_fits ends l types keeps p typed scoped input picks steps = let main = main_is_there p typed in
-    fit_call_of l types ends lib_shape lib_makes keeps p typed scoped CALLS p.main main.function first_place
+main_fits l types keeps p typed scoped input picks steps = let main = main_is_there p typed in
+    fit_call_of l types lib_shape lib_makes keeps p typed scoped CALLS p.main main.function first_place
     (level_of (empty_state input picks steps)) nothing_known [] [] [] (empty_state input picks steps) main.there
     (subst (λ (ks : List ParameterKind). AllSuit ks []) (sym main.parameters) tt) apart_none
     (record { now = good_now (empty_state input picks steps) (empty-good input picks steps); given = tt; used = tt })
@@ -77,4 +76,8 @@ pub fits-run : (l : Lib) → FitsTypes l → KeepsGood lib_shape lib_makes l →
     → (input : List ℤ) (picks : List ℕ) (steps : ℕ) (at : Place) → (run_over l p input picks steps).end ≢ NoMeaning at
 fits-run l types keeps p typed scoped input picks steps at = meant_differs (run_over l p input picks steps).end at
     (finish_meant nothing_known (type_given (main_is_there p typed).function.result) (out_of l p input picks steps)
-    (main_fits memory_owes l types keeps p typed scoped input picks steps))
+    (main_fits l types keeps p typed scoped input picks steps))
+
+-- a well typed text never ends for want of a meaning
+pub run-meant : (p : Typed) → WellTyped p → (input : List ℤ) (picks : List ℕ) (steps : ℕ) (at : Place) → (run p input picks steps).end ≢ NoMeaning at
+run-meant p typed input picks steps at = fits-run lib lib-fits lib-good p typed (well-typed-scoped p typed) input picks steps at

@@ -76,7 +76,7 @@ iterator_given (iterator_type b x) gift e h = e
 iterator_given u gift e h = absurd cc
 
 -- the second of two iterators of one type is one
-second_is_iterator : (u v : ExprType) → same_iterators u v ≡ true → is_iterator v ≡ true
+pub second_is_iterator : (u v : ExprType) → same_iterators u v ≡ true → is_iterator v ≡ true
 second_is_iterator (iterator_type b x) (iterator_type c y) h = refl
 second_is_iterator u v h = absurd cc
 

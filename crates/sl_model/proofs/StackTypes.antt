@@ -16,6 +16,7 @@ use Rattle.sl_model.specs.WellTypedTypes.{ExprType, empty_type, scalar_type, ele
 use Rattle.sl_model.specs.WellTypedTypes.{container_type, handed_type, int_reference, entry_reference, Scope}
 use Rattle.sl_model.proofs.Getting.{get_left, get_within, get_map}
 use Rattle.sl_model.proofs.Fitting.{forms_of, StampFits, KeepsForms, Fits, IsIteratorOf, IsPairOf, AreTwoOf, IsContainerOf}
+use Rattle.sl_model.proofs.FormsAfter.{write-forms, ended-forms, ended-fits}
 use Rattle.sl_model.proofs.Gifts.{IsUsed}
 use Rattle.sl_model.proofs.Levels.{Level}
 
@@ -98,12 +99,6 @@ pub record ScopeFits (L : Level) (g : Scope) (fs : List Form) (ks : List Kind) :
   pub iters_high : length ks ≡ L.iters
   pub containers : ContsFit fs g.containers L.frame.conts
   pub iterators : ItersFit ks g.iterators L.frame.iters
-
--- what a memory owes to what fits: numbers are written and scopes end, and what is there keeps its form and goes on to fit
-pub record MemoryFits : Type 0 where
-  pub writes : (m : Memory) (i k : ℕ) (p : Part) (z : ℤ) → KeepsForms [] m (write_element m i k p z)
-  pub ends : (site n : ℕ) (m : Memory) → forms_of (end_from site n m) ≡ take n (forms_of m)
-  pub ends_fit : (site n : ℕ) (m : Memory) (form : Form) (stamp : ℕ) → StampFits m form stamp → StampFits (end_from site n m) form stamp
 
 -- what is below another index is taken
 get_taken : {A : Type 0} (n : ℕ) (xs : List A) (k : ℕ) → k < n → slice_get (take n xs) k ≡ slice_get xs k
@@ -188,12 +183,12 @@ set_scalar-fits d l z s h =
     ]
 
 -- a number is written at a place
-pub write-fits : (ends : MemoryFits) (d : Stack) (v : Value) (z : ℤ) (s : State) → IsGood s → d.used ≤ s.memory.fresh → StacksFit d s
+pub write-fits : (d : Stack) (v : Value) (z : ℤ) (s : State) → IsGood s → d.used ≤ s.memory.fresh → StacksFit d s
     → StacksFit d (write_at v z s)
-write-fits ends d (scalar_at l) z s good less h = set_scalar-fits d l z s h
-write-fits ends d (element_at i k p) z s good less h =
-    memory-fits d [] s (write_element s.memory i k p z) good less (ends.writes s.memory i k p z) h
-write-fits ends d v z s good less h = h
+write-fits d (scalar_at l) z s good less h = set_scalar-fits d l z s h
+write-fits d (element_at i k p) z s good less h =
+    memory-fits d [] s (write_element s.memory i k p z) good less (write-forms s.memory i k p z) h
+write-fits d v z s good less h = h
 
 -- what is held where one is written
 held_set : (m : Memory) (held : List Pointer) (l j : ℕ) (p : Pointer) (k : Kind) → (j ≡ l → Holds m k (Some p)) → Holds m k (slice_get held j)
@@ -278,15 +273,15 @@ new_container-fits d form s later good less high keeps h = with_more (memory-fit
     }
 
 -- the containers from a height on end, and what is held above another height goes
-pub end-fits : (ends : MemoryFits) (d : Stack) (site a b : ℕ) (m : Memory) (held : List Pointer) → length d.conts ≡ a → length d.iters ≡ b
+pub end-fits : (d : Stack) (site a b : ℕ) (m : Memory) (held : List Pointer) → length d.conts ≡ a → length d.iters ≡ b
     → Lies d m held → Lies d (end_from site a m) (take b held)
-end-fits ends d site a b m held conts_high iters_high h = record {
-  conts = λ l form e. subst (λ (fs : List Form). slice_get fs l ≡ Some form) (sym (ends.ends site a m))
+end-fits d site a b m held conts_high iters_high h = record {
+  conts = λ l form e. subst (λ (fs : List Form). slice_get fs l ≡ Some form) (sym (ended-forms site a m))
       (get_taken a (forms_of m) l (let r = get_within d.conts l form e in omega arith) ∙ h.conts l form e);
   iters = λ l k e. subst (λ (p : Option Pointer). Holds (end_from site a m) k p)
       (sym (get_taken b held l (let r = get_within d.iters l k e in omega arith)))
-      (holds_later m (end_from site a m) k (slice_get held l) (λ form stamp there fits. ends.ends_fit site a m form stamp fits) (h.iters l k e));
-  fit = λ form stamp low fits. ends.ends_fit site a m form stamp (h.fit form stamp low fits);
+      (holds_later m (end_from site a m) k (slice_get held l) (λ form stamp there fits. ended-fits site a m form stamp fits) (h.iters l k e));
+  fit = λ form stamp low fits. ended-fits site a m form stamp (h.fit form stamp low fits);
 }
 
 -- what is known of the stacks, with the memory of a state as that of before
