@@ -1,6 +1,7 @@
 -- Each call of a well typed text's own functions gives what is of the type of the function: its parameters take what is of their types, and what lies
 -- on the caller's stacks stays of its types.
-use Rattle.std.proofs.Common.{◌≡◌, ℕ, zero, suc, ◌<◌, ◌≤◌, ◌==◌, Bool, true, false, ◌&&◌, List, [], ◌∷◌, ◌++◌, Option, Some, None, length, refl, ap, sym, ◌∙◌}
+use Rattle.std.proofs.Common.{◌≡◌, ℕ, zero, suc, ◌<◌, ◌≤◌, ◌==◌, Bool, true, false, ◌&&◌, List, [], ◌∷◌, ◌++◌, Option, Some, None, length, refl, ap}
+use Rattle.std.proofs.Common.{sym, ◌∙◌}
 use Rattle.std.proofs.Common.{subst, arith}
 use Rattle.std.specs.Prelude.{pos, slice_get}
 use Rattle.std.proofs.lemmas.Bool.{eqb-true}
@@ -25,24 +26,24 @@ use Rattle.sl_model.specs.Exec.{Flow, Next, Broke, Continued, Returned, Over, ex
 use Rattle.sl_model.specs.Calls.{fell, body_gives, of_function, parameters_in, world_of, call_of}
 use Rattle.sl_model.specs.Shapes.{Shape, Signature, signature_of, shape_of_result}
 use Rattle.sl_model.specs.Scoped.{Counts, no_counts, with_parameters as counts_with, InStmt, IsScoped}
-use Rattle.sl_model.specs.WellTypedTypes.{ExprType, no_type, scalar_type, element_type, iterator_type, container_type, handed_type, Scope, is_within}
-use Rattle.sl_model.specs.WellTypedTypes.{has_type, is_scalar, is_container_of, is_changed_container}
+use Rattle.sl_model.specs.WellTypedTypes.{ExprType, scalar_type, element_type, iterator_type, container_type, handed_type, Scope, is_within}
+use Rattle.sl_model.specs.WellTypedTypes.{has_type, is_scalar}
 use Rattle.sl_model.specs.WellTypedExpressions.{goes_to, go_to, type_given}
 use Rattle.sl_model.specs.WellTypedStatements.{is_typed_stmt, with_parameter, with_parameters, no_variables, is_block, is_typed_function}
 use Rattle.sl_model.specs.WellTyped.{WellTyped}
 use Rattle.sl_model.proofs.Passing.{first_of_both, second_of_both}
 use Rattle.sl_model.proofs.Getting.{get_within, get_some}
 use Rattle.sl_model.proofs.Called.{one_form}
-use Rattle.sl_model.proofs.TypedStatements.{functions_with_parameters, function_is_typed, HasMain, main_is_there}
+use Rattle.sl_model.proofs.TypedStatements.{functions_with_parameters, function_is_typed, main_is_there}
 use Rattle.sl_model.proofs.Fitting.{forms_of, IsNumber, IsIteratorOf, IsContainerOf, IsScalarAt, Fits, AllFit, FitsTypes}
-use Rattle.sl_model.proofs.Levels.{Level, level_of, counts_of, Now, Above}
+use Rattle.sl_model.proofs.Levels.{Level, level_of, counts_of, Now}
 use Rattle.sl_model.proofs.Gifts.{KeepsGood, now_again}
 use Rattle.sl_model.proofs.GoodBinding.{at_bound}
 use Rattle.sl_model.proofs.GoodCalls.{TakesParameters, at_call_of}
-use Rattle.sl_model.proofs.StackTypes.{Kind, iterator_of, Stack, StacksFit, HasMeaning, ContFits, ScopeFits, new_pointer-fits, length-forms}
+use Rattle.sl_model.proofs.StackTypes.{Kind, iterator_of, Stack, StacksFit, ScopeFits, new_pointer-fits, length-forms}
 use Rattle.sl_model.proofs.StackTypes.{end-fits, from_now, now-fits, then-fits}
-use Rattle.sl_model.proofs.StackScopes.{conts_with, iters_new, numbers_with, last_there, IsNumberType}
-use Rattle.sl_model.proofs.FitOuts.{OutFits, number_fits}
+use Rattle.sl_model.proofs.StackScopes.{conts_with, iters_new, numbers_with, last_there}
+use Rattle.sl_model.proofs.FitOuts.{OutFits}
 use Rattle.sl_model.proofs.FitEval.{OwnFits}
 use Rattle.sl_model.proofs.FitFlow.{FlowFits, given_ended}
 use Rattle.sl_model.proofs.FitDeclared.{fewer_iters, one_higher}

@@ -20,14 +20,16 @@ use Rattle.sl_syntax.specs.Typed.{prints, evaluates, assigns, updates, moves_to,
 use Rattle.sl_syntax.specs.Typed.{makes, element, First, no_first, declares_first, does_first}
 use Rattle.sl_model.specs.Containers.{Memory}
 use Rattle.sl_model.specs.Values.{Value, element_at, LibOut, trapped, thrown, faulted, gives, unbuilt}
-use Rattle.sl_model.specs.State.{Pointer, iterator_at, reference_to, State, cont_of, iter_of, set_iterator_at, new_scalar, new_iterator, new_container}
+use Rattle.sl_model.specs.State.{Pointer, iterator_at, reference_to, State, cont_of, iter_of, set_iterator_at, new_scalar, new_iterator}
+use Rattle.sl_model.specs.State.{new_container}
 use Rattle.sl_model.specs.Eval.{Outs, AllGive, OneStops, World, eval, reach, eval_all, then_number, then_call, read_at, write_at, answered}
 use Rattle.sl_model.specs.Eval.{settle_call, site_of, use_library, name_place}
 use Rattle.sl_model.specs.Exec.{Next, Meaning, flow_of, on_number, on_stamp, tested, printed, print_all, wrote, is_name, affect, bound_to, binds_to}
 use Rattle.sl_model.specs.Exec.{declared, begun, ended}
 use Rattle.sl_model.specs.Shapes.{Shape, a_number, an_element, Gift, a_value, Signature, gift_of, gifts_of}
 use Rattle.sl_model.specs.Scoped.{InExpr, InLeft, InCond, InPrinted, InPrint, InEffect, InDeclaration, InFirst, InLast}
-use Rattle.sl_model.specs.WellTypedTypes.{ExprType, empty_type, iterator_type, Scope, variable_type, has_type, is_scalar, is_number, is_written, works_in}
+use Rattle.sl_model.specs.WellTypedTypes.{ExprType, empty_type, iterator_type, Scope, variable_type, has_type, is_scalar, is_number, is_written}
+use Rattle.sl_model.specs.WellTypedTypes.{works_in}
 use Rattle.sl_model.specs.WellTypedTypes.{is_iterator, same_iterators, same_answer}
 use Rattle.sl_model.specs.WellTypedExpressions.{type_of, type_of_left, types_of}
 use Rattle.sl_model.specs.WellTypedStatements.{may_stand_alone, assigns_others, is_written_left, takes, is_typed_cond, is_typed_item, is_typed_effect}
@@ -214,7 +216,8 @@ module _ (w : World) (sig : Signature) (lib_keeps : KeepsGood sig.shape sig.make
       → OutsAt L d.used gifts o → OutsFit d us o
       → FlowFits due d (one_cont form d) (flow_of (then_call o (use_library w.lib hd)) (λ v t. Next (new_container n t)))
   fit_make gifts us form hd n (AllGive vs s) t h i = fit_made form hd vs n _ s h.now
-      (types.makes form hd.callee hd.object us (record { site = site_of hd; object = option_map (cont_of s) hd.object; values = vs }) s.memory s.picks t
+      (types.makes form hd.callee hd.object us (record { site = site_of hd; object = option_map (cont_of s) hd.object; values = vs }) s.memory s.picks
+      t
       (ap (option_map (cont_of s)) (making_object form hd.callee hd.object us t))
       (record { sound = h.now.good.sound; used = h.used; fit = i.0 })) i.1
   fit_make gifts us form hd n (OneStops x s) t h i = i

@@ -19,7 +19,8 @@ use Rattle.sl_syntax.specs.Typed.{element, Operands, none, with, Function}
 use Rattle.sl_model.specs.Containers.{Memory, Part, locate_refer}
 use Rattle.sl_model.specs.Values.{Value, number, iterator, container_at, element_at}
 use Rattle.sl_model.specs.State.{Pointer, iterator_at, reference_to, Frame, State, scalar_of, cont_of, iter_of, pointer_at, stamp_of, stamp_held}
-use Rattle.sl_model.specs.Eval.{by_one, Out, Gives, World, then_eval, then_number, then_call, branch, answered, read_at, write_at, use_library, increased}
+use Rattle.sl_model.specs.Eval.{by_one, Out, Gives, World, then_eval, then_number, then_call, branch, answered, read_at, write_at, use_library}
+use Rattle.sl_model.specs.Eval.{increased}
 use Rattle.sl_model.specs.Eval.{moved_to, chosen, part_used, found_use, used, eval, reach, eval_all, name_place, call_own, site_of}
 use Rattle.sl_model.specs.Good.{AreApart}
 use Rattle.sl_model.specs.Shapes.{a_number, Gift, a_value, Signature, gift_of, gifts_of, AllSuit, containers_in}
@@ -46,7 +47,8 @@ use Rattle.sl_model.proofs.StackTypes.{Kind, a_reference, Stack, StacksFit, Iter
 use Rattle.sl_model.proofs.StackTypes.{now-fits, then-fits}
 use Rattle.sl_model.proofs.StackScopes.{conts_at, iters_at, IsNumberType, scalars_at, iterator-held, IsReference, reference-held}
 use Rattle.sl_model.proofs.FitOuts.{OutHas, Of, ANumber, IsPlace, APlace, OutFits, OutsFit, out_as, fits_only, numbered, numbered_only, given_value}
-use Rattle.sl_model.proofs.FitOuts.{handed_fits, first_fits, second_fits, container_fits, chosen_number, fit_then, fit_then_number, fit_call, fit_rest}
+use Rattle.sl_model.proofs.FitOuts.{handed_fits, first_fits, second_fits, container_fits, chosen_number, fit_then, fit_then_number, fit_call}
+use Rattle.sl_model.proofs.FitOuts.{fit_rest}
 use Rattle.sl_model.proofs.FitOuts.{fit_answer, fit_branch, fit_read, fit_settle, fit_moved}
 use Rattle.sl_model.proofs.FitMoves.{IsMoveType, move_type, element_still}
 
@@ -213,7 +215,8 @@ module _ (w : World) (sig : Signature) (lib_keeps : KeepsGood sig.shape sig.make
   -- a number that goes up or down by one
   fit_increased : (d : Stack) (step : Step) (x : Fix) (ty : Scalar) (at : Place) (l : Value) (old : ℤ) (s : State) → Now L d.used s
       → StacksFit d s → OutHas ANumber d (increased step x ty at l old s)
-  fit_increased d step x ty at l old s h f = fit_then_number L d (a_value a_number) ANumber ANumber (answered at (operated o.Add ty old (by_one step)) s)
+  fit_increased d step x ty at l old s h f = fit_then_number L d (a_value a_number) ANumber ANumber
+      (answered at (operated o.Add ty old (by_one step)) s)
       (λ new s. Gives (chosen x (number old) (number new)) (write_at l new s)) (at_answer L d.used at (operated o.Add ty old (by_one step)) s h)
       (fit_answer L d at (operated o.Add ty old (by_one step)) s f)
       (λ z s i j. (chosen_number x old z, write-fits d l z s i.good i.later j))

@@ -1,43 +1,42 @@
 -- Each statement that is typed keeps the stacks of their types, and no end is for want of a meaning.
-use Rattle.std.proofs.Common.{◌≡◌, ℕ, suc, ◌+◌, ◌<◌, Bool, true, false, ◌&&◌, Option, Some, None, length, refl, ap, sym, ◌∙◌, subst, arith}
+use Rattle.std.proofs.Common.{◌≡◌, ℕ, suc, ◌+◌, ◌<◌, Bool, true, Option, Some, None, length, ap, sym, ◌∙◌, subst}
 use Rattle.std.specs.Prelude.{List, unwrap_or, slice_get, slice_index}
 use Rattle.sl_base.specs.declared.form.Form.{Form}
 use Rattle.sl_specs.specs.Forms.{same_form}
 use Rattle.sl_base.specs.declared.scalar.Scalar.{Scalar}
 use Rattle.sl_base.specs.declared.scalar.Scalar.TheVariants as t
 use Rattle.sl_base.specs.declared.place.Place.{Place}
-use Rattle.sl_syntax.specs.declared.typed.element.Taken.{Taken}
 use Rattle.sl_syntax.specs.declared.typed.element.Taken.TheVariants as taken
 use Rattle.sl_syntax.specs.declared.typed.parameter.ParameterKind.{ParameterKind}
 use Rattle.sl_syntax.specs.declared.typed.parameter.ParameterKind.TheVariants as parameters
-use Rattle.sl_syntax.specs.Typed.{Expr, Cond, Stmt, block, declares, choice, choice_else, while, for, range_for, break, continue, gives_back, does, Stmts}
+use Rattle.sl_syntax.specs.Typed.{Expr, Stmt, block, declares, choice, choice_else, while, for, range_for, break, continue, gives_back, does, Stmts}
 use Rattle.sl_syntax.specs.Typed.{no_more, followed}
 use Rattle.sl_model.specs.Containers.{Memory}
-use Rattle.sl_model.specs.Values.{Value, nothing, iterator}
+use Rattle.sl_model.specs.Values.{Value, nothing}
 use Rattle.sl_model.specs.State.{Frame, State, cont_of, new_scalar}
 use Rattle.sl_model.specs.Eval.{World, eval}
-use Rattle.sl_model.specs.Exec.{Flow, Next, Broke, Continued, Returned, Meaning, and_then, flow_of, either_way, scoped, tested, affect, declared}
+use Rattle.sl_model.specs.Exec.{Next, Broke, Continued, Returned, and_then, flow_of, either_way, scoped, tested, affect, declared}
 use Rattle.sl_model.specs.Exec.{begun, ended, loop, takes_number, takes_element, over_range, range_start, exec, exec_all}
 use Rattle.sl_model.specs.Shapes.{Shape, Signature}
-use Rattle.sl_model.specs.Scoped.{Counts, InCond, InLast, IsPart, InStmt, InStmts, with_range, AsksWell}
-use Rattle.sl_model.specs.WellTypedTypes.{ExprType, no_type, scalar_type, element_type, iterator_type, container_type, Scope, is_within, variable_type}
+use Rattle.sl_model.specs.Scoped.{Counts, InCond, InLast, IsPart, InStmt, InStmts, AsksWell}
+use Rattle.sl_model.specs.WellTypedTypes.{ExprType, scalar_type, element_type, iterator_type, container_type, Scope, is_within, variable_type}
 use Rattle.sl_model.specs.WellTypedTypes.{has_type, is_scalar, goes_into}
 use Rattle.sl_model.specs.WellTypedExpressions.{goes_to, type_given, type_of}
-use Rattle.sl_model.specs.WellTypedStatements.{is_typed_cond, is_typed_effect, is_typed_last, is_typed_declaration, behind, is_typed_first, behind_first}
+use Rattle.sl_model.specs.WellTypedStatements.{is_typed_cond, is_typed_last, is_typed_declaration, behind, is_typed_first, behind_first}
 use Rattle.sl_model.specs.WellTypedStatements.{may_go_over, in_range, is_typed_return, is_typed_stmt, are_typed_stmts}
 use Rattle.sl_model.proofs.Passing.{first_of_both, second_of_both, three_parts, five_parts}
 use Rattle.sl_model.proofs.Called.{one_form}
 use Rattle.sl_model.proofs.TypedOperands.{typed_by}
 use Rattle.sl_model.proofs.TypedExpressions.{no_type_goes}
 use Rattle.sl_model.proofs.TypedStatements.{functions_behind, functions_behind_first, functions_in_range}
-use Rattle.sl_model.proofs.Fitting.{forms_of, StampFits, IsIteratorOf, Fits, FitsTypes}
+use Rattle.sl_model.proofs.Fitting.{forms_of, IsIteratorOf, Fits, FitsTypes}
 use Rattle.sl_model.proofs.Levels.{Level, counts_of, Now}
 use Rattle.sl_model.proofs.Gifts.{KeepsGood, OwnKeepsGood}
 use Rattle.sl_model.proofs.GoodFlow.{FlowIn}
 use Rattle.sl_model.proofs.GoodEffects.{level_declared, level_begun, counts_declared, counts_begun, at_begun, at_ended}
 use Rattle.sl_model.proofs.GoodRange.{level_hidden, level_range, counts_range, range-now, numbered-now, at_takes_number, at_takes_element}
 use Rattle.sl_model.proofs.GoodExec.{part_stays, first_hidden, second_hidden, at_exec}
-use Rattle.sl_model.proofs.StackTypes.{Stack, StacksFit, ContFits, ScopeFits, one_iter, a_reference}
+use Rattle.sl_model.proofs.StackTypes.{Stack, StacksFit, ContFits, ScopeFits}
 use Rattle.sl_model.proofs.StackScopes.{conts_at}
 use Rattle.sl_model.proofs.FitEval.{OwnFits, frame_here}
 use Rattle.sl_model.proofs.FitFlow.{FlowFits, flow_as, fit_scope, fit_after, Fit, fit_either, fit_tick, fit_turns}
@@ -214,7 +213,8 @@ module _ (w : World) (sig : Signature) (lib_keeps : KeepsGood sig.shape sig.make
         let parts = three_parts (may_go_over taken.Value u) (is_within r) (is_typed_stmt r due true a) typed in
         let there = scope_range L g d.conts d.iters taken.Value u (cont_of s x) (over_there L g d x s q i.0 h) q in
         let in_body = subst (λ (c : Counts). InStmt sig shape c a) (sym (counts_range taken.Value L)) i.1.1.1 in
-        fit_tick due L d d (λ s. scoped 0 s (over_range w at name (length s.iters) (length s.iters + 1) (takes_number at (length s.scalars) (exec w a))
+        fit_tick due L d d (λ s. scoped 0 s (over_range w at name (length s.iters) (length s.iters + 1)
+        (takes_number at (length s.scalars) (exec w a))
         (new_scalar t.Int None (range_start (cont_of s x) s))))
         (λ s j f. range_by_value L g d x at name a s q i.0 i.1.0 i.1.1.0 in_body
         (λ s l f. fit_exec a true M r (stack_range taken.Value (form_in u) d) s (known ∙ sym (functions_in_range taken.Value u g)) there in_body

@@ -13,7 +13,8 @@ use Rattle.sl_syntax.specs.declared.typed.operator.Operator.{Operator}
 use Rattle.sl_syntax.specs.declared.typed.operator.Operator.TheVariants as operators
 use Rattle.sl_model.specs.WellTypedExpressions.{only_element}
 use Rattle.sl_model.proofs.TypedOperands.{typed_by}
-use Rattle.sl_model.specs.WellTypedTypes.{ExprType, no_type, empty_type, iterator_type, container_type, Scope, has_type, only, variable_type, is_const}
+use Rattle.sl_model.specs.WellTypedTypes.{ExprType, no_type, empty_type, iterator_type, container_type, Scope, has_type, only, variable_type}
+use Rattle.sl_model.specs.WellTypedTypes.{is_const}
 use Rattle.sl_model.specs.WellTypedCalls.{call_type, row_type, member_type, result_type, operator_type, row_at, is_advance, is_moving}
 use Rattle.sl_model.specs.WellTypedCalls.{is_moving_operator, is_moving_row}
 use Rattle.sl_model.proofs.Passing.{passes_at}
@@ -59,7 +60,7 @@ row_silent n row there moves = nothing_is row.gives
 -- the type of a call of such a row on an object
 member_empty : (row : Row) (u : ExprType) (us : List ExprType) → row.gives ≡ r.Nothing → has_type (member_type row u us) ≡ true
     → member_type row u us ≡ empty_type
-member_empty row (container_type access x) us e h = 
+member_empty row (container_type access x) us e h =
     only_is _ (result_type row.gives (is_const access) x us) h ∙ ap (λ y. result_type y (is_const access) x us) e
 member_empty row u us e h = absurd (cc)
 

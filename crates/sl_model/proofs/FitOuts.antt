@@ -184,9 +184,11 @@ module _ (L : Level) (d : Stack) where
   -- an operand before the others
   fit_add : (gift : Gift) (u : ExprType) (us : List ExprType) (v : Value) (s : State) (o : Outs) → length d.conts ≡ L.conts
       → Gave L d.used gift v s → Fits s.memory u v → StacksFit d s → OutsFit (from_now d s) us o → OutsFit d (u ∷ us) (add_value v o)
-  fit_add gift u us v s (AllGive vs t) high h fits f i =
-      ((fits_later s.memory.fresh s.memory t.memory u v i.1.fit (forms_between d s t high_here f i.1.conts) h.used fits, i.0), then-fits d s t
-      h.now.later f i.1)
+  fit_add gift u us v s (AllGive vs t) high h fits f i = (
+    (fits_later s.memory.fresh s.memory t.memory u v i.1.fit (forms_between d s t high_here f i.1.conts) h.used fits, i.0),
+    then-fits d s t
+        h.now.later f i.1,
+  )
     where
       high_here : length d.conts ≡ length s.memory.conts
       high_here = high ∙ sym (ap (λ (l : Level). l.conts) h.now.level)

@@ -1,5 +1,6 @@
 -- A range-for over a container that is of its type keeps the stacks of their types: its two hidden iterators are of the container's form.
-use Rattle.std.proofs.Common.{◌≡◌, ℕ, suc, ◌+◌, ◌<◌, ◌≤◌, Bool, true, false, not, List, [], ◌∷◌, ◌++◌, Option, Some, None, length, refl, ap, sym, ◌∙◌, ◌&&◌}
+use Rattle.std.proofs.Common.{◌≡◌, ℕ, suc, ◌+◌, ◌<◌, Bool, true, false, not, List, [], ◌∷◌, ◌++◌, Option, Some, None, length, refl, ap, sym, ◌∙◌}
+use Rattle.std.proofs.Common.{◌&&◌}
 use Rattle.std.proofs.Common.{subst, arith, if◌then◌else◌}
 use Rattle.std.specs.Prelude.{slice_get, slice_index_or}
 use Rattle.std.proofs.lemmas.Option.{get_or_from_slice_get}
@@ -11,13 +12,12 @@ use Rattle.sl_syntax.specs.declared.operator.Comparison.TheVariants as c
 use Rattle.sl_syntax.specs.declared.typed.callee.Callee.TheVariants as callees
 use Rattle.sl_syntax.specs.declared.typed.element.Taken.{Taken}
 use Rattle.sl_syntax.specs.declared.typed.element.Taken.TheVariants as taken
-use Rattle.sl_syntax.specs.declared.typed.head.Head.{Head}
 use Rattle.sl_syntax.specs.declared.typed.operator.Operator.TheVariants as operators
 use Rattle.sl_syntax.specs.declared.typed.parameter.ParameterKind.{ParameterKind}
 use Rattle.sl_syntax.specs.Written.{is_map}
 use Rattle.sl_model.specs.Forms.{is_keyed}
 use Rattle.sl_model.specs.Numbers.{is_zero}
-use Rattle.sl_model.specs.Containers.{Cont, Memory, size, stamps, cont_at, begin_of, end_of}
+use Rattle.sl_model.specs.Containers.{Cont, Memory, size, stamps, begin_of, end_of}
 use Rattle.sl_model.specs.Values.{Value}
 use Rattle.sl_model.specs.State.{State, iterator_at, set_scalar_at, set_iterator_at}
 use Rattle.sl_model.specs.Eval.{World, read_at, use_library}
@@ -32,12 +32,12 @@ use Rattle.sl_model.specs.WellTypedStatements.{in_range}
 use Rattle.sl_model.proofs.Getting.{get_map, got_map, get_left, get_within}
 use Rattle.sl_model.proofs.Placing.{end_stands, place_stands}
 use Rattle.sl_model.proofs.Fitting.{forms_of, StampFits, IsElement, IsGiven, FitsTypes}
-use Rattle.sl_model.proofs.Levels.{Level, Now, Above, with_iterator, set_scalar-now, set_iterator-now}
-use Rattle.sl_model.proofs.Gifts.{AllUsed, KeepsGood, Gave, at_element, gave_as}
+use Rattle.sl_model.proofs.Levels.{Level, Now, with_iterator, set_scalar-now, set_iterator-now}
+use Rattle.sl_model.proofs.Gifts.{KeepsGood, Gave, at_element, gave_as}
 use Rattle.sl_model.proofs.GoodFlow.{FlowIn, flow_value, flow_stamp}
 use Rattle.sl_model.proofs.GoodEffects.{at_binds}
 use Rattle.sl_model.proofs.GoodRange.{level_range, hidden_used, asked}
-use Rattle.sl_model.proofs.StackTypes.{Kind, iterator_of, a_reference, Stack, Lies, StacksFit, ContFits, IterFits, ScopeFits, set_scalar-fits}
+use Rattle.sl_model.proofs.StackTypes.{Kind, iterator_of, a_reference, Stack, StacksFit, ContFits, IterFits, ScopeFits, set_scalar-fits}
 use Rattle.sl_model.proofs.StackTypes.{set_iterator-fits, one_iter, new_pointer-fits}
 use Rattle.sl_model.proofs.StackScopes.{iters_new, numbers_with, last_there, iterator-held}
 use Rattle.sl_model.proofs.FitOuts.{ANumber, fit_read, fit_settle}
@@ -53,7 +53,8 @@ standing_fits m j k stamp x form sound there stands e i h y found also = let r :
     let same : y ≡ x = cc in ap (λ (z : Cont). z.form) same ∙ e
   where
     one : i ≡ j
-    one = (sound.stamps_apart.once i h j k stamp (stamps y, get_map stamps m.conts i y found, also) (stamps x, get_map stamps m.conts j x there, stands)).0
+    one = (sound.stamps_apart.once i h j k stamp (stamps y, get_map stamps m.conts i y found, also)
+        (stamps x, get_map stamps m.conts j x there, stands)).0
 
 -- the container that stands for one that isn't there
 abbrev not_one : Memory → Cont
@@ -154,7 +155,8 @@ scope_range L g fs ks taken.Reference (container_type access form) l there q = r
   conts_high = q.conts_high;
   iters_high = one_higher (iters_hidden form ks) a_reference ((L.iters + 1) + 1) hidden_high;
   containers = q.containers;
-  iterators = iters_new (iters_hidden form ks) ((g.iterators ++ iterator_type (is_const access) form ∷ []) ++ iterator_type (is_const access) form ∷ [])
+  iterators = iters_new (iters_hidden form ks)
+      ((g.iterators ++ iterator_type (is_const access) form ∷ []) ++ iterator_type (is_const access) form ∷ [])
       ((L.frame.iters ++ L.iters ∷ []) ++ (L.iters + 1) ∷ []) a_reference
       (if is_map form then entry_reference (not (is_const access)) else int_reference (not (is_const access) && not (is_keyed form)))
       ((L.iters + 1) + 1)
@@ -222,7 +224,8 @@ module _ (w : World) (sig : Signature) (lib_keeps : KeepsGood sig.shape sig.make
       (λ v s j. flow_stamp shape L d.used (Now L d.used) (Now L d.used) (λ stamp s. Next (set_iterator_at b stamp s))
       (λ stamp s low l. set_iterator-now L d.used b stamp s low l) v s
       (gave_as L d.used (a_value (sig.shape (callees.Hidden operators.Increment))) (a_value a_stamp) v s (ap (λ y. a_value y) well.stamp_stepped) j)))
-      (λ go p s i f. fit_value due L d d (a_value (sig.shape (callees.Hidden (operators.Compare c.NotEqual)))) (λ m v. IsGiven m (scalar_type t.Bool) v)
+      (λ go p s i f. fit_value due L d d (a_value (sig.shape (callees.Hidden (operators.Compare c.NotEqual))))
+      (λ m v. IsGiven m (scalar_type t.Bool) v)
       (use_library w.lib (asks (operators.Compare c.NotEqual) at name) (hidden_at s b ∷ hidden_at s e ∷ []) s) (on_number (λ z. go (not (is_zero z))))
       (asked w sig lib_keeps shape L d.used (asks (operators.Compare c.NotEqual) at name) (hidden_at s b ∷ hidden_at s e ∷ []) s well.tests
       (hidden_used L d.used b s b_low i, (hidden_used L d.used e s e_low i, tt)) i)

@@ -1,26 +1,24 @@
 -- A well typed text never ends for want of a meaning, over any library that fits types.
-use Rattle.std.proofs.Common.{◌≡◌, ◌≢◌, ℕ, true, List, [], Some, refl, sym, subst, arith}
-use Rattle.std.specs.Prelude.{ℤ, slice_get}
+use Rattle.std.proofs.Common.{◌≡◌, ◌≢◌, ℕ, true, List, [], refl, sym, subst}
+use Rattle.std.specs.Prelude.{ℤ}
 use Rattle.sl_base.specs.declared.limits.TheConstants.{CALLS}
 use Rattle.sl_base.specs.declared.place.Place.{Place}
 use Rattle.sl_base.specs.declared.scalar.Scalar.TheVariants as t
-use Rattle.sl_syntax.specs.declared.typed.callee.Callee.{Callee}
 use Rattle.sl_syntax.specs.declared.typed.parameter.ParameterKind.{ParameterKind}
-use Rattle.sl_syntax.specs.Typed.{Function, Typed}
+use Rattle.sl_syntax.specs.Typed.{Typed}
 use Rattle.sl_model.specs.Containers.{empty_memory}
 use Rattle.sl_model.specs.Values.{Value, number, Lib}
-use Rattle.sl_model.specs.Ends.{End, NoMeaning, Finish}
-use Rattle.sl_model.specs.Eval.{Out, Gives, Stops, call_own}
-use Rattle.sl_model.specs.Calls.{world_of, call_of}
+use Rattle.sl_model.specs.Ends.{End, NoMeaning}
+use Rattle.sl_model.specs.Eval.{Out, Gives, Stops}
 use Rattle.sl_model.specs.Library.{lib}
 use Rattle.sl_model.specs.Run.{run, empty_state, first_place, done_with, finished, out_of, run_over}
-use Rattle.sl_model.specs.Shapes.{AllSuit, signature_of, lib_shape, lib_makes}
+use Rattle.sl_model.specs.Shapes.{AllSuit, lib_shape, lib_makes}
 use Rattle.sl_model.specs.Scoped.{IsScoped}
-use Rattle.sl_model.specs.WellTypedTypes.{ExprType, has_type, is_scalar}
+use Rattle.sl_model.specs.WellTypedTypes.{ExprType, is_scalar}
 use Rattle.sl_model.specs.WellTypedExpressions.{go_to, type_given}
 use Rattle.sl_model.specs.WellTyped.{WellTyped}
 use Rattle.sl_model.proofs.TypedOperands.{typed_by}
-use Rattle.sl_model.proofs.TypedStatements.{HasMain, main_is_there}
+use Rattle.sl_model.proofs.TypedStatements.{main_is_there}
 use Rattle.sl_model.proofs.Fitting.{FitsTypes}
 use Rattle.sl_model.proofs.Locations.{apart_none}
 use Rattle.sl_model.proofs.LibraryFits.{lib-fits}
@@ -30,7 +28,7 @@ use Rattle.sl_model.proofs.Levels.{level_of}
 use Rattle.sl_model.proofs.Gifts.{KeepsGood}
 use Rattle.sl_model.proofs.RunGood.{empty-good, good_now}
 use Rattle.sl_model.proofs.StackTypes.{Stack, StacksFit, HasMeaning}
-use Rattle.sl_model.proofs.FitOuts.{OutHas, OutFits, Of}
+use Rattle.sl_model.proofs.FitOuts.{OutFits}
 use Rattle.sl_model.proofs.FitCalls.{fit_call_of}
 
 -- nothing is known of the stacks

@@ -6,7 +6,7 @@ use Rattle.std.specs.Prelude.{ℤ, slice_get}
 use Rattle.std.specs.List.{slice_set}
 use Rattle.std.proofs.lemmas.List.{length-map}
 use Rattle.sl_base.specs.declared.form.Form.{Form}
-use Rattle.sl_model.specs.Containers.{Cont, Memory, Part, write_element, end_from}
+use Rattle.sl_model.specs.Containers.{Cont, Memory, write_element, end_from}
 use Rattle.sl_model.specs.Values.{Value, iterator, pair, two, scalar_at, container_at, element_at}
 use Rattle.sl_model.specs.Ends.{End, NoMeaning}
 use Rattle.sl_model.specs.Eval.{write_at}
