@@ -41,13 +41,13 @@ use Rattle.sl_model.proofs.Gifts.{KeepsGood, now_again}
 use Rattle.sl_model.proofs.GoodBinding.{at_bound}
 use Rattle.sl_model.proofs.GoodCalls.{TakesParameters, at_call_of}
 use Rattle.sl_model.proofs.StackTypes.{Kind, iterator_of, Stack, StacksFit, ScopeFits, new_pointer-fits, length-forms}
-use Rattle.sl_model.proofs.StackTypes.{end-fits, from_now, now-fits, then-fits}
+use Rattle.sl_model.proofs.StackTypes.{form_known, end-fits, from_now, now-fits, then-fits}
 use Rattle.sl_model.proofs.StackScopes.{conts_with, iters_new, numbers_with, last_there}
 use Rattle.sl_model.proofs.FitOuts.{OutFits}
 use Rattle.sl_model.proofs.FitEval.{OwnFits}
 use Rattle.sl_model.proofs.FitFlow.{FlowFits, given_ended}
 use Rattle.sl_model.proofs.FitDeclared.{fewer_iters, one_higher}
-use Rattle.sl_model.proofs.FitExec.{given_iterator, fit_exec}
+use Rattle.sl_model.proofs.FitExec.{given_number, given_iterator, fit_exec}
 
 -- the kinds with a parameter
 abbrev iters_with : ParameterKind → List Kind → List Kind
@@ -69,13 +69,7 @@ record IsBound (g : Scope) (ks : List Kind) (d : Stack) (m : Memory) (s : State)
   pub stacks : StacksFit (with_iters ks d) s
   pub memory : s.memory ≡ m
 
--- a number goes to a parameter by value
-number_goes : (s : Scalar) (u : ExprType) (m : Memory) (v : Value) → is_scalar s u ≡ true → Fits m u v → IsNumber v
-number_goes s (scalar_type r) m v t h = h
-number_goes s (element_type w) m v t h = h
-number_goes s u m v t h = absurd (cc)
-
--- a scalar to one by reference
+-- a scalar goes to a parameter by reference
 scalar_goes : (s : Scalar) (u : ExprType) (m : Memory) (v : Value) → goes_to (parameters.Reference s) u ≡ true → Fits m u v → IsScalarAt v
 scalar_goes s (handed_type r) m v t h = h
 scalar_goes s u m v t h = absurd (cc)
@@ -92,17 +86,6 @@ container_goes a.Const x (container_type a.Const y) m v t h = form_goes x y m v 
 container_goes a.Whole x (container_type a.Whole y) m v t h = form_goes x y m v t h
 container_goes a.Elements x (container_type access y) m v t h = form_goes x y m v t h
 container_goes access x u m v t h = absurd (cc)
-
--- the form of a container that is there is known, where as much is known as is there
-form_known : (d : Stack) (s : State) (l : ℕ) (form : Form) → length d.conts ≡ length s.memory.conts → StacksFit d s
-    → slice_get (forms_of s.memory) l ≡ Some form → slice_get d.conts l ≡ Some form
-form_known d s l form high h e = by_known (get_some d.conts l (low (get_within (forms_of s.memory) l form e) (length-forms s.memory)))
-  where
-    low : l < length (forms_of s.memory) → length (forms_of s.memory) ≡ length s.memory.conts → l < length d.conts
-    low p q = omega arith
-
-    by_known : (x : Form) × (slice_get d.conts l ≡ Some x) → slice_get d.conts l ≡ Some form
-    by_known r = r.1 ∙ (sym (h.conts l r.0 r.1) ∙ e)
 
 module _ (d : Stack) (g : Scope) (ks : List Kind) (s : State) where
   -- a number is copied
@@ -175,7 +158,7 @@ module _ (d : Stack) (g : Scope) (ks : List Kind) (s : State) where
   -- a parameter gets what goes to it
   bind_kind : (p : ParameterKind) (u : ExprType) (v : Value) → goes_to p u ≡ true → Fits s.memory u v → IsBound g ks d s.memory s
       → IsBound (with_parameter p g) (iters_with p ks) d s.memory (bind_one p v s)
-  bind_kind (parameters.Value ty) u v t n h = bind_number ty v (number_goes ty u s.memory v t n) h
+  bind_kind (parameters.Value ty) u v t n h = bind_number ty v (given_number ty u s.memory v t n) h
   bind_kind (parameters.Reference ty) u v t n h = bind_scalar ty v (scalar_goes ty u s.memory v t n) h
   bind_kind (parameters.Container access x) u v t n h = bind_container access x v (container_goes access x u s.memory v t n) h
   bind_kind (parameters.Iterator b x) u v t n h = bind_iterator b x v (given_iterator b x u s.memory v t n) h

@@ -47,6 +47,7 @@ use Rattle.sl_model.proofs.GoodEval.{at_eval, at_reach, at_all}
 use Rattle.sl_model.proofs.GoodEffects.{at_printed}
 use Rattle.sl_model.proofs.StackTypes.{Kind, iterator_of, a_reference, Stack, Holds, Lies, StacksFit, IterFits, ScopeFits, write-fits}
 use Rattle.sl_model.proofs.StackTypes.{set_iterator-fits, one_iter, one_cont, new_pointer-fits, new_container-fits}
+use Rattle.sl_model.proofs.StackTypes.{iters_here, conts_here}
 use Rattle.sl_model.proofs.FitOuts.{Of, ANumber, IsPlace, APlace, OutsFit, fit_then_number, fit_answer, fit_read}
 use Rattle.sl_model.proofs.FitEval.{OwnFits, kind_of, fit_eval, fit_reach, fit_all, fit_place}
 use Rattle.sl_model.proofs.FitFlow.{FlowFits, fit_after, Fit, fit_value, fit_on_number, fit_on_stamp, fit_either, fit_reads, FitTests}
@@ -88,14 +89,6 @@ module _ (due : Option ParameterKind) (d : Stack) where
 module _ (w : World) (sig : Signature) (lib_keeps : KeepsGood sig.shape sig.makes w.lib) (own_keeps : OwnKeepsGood sig w)
     (types : FitsTypes w.lib) (own_fits : OwnFits sig w) (due : Option ParameterKind) (shape : Shape) (L : Level) (g : Scope)
     (known : sig.functions ≡ g.functions) (d : Stack) (q : ScopeFits L g d.conts d.iters) where
-  -- as many iterators are known as there are
-  iters_here : (s : State) → Now L d.used s → length d.iters ≡ length s.iters
-  iters_here s h = q.iters_high ∙ sym (ap (λ (l : Level). l.iters) h.level)
-
-  -- as many containers are known as there are
-  conts_here : (s : State) → Now L d.used s → length d.conts ≡ length s.memory.conts
-  conts_here s h = q.conts_high ∙ sym (ap (λ (l : Level). l.conts) h.level)
-
   -- what follows an expression
   pub fit_of_value : (e : Stack) (a : Expr) (go : Value → Meaning) (s : State) → InExpr sig (counts_of L.frame) a
       → has_type (type_of g a) ≡ true
@@ -208,7 +201,7 @@ module _ (w : World) (sig : Signature) (lib_keeps : KeepsGood sig.shape sig.make
   fit_made form hd vs n (trapped kind a) s h i f = tt
   fit_made form hd vs n thrown s h i f = tt
   fit_made form hd vs n (faulted x) s h i f = tt
-  fit_made form hd vs n (gives v m picks) s h i f = new_container-fits d form s m h.good h.later (conts_here s h) i.kept f
+  fit_made form hd vs n (gives v m picks) s h i f = new_container-fits d form s m h.good h.later (conts_here L g d d.used s q h) i.kept f
   fit_made form hd vs n unbuilt s h i f = absurd i
 
   -- a call that makes a container
@@ -231,12 +224,12 @@ module _ (w : World) (sig : Signature) (lib_keeps : KeepsGood sig.shape sig.make
   fit_declared (set_iterator a) s i t h f =
       fit_of_stamp (one_iter (kind_in (type_of g a)) d) a (λ stamp s. Next (new_iterator stamp s)) s i.1
       (typed_by is_iterator refl (type_of g a) t) t
-      (λ x s holds j f. new_pointer-fits d s.memory s.iters (kind_in (type_of g a)) (iterator_at x) (iters_here s j) holds f) h f
+      (λ x s holds j f. new_pointer-fits d s.memory s.iters (kind_in (type_of g a)) (iterator_at x) (iters_here L g d d.used s q j) holds f) h f
   fit_declared (binds_reference hd ops) s i t h f = fit_value due L d (one_iter a_reference d) (a_value an_element) IsElement
       (then_call (eval_all w ops s) (use_library w.lib hd)) (binds_to hd.place)
       (at_reach w sig lib_keeps own_keeps L (element hd ops) d.used s i h)
       (fit_place w sig lib_keeps own_keeps types own_fits L g known hd ops d s q i.1 t h f)
-      (λ v s j there f. fit_binds due d hd.place v s (iters_here s j.now) there f)
+      (λ v s j there f. fit_binds due d hd.place v s (iters_here L g d d.used s q j.now) there f)
   fit_declared (makes form hd ops) s i t h f =
       let all = making_known form hd.callee hd.object (types_of g ops) t in
       fit_make (gifts_of sig ops) (types_of g ops) form hd (length s.memory.conts) (eval_all w ops s) t

@@ -29,14 +29,14 @@ use Rattle.sl_model.proofs.Called.{one_form}
 use Rattle.sl_model.proofs.TypedOperands.{typed_by}
 use Rattle.sl_model.proofs.TypedExpressions.{no_type_goes}
 use Rattle.sl_model.proofs.TypedStatements.{functions_behind, functions_behind_first, functions_in_range}
-use Rattle.sl_model.proofs.Fitting.{forms_of, IsIteratorOf, Fits, FitsTypes}
+use Rattle.sl_model.proofs.Fitting.{forms_of, IsNumber, IsIteratorOf, Fits, FitsTypes}
 use Rattle.sl_model.proofs.Levels.{Level, counts_of, Now}
 use Rattle.sl_model.proofs.Gifts.{KeepsGood, OwnKeepsGood}
 use Rattle.sl_model.proofs.GoodFlow.{FlowIn}
 use Rattle.sl_model.proofs.GoodEffects.{level_declared, level_begun, counts_declared, counts_begun, at_begun, at_ended}
 use Rattle.sl_model.proofs.GoodRange.{level_hidden, level_range, counts_range, range-now, numbered-now, at_takes_number, at_takes_element}
 use Rattle.sl_model.proofs.GoodExec.{part_stays, first_hidden, second_hidden, at_exec}
-use Rattle.sl_model.proofs.StackTypes.{Stack, StacksFit, ContFits, ScopeFits}
+use Rattle.sl_model.proofs.StackTypes.{iters_here, conts_here, Stack, StacksFit, ContFits, ScopeFits}
 use Rattle.sl_model.proofs.StackScopes.{conts_at}
 use Rattle.sl_model.proofs.FitEval.{OwnFits, frame_here}
 use Rattle.sl_model.proofs.FitFlow.{FlowFits, flow_as, fit_scope, fit_after, Fit, fit_either, fit_tick, fit_turns}
@@ -46,7 +46,7 @@ use Rattle.sl_model.proofs.FitRange.{form_in, stack_hidden, stack_range, before_
 use Rattle.sl_model.proofs.FitRange.{fit_takes_number, fit_takes_element, fit_over}
 
 -- a number that is given back is one
-given_number : (s : Scalar) (u : ExprType) (m : Memory) (v : Value) → is_scalar s u ≡ true → Fits m u v → Fits m (scalar_type s) v
+pub given_number : (s : Scalar) (u : ExprType) (m : Memory) (v : Value) → is_scalar s u ≡ true → Fits m u v → IsNumber v
 given_number s (scalar_type r) m v t h = h
 given_number s (element_type w) m v t h = h
 given_number s u m v t h = absurd (cc)
@@ -96,15 +96,6 @@ module _ (w : World) (sig : Signature) (lib_keeps : KeepsGood sig.shape sig.make
       → FlowIn shape L n (Now L n) (Now L n) (exec w a s)
   good_part a L n part i s h = part_stays shape L n a (exec w a s) part (at_exec w sig lib_keeps own_keeps shape n a L s i h)
 
-  -- as many iterators are known as there are
-  iters_here : (L : Level) (g : Scope) (d : Stack) (s : State) → ScopeFits L g d.conts d.iters → Now L d.used s → length d.iters ≡ length s.iters
-  iters_here L g d s q h = q.iters_high ∙ sym (ap (λ (l : Level). l.iters) h.level)
-
-  -- as many containers are known as there are
-  conts_here : (L : Level) (g : Scope) (d : Stack) (s : State) → ScopeFits L g d.conts d.iters → Now L d.used s
-      → length d.conts ≡ length s.memory.conts
-  conts_here L g d s q h = q.conts_high ∙ sym (ap (λ (l : Level). l.conts) h.level)
-
   -- the container of a range-for is of its type
   over_there : (L : Level) (g : Scope) (d : Stack) (x : ℕ) (s : State) → ScopeFits L g d.conts d.iters → x < length L.frame.conts → Now L d.used s
       → ContFits d.conts (variable_type g.containers x) (cont_of s x)
@@ -115,7 +106,7 @@ module _ (w : World) (sig : Signature) (lib_keeps : KeepsGood sig.shape sig.make
   -- the state in which the hidden iterators of a range-for have come into scope
   hidden_there : (L : Level) (g : Scope) (d : Stack) (x : ℕ) (s : State) → ScopeFits L g d.conts d.iters → x < length L.frame.conts → Now L d.used s
       → StacksFit d s → StacksFit (stack_hidden (form_in (variable_type g.containers x)) d) (range_start (cont_of s x) s)
-  hidden_there L g d x s q low h f = range-fits d (cont_of s x) (form_in (variable_type g.containers x)) s h.good.sound (iters_here L g d s q h)
+  hidden_there L g d x s q low h f = range-fits d (cont_of s x) (form_in (variable_type g.containers x)) s h.good.sound (iters_here L g d d.used s q h)
       (form_there d.conts s.memory (variable_type g.containers x) (cont_of s x) f.conts (over_there L g d x s q low h)) f
 
   -- a range-for by value, where its body keeps the stacks
@@ -128,12 +119,12 @@ module _ (w : World) (sig : Signature) (lib_keeps : KeepsGood sig.shape sig.make
   range_by_value L g d x at name a s q low well part i k h f = let form = form_in (variable_type g.containers x) in
       let e = stack_range taken.Value form d in let M = level_range taken.Value L in
       fit_scope due d 0 s (over_range w at name (length s.iters) (length s.iters + 1) (takes_number at (length s.scalars) (exec w a))
-      (new_scalar t.Int None (range_start (cont_of s x) s))) (conts_here L g d s q h) (iters_here L g d s q h)
+      (new_scalar t.Int None (range_start (cont_of s x) s))) (conts_here L g d d.used s q h) (iters_here L g d d.used s q h)
       (flow_as due e e d d (over_range w at name (length s.iters) (length s.iters + 1) (takes_number at (length s.scalars) (exec w a))
       (new_scalar t.Int None (range_start (cont_of s x) s))) (before_hidden form d) (before_hidden form d)
       (fit_over w sig lib_keeps types due shape M e at name (length s.iters) (length s.iters + 1) form (takes_number at (length s.scalars) (exec w a))
       (first_hidden w sig lib_keeps own_keeps shape d.used L s h) (second_hidden w sig lib_keeps own_keeps shape d.used L s h) well
-      (first_known d.iters form (length s.iters) (iters_here L g d s q h)) (second_known d.iters form (length s.iters) (iters_here L g d s q h))
+      (first_known d.iters form (length s.iters) (iters_here L g d d.used s q h)) (second_known d.iters form (length s.iters) (iters_here L g d d.used s q h))
       (at_takes_number shape M d.used at (length s.scalars) (exec w a) (good_part a M d.used part i))
       (fit_takes_number due shape M e at (length s.scalars) (exec w a) k)
       (new_scalar t.Int None (range_start (cont_of s x) s)) (numbered-now L d.used x s low h) (hidden_there L g d x s q low h f)))
@@ -149,12 +140,12 @@ module _ (w : World) (sig : Signature) (lib_keeps : KeepsGood sig.shape sig.make
   range_by_reference L g d x at name a s q low well part i high k h f = let form = form_in (variable_type g.containers x) in
       let e = stack_hidden form d in let M = level_hidden L in
       fit_scope due d 0 s (over_range w at name (length s.iters) (length s.iters + 1) (takes_element at (exec w a))
-      (range_start (cont_of s x) s)) (conts_here L g d s q h) (iters_here L g d s q h)
+      (range_start (cont_of s x) s)) (conts_here L g d d.used s q h) (iters_here L g d d.used s q h)
       (flow_as due e e d d (over_range w at name (length s.iters) (length s.iters + 1) (takes_element at (exec w a))
       (range_start (cont_of s x) s)) (before_hidden form d) (before_hidden form d)
       (fit_over w sig lib_keeps types due shape M e at name (length s.iters) (length s.iters + 1) form (takes_element at (exec w a))
       (first_hidden w sig lib_keeps own_keeps shape d.used L s h) (second_hidden w sig lib_keeps own_keeps shape d.used L s h) well
-      (first_known d.iters form (length s.iters) (iters_here L g d s q h)) (second_known d.iters form (length s.iters) (iters_here L g d s q h))
+      (first_known d.iters form (length s.iters) (iters_here L g d d.used s q h)) (second_known d.iters form (length s.iters) (iters_here L g d d.used s q h))
       (at_takes_element shape M d.used at (exec w a) (good_part a (level_range taken.Reference L) d.used part i))
       (fit_takes_element due shape M e at (exec w a) q.conts_high high k)
       (range_start (cont_of s x) s) (range-now L d.used x s low h) (hidden_there L g d x s q low h f)))
@@ -167,7 +158,7 @@ module _ (w : World) (sig : Signature) (lib_keeps : KeepsGood sig.shape sig.make
         → ScopeFits L g d.conts d.iters → InStmt sig shape (counts_of L.frame) a → is_typed_stmt g due inside a ≡ true → Now L d.used s
         → StacksFit d s → FlowFits due d d (exec w a s)
     fit_exec (block site all) inside L g d s known q i typed h f =
-        fit_scope due d (unwrap_or site 0) s (exec_all w all s) (conts_here L g d s q h) (iters_here L g d s q h)
+        fit_scope due d (unwrap_or site 0) s (exec_all w all s) (conts_here L g d d.used s q h) (iters_here L g d d.used s q h)
         (fit_exec_all all inside L g d s known q i typed h f)
     fit_exec (declares x) inside L g d s known q i typed h f = absurd (cc)
     fit_exec (choice k a) inside L g d s known q i typed h f =
@@ -197,8 +188,8 @@ module _ (w : World) (sig : Signature) (lib_keeps : KeepsGood sig.shape sig.make
         let in_last = subst (λ (c : Counts). InLast sig c last) (sym (counts_begun head L)) i.1.1.0 in
         let in_cond = subst (λ (c : Counts). InCond sig c k) (sym (counts_begun head L)) i.1.0 in
         fit_tick due L d d (λ s. scoped 0 s (and_then (begun w head s) (loop (tested w k) (exec w a) (ended w last))))
-        (λ s j f. fit_scope due d 0 s (and_then (begun w head s) (loop (tested w k) (exec w a) (ended w last))) (conts_here L g d s q j)
-        (iters_here L g d s q j)
+        (λ s j f. fit_scope due d 0 s (and_then (begun w head s) (loop (tested w k) (exec w a) (ended w last))) (conts_here L g d d.used s q j)
+        (iters_here L g d d.used s q j)
         (fit_after due L d e d shape L (Now M d.used) (Now L d.used) (begun w head s) (loop (tested w k) (exec w a) (ended w last))
         (at_begun w sig lib_keeps own_keeps shape L d.used head s i.0 j)
         (fit_begun w sig lib_keeps own_keeps types own_fits due shape L g known d q head s i.0 parts.0 j f)

@@ -17,7 +17,7 @@ use Rattle.sl_model.proofs.Fitting.{StampFits, IsIteratorOf, Fits}
 use Rattle.sl_model.proofs.FormsAfter.{ended-fits}
 use Rattle.sl_model.proofs.Levels.{Level, Now, apart_from_stacks, set_scalar-now}
 use Rattle.sl_model.proofs.Gifts.{Gave, OutAt}
-use Rattle.sl_model.proofs.GoodFlow.{FlowIn}
+use Rattle.sl_model.proofs.GoodFlow.{FlowIn, counted-now}
 use Rattle.sl_model.proofs.StackTypes.{Stack, StacksFit, HasMeaning, set_scalar-fits, end-fits}
 use Rattle.sl_model.proofs.FitOuts.{OutHas}
 
@@ -136,21 +136,6 @@ module _ (due : Option ParameterKind) where
     abbrev pub FitTests : (State → (Bool → Meaning) → Flow) → Type 0
     FitTests check = (go : Bool → Meaning) → ((b : Bool) → Fit d (go b)) → Fit d (λ s. check s go)
 
-    -- a test is counted
-    counted-now : (s : State) → Now L d.used s → Now L d.used (counted s)
-    counted-now s h = record {
-      good = record {
-        sound = h.good.sound;
-        scalars = h.good.scalars;
-        iters = h.good.iters;
-        conts = h.good.conts;
-        apart = h.good.apart;
-        held = h.good.held;
-      };
-      level = h.level;
-      later = h.later;
-    }
-
     -- the turns of a loop
     pub fit_turns : (shape : Shape) (m : ℕ) (check : State → (Bool → Meaning) → Flow) (body last : Meaning)
         → ((s : State) → Now L d.used s → FlowIn shape L d.used (Now L d.used) (Now L d.used) (body s))
@@ -166,5 +151,5 @@ module _ (due : Option ParameterKind) where
         (λ s j i. fit_after d d shape L (Now L d.used) (Now L d.used) (last s) (turns m check body last) (y s j) (r s j i)
         (λ s j i. fit_turns shape m check body last x y p q r s j i)))
         (λ s j i. i))
-        (counted t) (counted-now t j) i)
+        (counted t) (counted-now shape L d.used t j) i)
         s h f

@@ -21,7 +21,7 @@ use Rattle.sl_model.proofs.Getting.{get_within, get_some}
 use Rattle.sl_model.proofs.Fitting.{forms_of, StampFits, IsNumber, IsIteratorOf, IsPairOf, AreTwoOf, Fits, AllFit, IsGiven, IsMeant}
 use Rattle.sl_model.proofs.Levels.{Level, Now}
 use Rattle.sl_model.proofs.Gifts.{Gave, OutAt, AllGave, OutsAt}
-use Rattle.sl_model.proofs.StackTypes.{iterator_of, Stack, FormsGoOn, StacksFit, HasMeaning, fits_later, memory-fits, set_iterator-fits, length-forms}
+use Rattle.sl_model.proofs.StackTypes.{form_known, iterator_of, Stack, FormsGoOn, StacksFit, HasMeaning, fits_later, memory-fits, set_iterator-fits, length-forms}
 use Rattle.sl_model.proofs.StackTypes.{from_now, then-fits, ContFits}
 use Rattle.sl_model.proofs.StackScopes.{IsNumberType}
 
@@ -145,13 +145,7 @@ chosen_iterator m form Postfix y z h k = h
 -- containers keep their forms between two states of which as much is known as containers are there
 forms_between : (d : Stack) (s t : State) → length d.conts ≡ length s.memory.conts → StacksFit d s
     → ((l : ℕ) (form : Form) → slice_get d.conts l ≡ Some form → slice_get (forms_of t.memory) l ≡ Some form) → FormsGoOn s.memory t.memory
-forms_between d s t high h keep l form e = by_known (get_some d.conts l (low (get_within (forms_of s.memory) l form e) (length-forms s.memory)))
-  where
-    low : l < length (forms_of s.memory) → length (forms_of s.memory) ≡ length s.memory.conts → l < length d.conts
-    low p q = let r : length d.conts ≡ length s.memory.conts = high in omega arith
-
-    by_known : (x : Form) × (slice_get d.conts l ≡ Some x) → slice_get (forms_of t.memory) l ≡ Some form
-    by_known r = keep l r.0 r.1 ∙ (sym (h.conts l r.0 r.1) ∙ e)
+forms_between d s t high h keep l form e = keep l form (form_known d s l form high h e)
 
 module _ (L : Level) (d : Stack) where
   -- what follows a value

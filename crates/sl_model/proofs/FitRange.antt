@@ -35,7 +35,7 @@ use Rattle.sl_model.proofs.Fitting.{forms_of, StampFits, IsElement, IsGiven, Fit
 use Rattle.sl_model.proofs.Levels.{Level, Now, with_iterator, set_scalar-now, set_iterator-now}
 use Rattle.sl_model.proofs.Gifts.{KeepsGood, Gave, at_element, gave_as}
 use Rattle.sl_model.proofs.GoodFlow.{FlowIn, flow_value, flow_stamp}
-use Rattle.sl_model.proofs.GoodEffects.{at_binds}
+use Rattle.sl_model.proofs.GoodEffects.{not_one, at_binds}
 use Rattle.sl_model.proofs.GoodRange.{level_range, hidden_used, asked}
 use Rattle.sl_model.proofs.StackTypes.{Kind, iterator_of, a_reference, Stack, StacksFit, ContFits, IterFits, ScopeFits, set_scalar-fits}
 use Rattle.sl_model.proofs.StackTypes.{set_iterator-fits, one_iter, new_pointer-fits}
@@ -55,10 +55,6 @@ standing_fits m j k stamp x form sound there stands e i h y found also = let r :
     one : i ≡ j
     one = (sound.stamps_apart.once i h j k stamp (stamps y, get_map stamps m.conts i y found, also)
         (stamps x, get_map stamps m.conts j x there, stands)).0
-
--- the container that stands for one that isn't there
-abbrev not_one : Memory → Cont
-not_one m = record { form = f.Vector; cells = []; end = m.fresh; room = 0 }
 
 -- the first place of a container of a form fits it
 begin_fits : (m : Memory) (j : ℕ) (form : Form) → IsSound m → slice_get (forms_of m) j ≡ Some form → StampFits m form (begin_of m j)

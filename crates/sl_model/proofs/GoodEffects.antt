@@ -97,7 +97,7 @@ begun_above (declares_first d) L n s h = declared_above d L n s h
 begun_above (does_first e) L n s h = h
 
 -- the container that stands for one that isn't there
-abbrev not_one : Memory → Cont
+abbrev pub not_one : Memory → Cont
 not_one m = record { form = f.Vector; cells = []; end = m.fresh; room = 0 }
 
 -- a refer that is found in a container was used

@@ -115,7 +115,7 @@ module _ (shape : Shape) where
     Tests check = (go : Bool → Meaning) → ((b : Bool) → Stays (go b)) → Stays (λ s. check s go)
 
     -- a test is counted
-    counted-now : (s : State) → Now L n s → Now L n (counted s)
+    pub counted-now : (s : State) → Now L n s → Now L n (counted s)
     counted-now s h = record {
       good = record {
         sound = h.good.sound;

@@ -14,11 +14,11 @@ use Rattle.sl_model.specs.State.{Pointer, iterator_at, reference_to, State, set_
 use Rattle.sl_model.specs.Good.{IsGood, AreBelow}
 use Rattle.sl_model.specs.WellTypedTypes.{ExprType, empty_type, scalar_type, element_type, iterator_type, iterator_and_bool, two_iterators}
 use Rattle.sl_model.specs.WellTypedTypes.{container_type, handed_type, int_reference, entry_reference, Scope}
-use Rattle.sl_model.proofs.Getting.{get_left, get_within, get_map}
+use Rattle.sl_model.proofs.Getting.{get_some, get_left, get_within, get_map}
 use Rattle.sl_model.proofs.Fitting.{forms_of, StampFits, KeepsForms, Fits, IsIteratorOf, IsPairOf, AreTwoOf, IsContainerOf}
 use Rattle.sl_model.proofs.FormsAfter.{write-forms, ended-forms, ended-fits}
 use Rattle.sl_model.proofs.Gifts.{IsUsed}
-use Rattle.sl_model.proofs.Levels.{Level}
+use Rattle.sl_model.proofs.Levels.{Level, Now}
 
 -- what a location on the stack of iterators is for
 pub data Kind : Type 0 where
@@ -299,3 +299,24 @@ then-fits d s t less h i = record {
   iters = i.iters;
   fit = λ form stamp low fits. i.fit form stamp (let r : stamp < d.used = low in omega arith) (h.fit form stamp low fits);
 }
+
+-- the form of a container that is there is known, where as much is known as is there
+pub form_known : (d : Stack) (s : State) (l : ℕ) (form : Form) → length d.conts ≡ length s.memory.conts → StacksFit d s
+    → slice_get (forms_of s.memory) l ≡ Some form → slice_get d.conts l ≡ Some form
+form_known d s l form high h e = by_known (get_some d.conts l (low (get_within (forms_of s.memory) l form e) (length-forms s.memory)))
+  where
+    low : l < length (forms_of s.memory) → length (forms_of s.memory) ≡ length s.memory.conts → l < length d.conts
+    low p q = omega arith
+
+    by_known : (x : Form) × (slice_get d.conts l ≡ Some x) → slice_get d.conts l ≡ Some form
+    by_known r = r.1 ∙ (sym (h.conts l r.0 r.1) ∙ e)
+
+-- as many iterators are known at a level as there are
+pub iters_here : (L : Level) (g : Scope) (d : Stack) (n : ℕ) (s : State) → ScopeFits L g d.conts d.iters → Now L n s
+    → length d.iters ≡ length s.iters
+iters_here L g d n s q h = q.iters_high ∙ sym (ap (λ (l : Level). l.iters) h.level)
+
+-- and as many containers
+pub conts_here : (L : Level) (g : Scope) (d : Stack) (n : ℕ) (s : State) → ScopeFits L g d.conts d.iters → Now L n s
+    → length d.conts ≡ length s.memory.conts
+conts_here L g d n s q h = q.conts_high ∙ sym (ap (λ (l : Level). l.conts) h.level)
