@@ -1,8 +1,8 @@
 -- Each call of a well typed text's own functions gives what is of the type of the function: its parameters take what is of their types, and what lies
 -- on the caller's stacks stays of its types.
-use Rattle.std.proofs.Common.{◌≡◌, ℕ, zero, suc, ◌<◌, ◌≤◌, ◌==◌, Bool, true, false, ◌&&◌, List, [], ◌∷◌, ◌++◌, Option, Some, None, length, refl, ap}
+use Rattle.std.proofs.Common.{◌≡◌, ℕ, zero, suc, ◌≤◌, ◌==◌, Bool, true, false, ◌&&◌, List, [], ◌∷◌, ◌++◌, Option, Some, None, length, refl, ap}
 use Rattle.std.proofs.Common.{sym, ◌∙◌}
-use Rattle.std.proofs.Common.{subst, arith}
+use Rattle.std.proofs.Common.{subst}
 use Rattle.std.specs.Prelude.{pos, slice_get}
 use Rattle.std.proofs.lemmas.Bool.{eqb-true}
 use Rattle.sl_base.specs.declared.form.Form.{Form}
@@ -32,15 +32,14 @@ use Rattle.sl_model.specs.WellTypedExpressions.{goes_to, go_to, type_given}
 use Rattle.sl_model.specs.WellTypedStatements.{is_typed_stmt, with_parameter, with_parameters, no_variables, is_block, is_typed_function}
 use Rattle.sl_model.specs.WellTyped.{WellTyped}
 use Rattle.sl_model.proofs.Passing.{first_of_both, second_of_both}
-use Rattle.sl_model.proofs.Getting.{get_within, get_some}
 use Rattle.sl_model.proofs.Called.{one_form}
 use Rattle.sl_model.proofs.TypedStatements.{functions_with_parameters, function_is_typed, main_is_there}
-use Rattle.sl_model.proofs.Fitting.{forms_of, IsNumber, IsIteratorOf, IsContainerOf, IsScalarAt, Fits, AllFit, FitsTypes}
+use Rattle.sl_model.proofs.Fitting.{IsNumber, IsIteratorOf, IsContainerOf, IsScalarAt, Fits, AllFit, FitsTypes}
 use Rattle.sl_model.proofs.Levels.{Level, level_of, counts_of, Now}
 use Rattle.sl_model.proofs.Gifts.{KeepsGood, now_again}
 use Rattle.sl_model.proofs.GoodBinding.{at_bound}
 use Rattle.sl_model.proofs.GoodCalls.{TakesParameters, at_call_of}
-use Rattle.sl_model.proofs.StackTypes.{Kind, iterator_of, Stack, StacksFit, ScopeFits, new_pointer-fits, length-forms}
+use Rattle.sl_model.proofs.StackTypes.{Kind, iterator_of, Stack, StacksFit, ScopeFits, new_pointer-fits}
 use Rattle.sl_model.proofs.StackTypes.{form_known, end-fits, from_now, now-fits, then-fits}
 use Rattle.sl_model.proofs.StackScopes.{conts_with, iters_new, numbers_with, last_there}
 use Rattle.sl_model.proofs.FitOuts.{OutFits}

@@ -1,5 +1,5 @@
 -- Each statement that is typed keeps the stacks of their types, and no end is for want of a meaning.
-use Rattle.std.proofs.Common.{◌≡◌, ℕ, suc, ◌+◌, ◌<◌, Bool, true, Option, Some, None, length, ap, sym, ◌∙◌, subst}
+use Rattle.std.proofs.Common.{◌≡◌, ℕ, suc, ◌+◌, ◌<◌, Bool, true, Option, Some, None, length, sym, ◌∙◌, subst}
 use Rattle.std.specs.Prelude.{List, unwrap_or, slice_get, slice_index}
 use Rattle.sl_base.specs.declared.form.Form.{Form}
 use Rattle.sl_specs.specs.Forms.{same_form}

@@ -1,5 +1,5 @@
 -- What an expression leaves is of its type: what follows a value, a number, operands, a call of the library and the place of a left side.
-use Rattle.std.proofs.Common.{◌≡◌, ℕ, ◌<◌, Bool, true, false, List, [], ◌∷◌, Option, Some, None, length, sym, ap, ◌∙◌, arith}
+use Rattle.std.proofs.Common.{◌≡◌, ℕ, Bool, true, false, List, [], ◌∷◌, Option, Some, None, length, sym, ap, ◌∙◌}
 use Rattle.std.specs.Prelude.{ℤ, pos, slice_get}
 use Rattle.sl_base.specs.declared.place.Place.{Place}
 use Rattle.sl_base.specs.declared.form.Form.{Form}
@@ -17,11 +17,10 @@ use Rattle.sl_model.specs.Shapes.{Gift}
 use Rattle.sl_model.specs.WellTypedTypes.{ExprType, scalar_type, element_type, iterator_and_bool, two_iterators, container_type}
 use Rattle.sl_model.specs.WellTypedTypes.{has_type, only}
 use Rattle.sl_model.specs.WellTypedExpressions.{only_value, handed, type_of_first, type_of_second}
-use Rattle.sl_model.proofs.Getting.{get_within, get_some}
 use Rattle.sl_model.proofs.Fitting.{forms_of, StampFits, IsNumber, IsIteratorOf, IsPairOf, AreTwoOf, Fits, AllFit, IsGiven, IsMeant}
 use Rattle.sl_model.proofs.Levels.{Level, Now}
 use Rattle.sl_model.proofs.Gifts.{Gave, OutAt, AllGave, OutsAt}
-use Rattle.sl_model.proofs.StackTypes.{form_known, iterator_of, Stack, FormsGoOn, StacksFit, HasMeaning, fits_later, memory-fits, set_iterator-fits, length-forms}
+use Rattle.sl_model.proofs.StackTypes.{form_known, iterator_of, Stack, FormsGoOn, StacksFit, HasMeaning, fits_later, memory-fits, set_iterator-fits}
 use Rattle.sl_model.proofs.StackTypes.{from_now, then-fits, ContFits}
 use Rattle.sl_model.proofs.StackScopes.{IsNumberType}
 
