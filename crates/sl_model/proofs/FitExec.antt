@@ -106,7 +106,8 @@ module _ (w : World) (sig : Signature) (lib_keeps : KeepsGood sig.shape sig.make
   -- the state in which the hidden iterators of a range-for have come into scope
   hidden_there : (L : Level) (g : Scope) (d : Stack) (x : ℕ) (s : State) → ScopeFits L g d.conts d.iters → x < length L.frame.conts → Now L d.used s
       → StacksFit d s → StacksFit (stack_hidden (form_in (variable_type g.containers x)) d) (range_start (cont_of s x) s)
-  hidden_there L g d x s q low h f = range-fits d (cont_of s x) (form_in (variable_type g.containers x)) s h.good.sound (iters_here L g d d.used s q h)
+  hidden_there L g d x s q low h f = range-fits d (cont_of s x) (form_in (variable_type g.containers x)) s h.good.sound
+      (iters_here L g d d.used s q h)
       (form_there d.conts s.memory (variable_type g.containers x) (cont_of s x) f.conts (over_there L g d x s q low h)) f
 
   -- a range-for by value, where its body keeps the stacks
@@ -124,7 +125,8 @@ module _ (w : World) (sig : Signature) (lib_keeps : KeepsGood sig.shape sig.make
       (new_scalar t.Int None (range_start (cont_of s x) s))) (before_hidden form d) (before_hidden form d)
       (fit_over w sig lib_keeps types due shape M e at name (length s.iters) (length s.iters + 1) form (takes_number at (length s.scalars) (exec w a))
       (first_hidden w sig lib_keeps own_keeps shape d.used L s h) (second_hidden w sig lib_keeps own_keeps shape d.used L s h) well
-      (first_known d.iters form (length s.iters) (iters_here L g d d.used s q h)) (second_known d.iters form (length s.iters) (iters_here L g d d.used s q h))
+      (first_known d.iters form (length s.iters) (iters_here L g d d.used s q h)) (second_known d.iters form (length s.iters)
+      (iters_here L g d d.used s q h))
       (at_takes_number shape M d.used at (length s.scalars) (exec w a) (good_part a M d.used part i))
       (fit_takes_number due shape M e at (length s.scalars) (exec w a) k)
       (new_scalar t.Int None (range_start (cont_of s x) s)) (numbered-now L d.used x s low h) (hidden_there L g d x s q low h f)))
@@ -145,7 +147,8 @@ module _ (w : World) (sig : Signature) (lib_keeps : KeepsGood sig.shape sig.make
       (range_start (cont_of s x) s)) (before_hidden form d) (before_hidden form d)
       (fit_over w sig lib_keeps types due shape M e at name (length s.iters) (length s.iters + 1) form (takes_element at (exec w a))
       (first_hidden w sig lib_keeps own_keeps shape d.used L s h) (second_hidden w sig lib_keeps own_keeps shape d.used L s h) well
-      (first_known d.iters form (length s.iters) (iters_here L g d d.used s q h)) (second_known d.iters form (length s.iters) (iters_here L g d d.used s q h))
+      (first_known d.iters form (length s.iters) (iters_here L g d d.used s q h)) (second_known d.iters form (length s.iters)
+      (iters_here L g d d.used s q h))
       (at_takes_element shape M d.used at (exec w a) (good_part a (level_range taken.Reference L) d.used part i))
       (fit_takes_element due shape M e at (exec w a) q.conts_high high k)
       (range_start (cont_of s x) s) (range-now L d.used x s low h) (hidden_there L g d x s q low h f)))
