@@ -181,9 +181,9 @@ algorithm-given n r us s there e typed has fit done =
     let object : (meaning_of false r).object ≡ of_first = ap (λ (q : Row). q.object) meant in
     let shape : (meaning_of false r).shape ≡ algorithm_shape false r.call r.gives = ap (λ (q : Row). q.shape) meant in
     algorithm_by r.gives (memory_after (meaning_of false r) s) us s ((meaning_of false r).action.answer s) (algorithm_shape false r.call r.gives)
-        (told.shaped ∙ shape) is.0 (is.1 us typed) has fit
-        (subst (λ (o : Object). OperandStands o s (operand_given (is_output r.gives) s) ((meaning_of false r).action.answer s)) object gives.stood)
-        told.placed done.kept done.sound
+    (told.shaped ∙ shape) is.0 (is.1 us typed) has fit
+    (subst (λ (o : Object). OperandStands o s (operand_given (is_output r.gives) s) ((meaning_of false r).action.answer s)) object gives.stood)
+    told.placed done.kept done.sound
 
 -- ## `advance`
 
@@ -220,4 +220,4 @@ advance-given n us s there typed fit done =
     let gives : GivesIn false (algorithm_row false advance_row) s = numbered-gives-in false n advance_row there s done.called done.needs done.goes in
     let is = advance-begins us typed in
     operand_type_given s 1 (memory_after (algorithm_row false advance_row) s) done.kept done.sound (first_type us)
-        ((algorithm_row false advance_row).action.answer s) is (operand_fits false s us is fit) told.shaped gives.stood told.placed
+    ((algorithm_row false advance_row).action.answer s) is (operand_fits false s us is fit) told.shaped gives.stood told.placed

@@ -89,14 +89,14 @@ call-given g (callees.Row n) object us r s e has fit done = by_row (slice_get ta
     by_row (Some x) there q h =
         let same : r ≡ meaning_of false x = cc in
         subst (λ (y : Row). IsDone [] y s → RowGives y s (row_type g (Some x) object us)) (sym same)
-            (λ d. row_fits n x us s there fit d g object h) done
+        (λ d. row_fits n x us s there fit d g object h) done
 call-given g (callees.Appends n) object us r s e has fit done = only_given (not (is_some object)) (appending_type (row_at n) us) r s has
     (appending_fits (row_at n) us r s (only_rest (not (is_some object)) (appending_type (row_at n) us) has))
 call-given g (callees.Operator o) object us r s e has fit done =
     let same : r ≡ row_of_operator (operator_name o) o = cc in
     subst (λ (y : Row). IsDone [] y s → RowGives y s (call_type g (callees.Operator o) object us)) (sym same)
-        (λ d. only_given (not (is_some object)) (operator_type o us) (row_of_operator (operator_name o) o) s has
-        (operator-given (operator_name o) o us s (only_rest (not (is_some object)) (operator_type o us) has) fit d)) done
+    (λ d. only_given (not (is_some object)) (operator_type o us) (row_of_operator (operator_name o) o) s has
+    (operator-given (operator_name o) o us s (only_rest (not (is_some object)) (operator_type o us) has) fit d)) done
 call-given g (callees.Hidden o) object us r s e has fit done = absurd (cc)
 
 -- ## What moves a variable
@@ -143,12 +143,12 @@ moving-given g (callees.Row n) object us r s e moves has fit done = by_row (slic
     by_row (Some x) there q m h =
         let same : r ≡ meaning_of false x = cc in
         subst (λ (y : Row). IsDone [] y s → RowGives y s (first_type us)) (sym same)
-            (subst (λ (y : TableRow). slice_get table n ≡ Some y → has_type (row_type g (Some y) object us) ≡ true
-            → IsDone [] (meaning_of false y) s → RowGives (meaning_of false y) s (first_type us)) (sym (advancing_row n x there m)) advances there h)
-            done
+        (subst (λ (y : TableRow). slice_get table n ≡ Some y → has_type (row_type g (Some y) object us) ≡ true
+        → IsDone [] (meaning_of false y) s → RowGives (meaning_of false y) s (first_type us)) (sym (advancing_row n x there m)) advances there h)
+        done
 moving-given g (callees.Appends n) object us r s e moves has fit done = absurd (cc)
 moving-given g (callees.Operator o) object us r s e moves has fit done =
     let same : r ≡ row_of_operator (operator_name o) o = cc in
     subst (λ (y : Row). IsDone [] y s → RowGives y s (first_type us)) (sym same)
-        (moving_operator-given (operator_name o) o us s moves (only_rest (not (is_some object)) (operator_type o us) has) fit) done
+    (moving_operator-given (operator_name o) o us s moves (only_rest (not (is_some object)) (operator_type o us) has) fit) done
 moving-given g (callees.Hidden o) object us r s e moves has fit done = absurd (cc)

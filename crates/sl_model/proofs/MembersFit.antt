@@ -105,7 +105,7 @@ member-given n r form b us s there e done = by_call (is_constructor r.call) refl
         told.shaped ∙ ap (λ (q : Row). q.shape) meant in
         let same : AnswerIsIn s.object ((meaning_of false r).action.answer s) =
         subst (λ (last : Bool). AnswerIsIn (container_given last s) ((meaning_of false r).action.answer s)) (own_is_here r.gives own)
-            gives.in_container in
+        gives.in_container in
         own_given r.gives (memory_after (meaning_of false r) s) form b us s.object ((meaning_of false r).action.answer s) own shape same
-            gives.element_there done.sound told.placed
-            (form_kept s.memory (memory_after (meaning_of false r) s) [] s.object form done.kept (object_form form s has))
+        gives.element_there done.sound told.placed
+        (form_kept s.memory (memory_after (meaning_of false r) s) [] s.object form done.kept (object_form form s has))

@@ -33,7 +33,7 @@ pub use classes::{
 };
 pub use exchanges::{merge_moves, splice_moves, swap_exchanges};
 pub use keys::{keys_stay_in_order, ordered_keys_ascend};
-pub use typed::well_typed_texts_are_scoped;
+pub use typed::{well_typed_texts_are_scoped, well_typed_texts_have_meaning};
 
 /// One element comes in at the end of a vector of n elements, as `push_back` does it. Where there is room for it, the
 /// iterators at the end are invalidated and at no other place; where there is none, those at every place are. A

@@ -15,6 +15,7 @@ pub use laws::{
     iterators_go_with_references, keys_stay_in_order, longer_runs, merge_moves, none_vanishes,
     nothing_is_invalidated, one_place, ordered_keys_ascend, push_back_kills, runs_stay_good,
     splice_moves, swap_exchanges, vectors_invalidate, well_typed_texts_are_scoped,
+    well_typed_texts_have_meaning,
 };
 pub use output::Output;
 pub use trap_info::TrapInfo;
