@@ -1,5 +1,5 @@
 -- What an algorithm gives is of the type of its result: that of its first operand, or of its output.
-use Rattle.std.proofs.Common.{◌≡◌, ℕ, Bool, true, false, not, ◌&&◌, List, [], ◌∷◌, Option, Some, None, refl, ap, sym, ◌∙◌, subst, option_map, length}
+use Rattle.std.proofs.Common.{◌≡◌, ℕ, Bool, true, false, not, ◌&&◌, List, [], ◌∷◌, Some, None, refl, ap, sym, ◌∙◌, subst, option_map, length}
 use Rattle.std.proofs.Common.{if◌then◌else◌}
 use Rattle.std.specs.Prelude.{slice_get, take, drop}
 use Rattle.std.specs.List.{list_all}
@@ -26,7 +26,7 @@ use Rattle.sl_model.specs.Actions.{Answer}
 use Rattle.sl_model.specs.Forms.{is_keyed, is_hash}
 use Rattle.sl_model.specs.Library.{value_in}
 use Rattle.sl_model.specs.Good.{IsSound}
-use Rattle.sl_model.specs.Rows.{Object, of_first, Row, algorithm_shape, algorithm_row, member_row, meaning_of}
+use Rattle.sl_model.specs.Rows.{Object, of_first, Row, algorithm_shape, algorithm_row, meaning_of}
 use Rattle.sl_model.specs.WellTypedTypes.{ExprType, no_type, empty_type, scalar_type, element_type, iterator_type, iterator_and_bool, two_iterators}
 use Rattle.sl_model.specs.WellTypedTypes.{container_type, handed_type, int_reference, entry_reference, has_type, is_iterator, is_iterator_that}
 use Rattle.sl_model.specs.WellTypedTypes.{is_writing_iterator, same_iterators}
@@ -39,7 +39,8 @@ use Rattle.sl_model.proofs.LibraryGood.{row-tells}
 use Rattle.sl_model.proofs.Fitting.{KeepsForms, AllFit, IsGiven}
 use Rattle.sl_model.proofs.GivenIn.{is_output, OperandStands, operand_given, GivesIn}
 use Rattle.sl_model.proofs.LibraryGives.{numbered-gives-in}
-use Rattle.sl_model.proofs.AnswersFit.{IsDone, RowGives, number_given, operand_type_given, operand_fits}
+use Rattle.sl_model.proofs.TypedRows.{no_object, meaning_alone}
+use Rattle.sl_model.proofs.AnswersFit.{IsCarriedOut, RowGives, number_given, operand_type_given, operand_fits}
 
 -- ## Operands that are iterators
 
@@ -164,16 +165,12 @@ algorithm_by returns.Output t us s answer shape e is typed has fit stood placed 
     operand_type_given s (length s.values) t kept sound (last_type us) answer typed (operand_fits true s us typed fit) (e ∙ is) stood placed
 algorithm_by returns.Appender t us s answer shape e is typed has fit stood placed kept sound = absurd (cc)
 
--- the meaning of a row without a form is that of an algorithm
-pub algorithm_meant : (r : TableRow) → r.form ≡ None → meaning_of false r ≡ algorithm_row false r
-algorithm_meant r e = ap (λ (o : Option Form). elim o as (λ _. Row) [ None ↦ algorithm_row false r | Some form ↦ member_row form r ]) e
-
 -- what an algorithm gives is of the type of its result
 pub algorithm-given : (n : ℕ) (r : TableRow) (us : List ExprType) (s : Situation) → slice_get table n ≡ Some r → r.form ≡ None
     → fits f.Vector r.letters us ≡ true → has_type (result_type r.gives false f.Vector us) ≡ true → AllFit s.memory us s.values
-    → IsDone [] (meaning_of false r) s → RowGives (meaning_of false r) s (result_type r.gives false f.Vector us)
+    → IsCarriedOut [] (meaning_of false r) s → RowGives (meaning_of false r) s (result_type r.gives false f.Vector us)
 algorithm-given n r us s there e typed has fit done =
-    let meant = algorithm_meant r e in
+    let meant = meaning_alone false r e in
     let is = algorithm_numbered n r there e in
     let told : Tells (meaning_of false r) s =
     row-tells (callees.Row n) (meaning_of false r) (ap (option_map (meaning_of false)) there) s done.called done.needs in
@@ -181,9 +178,9 @@ algorithm-given n r us s there e typed has fit done =
     let object : (meaning_of false r).object ≡ of_first = ap (λ (q : Row). q.object) meant in
     let shape : (meaning_of false r).shape ≡ algorithm_shape false r.call r.gives = ap (λ (q : Row). q.shape) meant in
     algorithm_by r.gives (memory_after (meaning_of false r) s) us s ((meaning_of false r).action.answer s) (algorithm_shape false r.call r.gives)
-        (told.shaped ∙ shape) is.0 (is.1 us typed) has fit
-        (subst (λ (o : Object). OperandStands o s (operand_given (is_output r.gives) s) ((meaning_of false r).action.answer s)) object gives.stood)
-        told.placed done.kept done.sound
+    (told.shaped ∙ shape) is.0 (is.1 us typed) has fit
+    (subst (λ (o : Object). OperandStands o s (operand_given (is_output r.gives) s) ((meaning_of false r).action.answer s)) object gives.stood)
+    told.placed done.kept done.sound
 
 -- ## `advance`
 
@@ -200,11 +197,7 @@ pub advancing_row : (n : ℕ) (r : TableRow) → slice_get table n ≡ Some r �
 advancing_row n r there moves =
     let alone : same_object r.form None ≡ true =
     ap (λ (b : Bool). if b then same_object r.form None else true) (sym moves) ∙ passes_at moves_alone table n r advances_alone there in
-    (algorithm_numbered n r there (without_form r.form alone)).2 moves
-  where
-    without_form : (o : Option Form) → same_object o None ≡ true → o ≡ None
-    without_form None e = refl
-    without_form (Some form) e = absurd (cc)
+    (algorithm_numbered n r there (no_object r.form alone)).2 moves
 
 -- its first operand is an iterator
 pub advance-begins : (us : List ExprType) → fits f.Vector advance_row.letters us ≡ true → is_iterator (first_type us) ≡ true
@@ -212,7 +205,7 @@ advance-begins us e = one_begins (λ b x. true) us _ e
 
 -- and it gives one of its type
 pub advance-given : (n : ℕ) (us : List ExprType) (s : Situation) → slice_get table n ≡ Some advance_row
-    → fits f.Vector advance_row.letters us ≡ true → AllFit s.memory us s.values → IsDone [] (algorithm_row false advance_row) s
+    → fits f.Vector advance_row.letters us ≡ true → AllFit s.memory us s.values → IsCarriedOut [] (algorithm_row false advance_row) s
     → RowGives (algorithm_row false advance_row) s (first_type us)
 advance-given n us s there typed fit done =
     let told : Tells (algorithm_row false advance_row) s =
@@ -220,4 +213,4 @@ advance-given n us s there typed fit done =
     let gives : GivesIn false (algorithm_row false advance_row) s = numbered-gives-in false n advance_row there s done.called done.needs done.goes in
     let is = advance-begins us typed in
     operand_type_given s 1 (memory_after (algorithm_row false advance_row) s) done.kept done.sound (first_type us)
-        ((algorithm_row false advance_row).action.answer s) is (operand_fits false s us is fit) told.shaped gives.stood told.placed
+    ((algorithm_row false advance_row).action.answer s) is (operand_fits false s us is fit) told.shaped gives.stood told.placed

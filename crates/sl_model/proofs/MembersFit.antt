@@ -12,7 +12,7 @@ use Rattle.sl_specs.specs.Table.{table}
 use Rattle.sl_syntax.specs.declared.typed.callee.Callee.TheVariants as callees
 use Rattle.sl_model.specs.Containers.{Memory}
 use Rattle.sl_model.specs.Situation.{Situation}
-use Rattle.sl_model.specs.Rows.{Object, of_form, new_one, Row, shape_of_return, is_constructor, algorithm_row, member_row, meaning_of}
+use Rattle.sl_model.specs.Rows.{Object, of_form, new_one, Row, shape_of_return, is_constructor, member_row, meaning_of}
 use Rattle.sl_model.specs.Library.{value_in}
 use Rattle.sl_model.specs.WellTypedTypes.{ExprType}
 use Rattle.sl_model.specs.WellTypedCalls.{result_type}
@@ -23,7 +23,8 @@ use Rattle.sl_model.proofs.LibraryGood.{row-tells}
 use Rattle.sl_model.proofs.Fitting.{IsGiven}
 use Rattle.sl_model.proofs.GivenIn.{is_output, AnswerIsIn, container_given, GivesIn, object_form, form_kept}
 use Rattle.sl_model.proofs.LibraryGives.{numbered-gives-in}
-use Rattle.sl_model.proofs.AnswersFit.{IsDone, RowGives, is_own, own_given}
+use Rattle.sl_model.proofs.TypedRows.{meaning_on}
+use Rattle.sl_model.proofs.AnswersFit.{IsCarriedOut, RowGives, is_own, own_given}
 
 -- nothing is given
 abbrev is_nothing : ReturnType → Bool
@@ -73,20 +74,16 @@ own_is_here returns.FirstArgument e = absurd (cc)
 own_is_here returns.Output e = absurd (cc)
 own_is_here returns.Appender e = refl
 
--- the meaning of a row with a form is that of a member
-pub member_meant : (r : TableRow) (form : Form) → r.form ≡ Some form → meaning_of false r ≡ member_row form r
-member_meant r form e = ap (λ (o : Option Form). elim o as (λ _. Row) [ None ↦ algorithm_row false r | Some form ↦ member_row form r ]) e
-
 -- what a call on a container gives is of the type of its result
 pub member-given : (n : ℕ) (r : TableRow) (form : Form) (b : Bool) (us : List ExprType) (s : Situation) → slice_get table n ≡ Some r
-    → r.form ≡ Some form → IsDone [] (meaning_of false r) s → RowGives (meaning_of false r) s (result_type r.gives b form us)
+    → r.form ≡ Some form → IsCarriedOut [] (meaning_of false r) s → RowGives (meaning_of false r) s (result_type r.gives b form us)
 member-given n r form b us s there e done = by_call (is_constructor r.call) refl (plain_row r form e (passes_at is_plain_member table n r plain_table there))
   where
     row : Row
     row = meaning_of false r
 
     meant : meaning_of false r ≡ member_row form r
-    meant = member_meant r form e
+    meant = meaning_on false r form e
 
     told : Tells (meaning_of false r) s
     told = row-tells (callees.Row n) (meaning_of false r) (ap (option_map (meaning_of false)) there) s done.called done.needs
@@ -105,7 +102,7 @@ member-given n r form b us s there e done = by_call (is_constructor r.call) refl
         told.shaped ∙ ap (λ (q : Row). q.shape) meant in
         let same : AnswerIsIn s.object ((meaning_of false r).action.answer s) =
         subst (λ (last : Bool). AnswerIsIn (container_given last s) ((meaning_of false r).action.answer s)) (own_is_here r.gives own)
-            gives.in_container in
+        gives.in_container in
         own_given r.gives (memory_after (meaning_of false r) s) form b us s.object ((meaning_of false r).action.answer s) own shape same
-            gives.element_there done.sound told.placed
-            (form_kept s.memory (memory_after (meaning_of false r) s) [] s.object form done.kept (object_form form s has))
+        gives.element_there done.sound told.placed
+        (form_kept s.memory (memory_after (meaning_of false r) s) [] s.object form done.kept (object_form form s has))
