@@ -44,7 +44,7 @@ use Rattle.sl_model.proofs.Places.{times}
 use Rattle.sl_model.proofs.Placing.{keys-length, how_many-low}
 use Rattle.sl_model.proofs.Tells.{AllOf, all_parts}
 use Rattle.sl_model.proofs.AlgorithmsTell.{no_failure, none_left, none_right, place_there}
-use Rattle.sl_model.proofs.OutputsTell.{first_holds as both_left, second_holds as both_right}
+use Rattle.sl_model.proofs.Passing.{first_of_both, second_of_both}
 
 -- no container has too many elements
 pub any_small : (m : Memory) (j : ℕ) → IsSound m → size (cont_at m j) ≤ ELEMENTS
@@ -279,7 +279,7 @@ there_of_form m form j h = own_there form (record { memory = m; object = j; valu
 first_container : (m : Memory) (form : Form) (sorts : List Sort) (vs : List Value) → are_of m (a_container form ∷ sorts) vs ≡ true
     → IsThere m (container_of_value m (slice_index_or vs 0 no_result))
 first_container m form sorts [] h = absurd (cc)
-first_container m form sorts (v ∷ vs) h = by_value v (both_left (is_of m (a_container form) v) (are_of m sorts vs) h)
+first_container m form sorts (v ∷ vs) h = by_value v (first_of_both (is_of m (a_container form) v) (are_of m sorts vs) h)
   where
     by_value : (v : Value) → is_of m (a_container form) v ≡ true → IsThere m (container_of_value m v)
     by_value no_result h = absurd (cc)
@@ -295,9 +295,9 @@ first_container m form sorts (v ∷ vs) h = by_value v (both_left (is_of m (a_co
 second_container : (m : Memory) (form : Form) (sorts : List Sort) (vs : List Value) → are_of m (an_iterator ∷ a_container form ∷ sorts) vs ≡ true
     → IsThere m (container_of_value m (slice_index_or vs 1 no_result))
 second_container m form sorts [] h = absurd (cc)
-second_container m form sorts (v ∷ []) h = absurd (let q = both_right (is_of m an_iterator v) (are_of m (a_container form ∷ sorts) []) h in cc)
+second_container m form sorts (v ∷ []) h = absurd (let q = second_of_both (is_of m an_iterator v) (are_of m (a_container form ∷ sorts) []) h in cc)
 second_container m form sorts (v ∷ w ∷ vs) h =
-    first_container m form sorts (w ∷ vs) (both_right (is_of m an_iterator v) (are_of m (a_container form ∷ sorts) (w ∷ vs)) h)
+    first_container m form sorts (w ∷ vs) (second_of_both (is_of m an_iterator v) (are_of m (a_container form ∷ sorts) (w ∷ vs)) h)
 
 -- two numbers that aren't one
 not_same : (a b : ℕ) → (a == b) ≡ false → b ≢ a
