@@ -97,7 +97,6 @@ pub mod TypedRows
 pub mod TableLetters
 pub mod RowIsThere
 pub mod RowMeant
-pub mod MovingFirst
 pub mod GivenIn
 pub mod ContainersGiveIn
 pub mod AlgorithmsGiveIn
@@ -114,6 +113,7 @@ pub mod ScopedScopes
 pub mod ScopedStatements
 pub mod ScopedTexts
 pub mod OperatorsFit
+pub mod MovingFirst
 pub mod CallsFit
 pub mod LibraryFits
 -- ## Facts where no way comes

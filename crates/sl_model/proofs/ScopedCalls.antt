@@ -32,8 +32,9 @@ use Rattle.sl_model.specs.WellTypedStatements.{is_making}
 use Rattle.sl_model.proofs.Passing.{first_of_both, second_of_both, three_parts}
 use Rattle.sl_model.proofs.TypedOperands.{only_holds, only_rest}
 use Rattle.sl_model.proofs.ScopedRows.{IsShaped, right_result, right_call, right_move, is_right, right_found, row_right, result_shaped, only_shaped}
-use Rattle.sl_model.proofs.ScopedRows.{no_form, meaning-by, algorithm_still, algorithm_moves, constructor_same, member_old, form_there}
+use Rattle.sl_model.proofs.ScopedRows.{meaning-by, algorithm_still, algorithm_moves, constructor_same, member_old, form_there}
 use Rattle.sl_model.proofs.ScopedRows.{nothing_shaped, advance_gives_nothing}
+use Rattle.sl_model.proofs.TypedRows.{no_object}
 
 -- what is asked of the row of a member
 record MemberHolds (row : Row) (x : Form) (us : List ExprType) : Type 0 where
@@ -90,7 +91,7 @@ algorithm_shaped : (row : Row) (us : List ExprType) → is_right row ≡ true �
 algorithm_shaped row us right still h = only_shaped (is_algorithm row && fits f.Vector row.letters us) (result_type row.gives false f.Vector us)
     (meaning_of false row).shape
     (λ all typed. return_shaped row false f.Vector us right
-    (algorithm_shape_still row (no_form row.form (first_of_both (is_algorithm row) (fits f.Vector row.letters us) all)) still)
+    (algorithm_shape_still row (no_object row.form (first_of_both (is_algorithm row) (fits f.Vector row.letters us) all)) still)
     (second_of_both (is_algorithm row) (fits f.Vector row.letters us) all) typed) h
 
 -- so has one of a row that moves nothing
@@ -201,7 +202,7 @@ call_shaped g callee object us h = at (is_moving callee) refl
 
 -- an algorithm makes no container
 algorithm_makes_none : (appends : Bool) (row : Row) → is_algorithm row ≡ true → is_new_one (meaning_of appends row).object ≡ false
-algorithm_makes_none appends row h = (meaning-by appends row None (no_form row.form h)).1
+algorithm_makes_none appends row h = (meaning-by appends row None (no_object row.form h)).1
 
 -- a member that is called makes none
 member_makes_none : (row : Row) (u : ExprType) (us : List ExprType) → has_type (member_type row u us) ≡ true

@@ -86,7 +86,7 @@ right_found None = true
 right_found (Some row) = is_right row
 
 -- what is found at a number is
-found_right : (n : ℕ) (found : Option Row) → slice_get table n ≡ found → right_found found ≡ true
+pub found_right : (n : ℕ) (found : Option Row) → slice_get table n ≡ found → right_found found ≡ true
 found_right n None e = refl
 found_right n (Some row) e = passes_at is_right table n row table_right e
 
@@ -118,7 +118,7 @@ first_of_range test (u ∷ []) h = absurd cc
 first_of_range test (u ∷ v ∷ us) h = any_iterator test u (first_of_both (is_iterator_that test u) (same_iterators u v) h)
 
 -- what fits letters that begin with an iterator begins with one
-first_is_iterator : (form : Form) (letters : List Letter) (us : List ExprType) → fits form letters us ≡ true → begins_with_iterator letters ≡ true
+pub first_is_iterator : (form : Form) (letters : List Letter) (us : List ExprType) → fits form letters us ≡ true → begins_with_iterator letters ≡ true
     → is_iterator (first_type us) ≡ true
 first_is_iterator form (l.IntRange ∷ rest) us h b =
     first_of_range (λ c x. not (is_map x)) us (first_of_both (fits_letter form l.IntRange (take 2 us)) (fits form rest (drop 2 us)) h)
@@ -149,7 +149,7 @@ output_is_iterator form l.Output (u ∷ v ∷ us) h b =
 output_is_iterator form letter us h b = absurd cc
 
 -- what fits letters that end with an output ends with an iterator
-last_is_iterator : (form : Form) (letters : List Letter) (us : List ExprType) → fits form letters us ≡ true → ends_with_output letters ≡ true
+pub last_is_iterator : (form : Form) (letters : List Letter) (us : List ExprType) → fits form letters us ≡ true → ends_with_output letters ≡ true
     → is_iterator (last_type us) ≡ true
 last_is_iterator form [] us h b = absurd cc
 last_is_iterator form (letter ∷ []) us h b = output_is_iterator form letter us h b
@@ -176,11 +176,6 @@ pub only_shaped : (b : Bool) (u : ExprType) (shape : Shape) → (b ≡ true → 
     → IsShaped (only b u) shape
 only_shaped true u shape give h = give refl h
 only_shaped false u shape give h = absurd cc
-
--- an algorithm has no form
-pub no_form : (o : Option Form) → same_object o None ≡ true → o ≡ None
-no_form None h = refl
-no_form (Some x) h = absurd cc
 
 -- what a row of a form, or of none, means
 abbrev meaning_by : Bool → Row → Option Form → Shape × Bool
