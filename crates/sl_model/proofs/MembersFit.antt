@@ -25,15 +25,11 @@ use Rattle.sl_model.proofs.GivenIn.{is_output, AnswerIsIn, container_given, Give
 use Rattle.sl_model.proofs.LibraryGives.{numbered-gives-in}
 use Rattle.sl_model.proofs.TypedRows.{meaning_on}
 use Rattle.sl_model.proofs.AnswersFit.{IsCarriedOut, RowGives, is_own, own_given}
-
--- nothing is given
-abbrev is_nothing : ReturnType → Bool
-is_nothing returns.Nothing = true
-is_nothing gives = false
+use Rattle.sl_model.proofs.ScopedRows.{gives_nothing}
 
 -- a call that makes its object gives nothing, and another one gives what is of its object
 abbrev is_plain : Call → ReturnType → Bool
-is_plain call gives = if is_constructor call then is_nothing gives else is_own gives
+is_plain call gives = if is_constructor call then gives_nothing gives else is_own gives
 
 -- so it is with a row that has a form
 abbrev is_plain_member : TableRow → Bool
@@ -50,7 +46,7 @@ plain_row r form e plain =
     ap (λ (o : Option Form). elim o as (λ _. Bool) [ None ↦ true | Some form ↦ is_plain r.call r.gives ]) (sym e) ∙ plain
 
 -- where nothing is given, that is its type
-nothing_fits : (gives : ReturnType) (t : Memory) (b : Bool) (form : Form) (us : List ExprType) (r : Row) (s : Situation) → is_nothing gives ≡ true
+nothing_fits : (gives : ReturnType) (t : Memory) (b : Bool) (form : Form) (us : List ExprType) (r : Row) (s : Situation) → gives_nothing gives ≡ true
     → IsGiven t (result_type gives b form us) (value_in t (r.action.answer s))
 nothing_fits returns.Nothing t b form us r s e = tt
 nothing_fits (returns.Number ty) t b form us r s e = absurd (cc)
@@ -91,7 +87,7 @@ member-given n r form b us s there e done = by_call (is_constructor r.call) refl
     gives : GivesIn (is_output r.gives) (meaning_of false r) s
     gives = numbered-gives-in false n r there s done.called done.needs done.goes
 
-    by_call : (made : Bool) → is_constructor r.call ≡ made → (if made then is_nothing r.gives else is_own r.gives) ≡ true
+    by_call : (made : Bool) → is_constructor r.call ≡ made → (if made then gives_nothing r.gives else is_own r.gives) ≡ true
         → RowGives (meaning_of false r) s (result_type r.gives b form us)
     by_call true t own = nothing_fits r.gives (memory_after (meaning_of false r) s) b form us (meaning_of false r) s own
     by_call false t own =

@@ -52,7 +52,7 @@ makes_so c.Constructor = refl
 makes_so call = refl
 
 -- the object of a row on a form, by whether it makes a container
-row_object : (form : Form) (r : TableRow) (b : Bool) → is_constructor r ≡ b
+pub row_object : (form : Form) (r : TableRow) (b : Bool) → is_constructor r ≡ b
     → (member_row form r).object ≡ (if b then new_one form else of_form form)
 row_object form r b h = ap (λ (x : Bool). if x then new_one form else of_form form) (makes_so r.call ∙ h)
 
