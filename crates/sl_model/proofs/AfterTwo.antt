@@ -98,13 +98,6 @@ module _ (ch dh : Change) (m : Memory) (j i : ℕ) (c d : Cont) (site : ℕ) (so
           let same : n ≡ k = end_takes n a k e.1 t in
           omega arith
 
-  -- the lengths of the lists
-  stamp_count : (x : Cont) → length (stamps x) ≡ size x + 1
-  stamp_count x = stamps-length x
-
-  refer_count : (x : Cont) → length (refers x) ≡ size x
-  refer_count x = refers-length x
-
   -- the stamps of one of the two are a column
   stamp_column : (a b : Cont) (x y : ℕ) (ah bh : Change) (base next limit : ℕ) → slice_get (map stamps m.conts) x ≡ Some (stamps a)
       → slice_get (map stamps m.conts) y ≡ Some (stamps b) → x ≢ y → IsFairSide a b ah bh → m.fresh ≤ base → (base + size a) + 1 ≤ next
@@ -116,9 +109,9 @@ module _ (ch dh : Change) (m : Memory) (j i : ℕ) (c d : Cont) (site : ℕ) (so
     other_below = list_below (map stamps m.conts) m.graves m.fresh sound.stamps_apart y (stamps b) at';
     none = lists_have_none (map stamps m.conts) m.graves m.fresh sound.stamps_apart x y (stamps a) (stamps b) at at' other;
     base_up = low;
-    next_up = let l : length (stamps a) ≡ size a + 1 = stamp_count a in omega arith;
+    next_up = let l : length (stamps a) ≡ size a + 1 = stamps-length a in omega arith;
     limit_up = omega arith;
-    inside = let l : length (stamps a) ≡ size a + 1 = stamp_count a in let l' : length (stamps b) ≡ size b + 1 = stamp_count b in
+    inside = let l : length (stamps a) ≡ size a + 1 = stamps-length a in let l' : length (stamps b) ≡ size b + 1 = stamps-length b in
         rw (l, l') (with_end-inside (size a) (size b) (size a + 1) (size b + 1) ah.sources (omega arith) (omega arith) fair.inside);
     once = with_end-once (size a) (size b) ah.sources fair.inside fair.once;
     news = λ p s here fresh_one. let w : p < length ah.sources = new_within (size a) ah.sources p s here fresh_one in omega arith;
@@ -135,9 +128,9 @@ module _ (ch dh : Change) (m : Memory) (j i : ℕ) (c d : Cont) (site : ℕ) (so
     other_below = list_below (map refers m.conts) m.lost m.fresh sound.refers_apart y (refers b) at';
     none = lists_have_none (map refers m.conts) m.lost m.fresh sound.refers_apart x y (refers a) (refers b) at at' other;
     base_up = low;
-    next_up = let l : length (refers a) ≡ size a = refer_count a in omega arith;
+    next_up = let l : length (refers a) ≡ size a = refers-length a in omega arith;
     limit_up = omega arith;
-    inside = let l : length (refers a) ≡ size a = refer_count a in let l' : length (refers b) ≡ size b = refer_count b in rw (l, l') fair.inside;
+    inside = let l : length (refers a) ≡ size a = refers-length a in let l' : length (refers b) ≡ size b = refers-length b in rw (l, l') fair.inside;
     once = fair.once;
     news = λ p s here fresh_one. let w : p < length ah.sources = get_within ah.sources p s here in omega arith;
   }
@@ -160,8 +153,8 @@ module _ (ch dh : Change) (m : Memory) (j i : ℕ) (c d : Cont) (site : ℕ) (so
     second = stamp_column d c i j dh ch base' next' limit' stamps_there' stamps_there (λ e. differ (sym e)) fair' low high' (omega arith);
     by_one = by_one-end (size c) (size d) ch.sources dh.sources fair.inside fair'.inside fair.by_one;
     by_other = by_one-end (size d) (size c) dh.sources ch.sources fair'.inside fair.inside fair'.by_one;
-    bases = let l : length (stamps c) ≡ size c + 1 = stamp_count c in omega arith;
-    nexts = let l : length (stamps d) ≡ size d + 1 = stamp_count d in omega arith;
+    bases = let l : length (stamps c) ≡ size c + 1 = stamps-length c in omega arith;
+    nexts = let l : length (stamps d) ≡ size d + 1 = stamps-length d in omega arith;
     limits = omega arith;
     lives = λ k t. (fair'.lives k (end-taken_over (size d) dh.sources k t)).0;
     lives' = λ k t. (fair.lives k (end-taken_over (size c) ch.sources k t)).0;
@@ -174,8 +167,8 @@ module _ (ch dh : Change) (m : Memory) (j i : ℕ) (c d : Cont) (site : ℕ) (so
     second = refer_column d c i j dh ch base' next' limit' refers_there' refers_there (λ e. differ (sym e)) fair' low high' (omega arith);
     by_one = fair.by_one;
     by_other = fair'.by_one;
-    bases = let l : length (refers c) ≡ size c = refer_count c in omega arith;
-    nexts = let l : length (refers d) ≡ size d = refer_count d in omega arith;
+    bases = let l : length (refers c) ≡ size c = refers-length c in omega arith;
+    nexts = let l : length (refers d) ≡ size d = refers-length d in omega arith;
     limits = omega arith;
     lives = λ k t. (fair'.lives k t).1;
     lives' = λ k t. (fair.lives k t).1;
@@ -252,7 +245,7 @@ module _ (ch dh : Change) (m : Memory) (j i : ℕ) (c d : Cont) (site : ℕ) (so
   stamps_go a b ah bh fair k within = ⊎_elim
       (λ (inner : k < size a). by_taken (fair.goes k inner))
       (λ (outer : size a ≤ k).
-      let l : length (stamps a) ≡ size a + 1 = stamp_count a in
+      let l : length (stamps a) ≡ size a + 1 = stamps-length a in
       let e : size a ≡ k = omega arith in
       inl (subst (λ n. IsTaken (with_end (size a) ah.sources) n) e (end_taken (size a) ah.sources)))
       (cases_lt k (size a))
@@ -265,7 +258,7 @@ module _ (ch dh : Change) (m : Memory) (j i : ℕ) (c d : Cont) (site : ℕ) (so
 
   -- each element of one of the two is taken, or its refer is dropped
   refers_go : (a b : Cont) (ah bh : Change) → IsFairSide a b ah bh → AllGo ah.lose (length (refers a)) ah.sources bh.sources
-  refers_go a b ah bh fair k within = let l : length (refers a) ≡ size a = refer_count a in by_taken (fair.goes k (omega arith))
+  refers_go a b ah bh fair k within = let l : length (refers a) ≡ size a = refers-length a in by_taken (fair.goes k (omega arith))
     where
       by_taken : IsTaken ah.sources k ⊎ (IsTakenOver bh.sources k ⊎ ((ah.kill k ≡ true) × (ah.lose k ≡ true)))
           → IsTaken ah.sources k ⊎ (IsTakenOver bh.sources k ⊎ (ah.lose k ≡ true))

@@ -165,7 +165,7 @@ comes_at renewed base own other next (y ∷ xs) (suc p) k s x at takes there = c
 -- ## The columns of a container after a change
 
 -- the stamp at the place of an element
-stamp_there : (c : Cont) (k : ℕ) (x : Cell) → slice_get c.cells k ≡ Some x → slice_get (stamps c) k ≡ Some x.stamp
+pub stamp_there : (c : Cont) (k : ℕ) (x : Cell) → slice_get c.cells k ≡ Some x → slice_get (stamps c) k ≡ Some x.stamp
 stamp_there c k x at =
     let within : k < length c.cells = get_within c.cells k x at in
     let l : length (map (λ (y : Cell). y.stamp) c.cells) ≡ length c.cells = length-map c.cells in

@@ -21,11 +21,13 @@ use Rattle.sl_model.specs.Effects.{Left, key_order, key_place, key_change, key_p
 use Rattle.sl_model.specs.KeyActions.{key_index, is_missing, place_or, key_after, is_new, inserted}
 use Rattle.sl_model.specs.Rows.{of_form, member_row}
 use Rattle.sl_model.proofs.Called.{HasObject, own_within}
-use Rattle.sl_model.proofs.Placing.{HasPlace, after-place, put_at-length}
+use Rattle.sl_model.proofs.Placing.{HasPlace, after-place}
 use Rattle.sl_model.proofs.Tells.{AllOf, all_parts}
 use Rattle.sl_model.proofs.ContainersTell.{key_index-low, key_order-length, key_place-low, known_key-low}
-use Rattle.sl_model.proofs.FineContainers.{no_fails, filled_one, first_need}
+use Rattle.sl_model.proofs.FineContainers.{filled_one, first_need}
 use Rattle.sl_model.proofs.GivenIn.{AnswerIsIn, ElementIsThere, HasElement, is_output, given_in, RowGivesIn}
+use Rattle.sl_model.proofs.Counts.{length-put}
+use Rattle.sl_model.proofs.FineRows.{no_fails}
 
 -- so it is with a line of the table on each form
 abbrev pub LineGivesIn : Line → Type 0
@@ -75,7 +77,7 @@ key_element class s x picks low = by_known (known_key (own s) x.0) refl
     sources : key_place (own s) x.0 picks + 1 ≤ length (key_change class (own s) x picks).sources
     sources =
         let old_ones : List Source = map (λ k. old k) (key_order (own s) picks) in
-        let p = put_at-length (key_place (own s) x.0 picks) (new x.0 x.1) old_ones in
+        let p = length-put (key_place (own s) x.0 picks) (new x.0 x.1) old_ones in
         let q = length-map (key_order (own s) picks) (λ k. old k) in
         let r = key_order-length (own s) picks in
         let t = key_place-low (own s) x.0 picks in

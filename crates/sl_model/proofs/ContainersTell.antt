@@ -26,10 +26,11 @@ use Rattle.sl_model.specs.Rows.{of_form}
 use Rattle.sl_model.specs.Values.{Shape, a_stamp, a_pair}
 use Rattle.sl_model.proofs.Called.{HasObject, own_within, own_form}
 use Rattle.sl_model.proofs.Growing.{makes_one}
-use Rattle.sl_model.proofs.Placing.{HasPlace, IsPlaced, numbers-length, after-place, edit-place, put_at-length, scattered-length, hash_place-low}
+use Rattle.sl_model.proofs.Placing.{HasPlace, IsPlaced, after-place, edit-place, hash_place-low}
 use Rattle.sl_model.proofs.Placing.{how_many-low}
 use Rattle.sl_model.proofs.Placing.{first_of_key-low, keys-length}
 use Rattle.sl_model.proofs.Tells.{shape_of_answer, tells, LineTells, AllOf, all_parts}
+use Rattle.sl_model.proofs.Counts.{length-scattered, length-put, length-numbers}
 
 -- a new container is made, whatever its form
 filled-makes : (form : Form) (xs : List (ℤ × ℤ)) (picks : List ℕ) → makes_one (filled form xs picks) ≡ true
@@ -97,9 +98,9 @@ key_order-length c picks = by_hash (is_hash c.form) (is_full c 1)
     by_hash : (h full : Bool) → length (if h
         then (if full then scattered (after_picks 1 picks) (numbers 0 (size c)) else numbers 0 (size c))
         else numbers 0 (size c)) ≡ size c
-    by_hash true true = scattered-length (after_picks 1 picks) (numbers 0 (size c)) ∙ numbers-length 0 (size c)
-    by_hash true false = numbers-length 0 (size c)
-    by_hash false full = numbers-length 0 (size c)
+    by_hash true true = length-scattered (after_picks 1 picks) (numbers 0 (size c)) ∙ length-numbers 0 (size c)
+    by_hash true false = length-numbers 0 (size c)
+    by_hash false full = length-numbers 0 (size c)
 
 -- the place of a new key is one of the container with it
 pub key_place-low : (c : Cont) (z : ℤ) (picks : List ℕ) → key_place c z picks ≤ size c
@@ -129,7 +130,7 @@ key_placed class s x picks low = by_known (known_key (own s) x.0) refl
     sources : key_place (own s) x.0 picks ≤ length (key_change class (own s) x picks).sources
     sources =
         let old_ones : List Source = map (λ k. old k) (key_order (own s) picks) in
-        let p = put_at-length (key_place (own s) x.0 picks) (new x.0 x.1) old_ones in
+        let p = length-put (key_place (own s) x.0 picks) (new x.0 x.1) old_ones in
         let q = length-map (key_order (own s) picks) (λ k. old k) in
         let r = key_order-length (own s) picks in
         let t = key_place-low (own s) x.0 picks in

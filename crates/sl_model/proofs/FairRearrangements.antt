@@ -4,7 +4,7 @@ use Rattle.std.proofs.Common.{refl, ap, sym, ◌∙◌, arith, inr, ℤ, if◌th
 use Rattle.std.proofs.lemmas.Bool.Decides.{nat_tests}
 use Rattle.sl_base.specs.declared.limits.TheConstants.{ELEMENTS}
 use Rattle.sl_specs.specs.declared.class.Class.{Class}
-use Rattle.sl_model.specs.Containers.{Cell, Cont, size, keys}
+use Rattle.sl_model.specs.Containers.{Cont, size, keys}
 use Rattle.sl_model.specs.Edits.{Source, old, theirs, new, numbers, olds, theirs_from}
 use Rattle.sl_model.specs.Orders.{same, first_places_after, first_places, other_places, sorted_entries}
 use Rattle.sl_model.specs.Rearrangements.{retained, among, exchanged, received, given}
@@ -17,6 +17,7 @@ use Rattle.sl_model.proofs.Counts.{in_turn, InTurn, one_of, lower, higher, own-a
 use Rattle.sl_model.proofs.Counts.{their-theirs, length-map, length-numbers, times-scattered, length-scattered, length-put, times-outside, times-numbers}
 use Rattle.sl_model.proofs.Counts.{three_parts, sum_of, sum-sorted, sum-append, length-sorted}
 use Rattle.sl_model.proofs.FairChanges.{IsOrder, first_once, own_olds, their_olds, length_olds, length_append}
+use Rattle.sl_model.proofs.Placing.{keys-length}
 
 -- ## Elements that alone stay
 
@@ -176,7 +177,7 @@ own_theirs k i n = ap (times k) (own-theirs (numbers i n))
 their_theirs : (k i n : ℕ) → times k (their_places (theirs_from i n)) ≡ times k (numbers i n)
 their_theirs k i n = ap (times k) (their-theirs (numbers i n))
 
-length_theirs : (i n : ℕ) → length (theirs_from i n) ≡ n
+pub length_theirs : (i n : ℕ) → length (theirs_from i n) ≡ n
 length_theirs i n = length-map (λ k. theirs k) (numbers i n) ∙ length-numbers i n
 
 -- what is among the first n numbers is below n
@@ -336,9 +337,6 @@ length_entries : (f : ℕ → Source) (i : ℕ) (xs : List ℤ) → length (entr
 length_entries f i [] = refl
 length_entries f i (x ∷ xs) = ap suc (length_entries f (i + 1) xs)
 
-length_keys : (c : Cont) → length (keys c) ≡ size c
-length_keys c = length-map (λ (x : Cell). x.key) c.cells
-
 module _ (c d : Cont) where
   -- what is merged
   abbrev both : List (ℤ × Source)
@@ -351,7 +349,7 @@ module _ (c d : Cont) where
       let e = sum-append (λ (x : ℤ × Source). times k (own_places (x.1 ∷ []))) (entries (λ k. old k) 0 (keys c)) (entries (λ k. theirs k) 0 (keys d)) in
       let f = old_own k 0 (keys c) in
       let g = theirs_own k 0 (keys d) in
-      let h : times k (numbers 0 (length (keys c))) ≡ times k (numbers 0 (size c)) = ap (λ n. times k (numbers 0 n)) (length_keys c) in
+      let h : times k (numbers 0 (length (keys c))) ≡ times k (numbers 0 (size c)) = ap (λ n. times k (numbers 0 n)) (keys-length c) in
       omega arith
 
   pub merged_their : (k : ℕ) → times k (their_places (merged c d).sources) ≡ times k (numbers 0 (size d))
@@ -361,7 +359,7 @@ module _ (c d : Cont) where
       let e = sum-append (λ (x : ℤ × Source). times k (their_places (x.1 ∷ []))) (entries (λ k. old k) 0 (keys c)) (entries (λ k. theirs k) 0 (keys d)) in
       let f = old_their k 0 (keys c) in
       let g = theirs_their k 0 (keys d) in
-      let h : times k (numbers 0 (length (keys d))) ≡ times k (numbers 0 (size d)) = ap (λ n. times k (numbers 0 n)) (length_keys d) in
+      let h : times k (numbers 0 (length (keys d))) ≡ times k (numbers 0 (size d)) = ap (λ n. times k (numbers 0 n)) (keys-length d) in
       omega arith
 
   -- the other list gives all its elements
@@ -391,8 +389,8 @@ module _ (c d : Cont) where
         let e = length_append (entries (λ k. old k) 0 (keys c)) (entries (λ k. theirs k) 0 (keys d)) in
         let f = length_entries (λ k. old k) 0 (keys c) in
         let g = length_entries (λ k. theirs k) 0 (keys d) in
-        let h = length_keys c in
-        let i = length_keys d in
+        let h = keys-length c in
+        let i = keys-length d in
         omega arith;
   }
 

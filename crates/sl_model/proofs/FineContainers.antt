@@ -3,7 +3,7 @@ use Rattle.std.proofs.Common.{◌≡◌, ◌≢◌, ℕ, zero, suc, ◌+◌, ◌
 use Rattle.std.proofs.Common.{length, replicate, reverse, refl, ap, sym, subst, ◌∙◌, arith, if◌then◌else◌}
 use Rattle.std.specs.Prelude.{ℤ, pos, nat_lt, take, drop, min, slice_index_or, filter}
 use Rattle.std.specs.List.{slice_get}
-use Rattle.std.proofs.lemmas.Bool.{eqb-true, eqb-false, ltb-false}
+use Rattle.std.proofs.lemmas.Bool.{eqb-true, eqb-false}
 use Rattle.sl_base.specs.declared.form.Form.{Form}
 use Rattle.sl_base.specs.declared.form.Form.TheVariants as f
 use Rattle.sl_base.specs.declared.limits.TheConstants.{ELEMENTS}
@@ -23,7 +23,7 @@ use Rattle.sl_base.specs.declared.failures.TheConstants.{WRONG_CONTAINER, END_IT
 use Rattle.sl_model.specs.Situation.{Situation, own, own_size, argument, place_of, index, index_in, container_of, container_of_value, their, their_size, int_of, count_of, item}
 use Rattle.sl_model.specs.Situation.{as_items, listed, range_keys, range_size}
 use Rattle.sl_model.specs.Values.{Value, nothing as no_result, number, iterator, pair, two, scalar_at, container_at, element_at}
-use Rattle.sl_model.specs.Actions.{keeps, edits, changes, trades, inserts, never, exception, too_many}
+use Rattle.sl_model.specs.Actions.{keeps, edits, changes, trades, inserts, never, too_many}
 use Rattle.sl_model.specs.AccessActions.{untouched, resized, rehashed, reserved, swap}
 use Rattle.sl_model.specs.Effects.{insertion, picks_with, room_with}
 use Rattle.sl_model.specs.KeyActions.{new_keys, place_or, key_index, key_count}
@@ -39,7 +39,7 @@ use Rattle.sl_model.proofs.FairChanges.{BuriesGone, edit-fair, IsOrder, arranged
 use Rattle.sl_model.proofs.FairRearrangements.{first_places-picked, other_places-picked, ArePicked, retained-fair, exchanged-fair, received-fair, given-fair}
 use Rattle.sl_model.proofs.FairRearrangements.{merged-fair, gives-fair}
 use Rattle.sl_model.proofs.FineEffects.{IsThere, IsFine, keys_in}
-use Rattle.sl_model.proofs.FineRows.{buries, class_buries, LineIsFine}
+use Rattle.sl_model.proofs.FineRows.{buries, class_buries, LineIsFine, no_fails, not_too_many}
 use Rattle.sl_model.proofs.Places.{times}
 use Rattle.sl_model.proofs.Placing.{keys-length, how_many-low}
 use Rattle.sl_model.proofs.Tells.{AllOf, all_parts}
@@ -69,19 +69,6 @@ any_small m j sound = by_cont (slice_get m.conts j) refl
         get_there [] j x d h = absurd (cc)
         get_there (y ∷ xs) zero x d h = cc
         get_there (y ∷ xs) (suc j) x d h = get_there xs j x d h
-
--- a number that is no exception isn't too great
-pub not_too_many : (n : ℕ) → too_many n ≡ never → n ≤ ELEMENTS
-not_too_many n h = by_test (nat_lt ELEMENTS n) refl h
-  where
-    by_test : (b : Bool) → nat_lt ELEMENTS n ≡ b → (if b then exception else never) ≡ never → n ≤ ELEMENTS
-    by_test true t e = absurd (cc)
-    by_test false t e = ltb-false ELEMENTS n t
-
--- a test that fails isn't true
-pub no_fails : (b : Bool) (kind a : ℕ) → fails_if b kind a ≡ [] → b ≡ false
-no_fails true kind a h = absurd (cc)
-no_fails false kind a h = refl
 
 -- ## Edits of the object
 

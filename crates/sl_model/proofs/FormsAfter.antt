@@ -16,8 +16,9 @@ use Rattle.sl_model.proofs.Ending.{map_take}
 use Rattle.sl_model.proofs.Fitting.{forms_of, StampFits, KeepsForms}
 use Rattle.sl_model.proofs.Getting.{get_left, get_take, map_set}
 use Rattle.sl_model.proofs.Making.{last_one, map_last, fresh_cont, fresh_stamps, fresh_stamps-between}
-use Rattle.sl_model.proofs.Moved.{cell-stamp, stamp-cell, end-stamp, element_or_end, blank, sources-got}
+use Rattle.sl_model.proofs.Moved.{stamp-cell, element_or_end, blank, sources-got}
 use Rattle.sl_model.proofs.Writing.{cont_with-same}
+use Rattle.sl_model.proofs.Columns.{stamp_of_end, stamp_there}
 
 -- ## Stamps that stood before
 
@@ -119,7 +120,7 @@ module _ (ch : Change) (base next fresh : ℕ) (own other : Cont) (base_up : fre
         | Some x ↦ record x { stamp = mark_after ch.kill base k x.stamp; refer = mark_after ch.lose base k x.refer }
       ]).stamp ≡ s → Came s
       by_cell None e h = absurd (omega arith)
-      by_cell (Some x) e h = inl (k, cell-stamp own k x e ∙ ap (λ (n : ℕ). Some n) (used_mark k x.stamp s h low))
+      by_cell (Some x) e h = inl (k, stamp_there own k x e ∙ ap (λ (n : ℕ). Some n) (used_mark k x.stamp s h low))
 
   -- and of one that comes over
   over_came : (p k s : ℕ) → (elim (slice_get other.cells k) as (λ _. Cell) [ None ↦ blank (next + p) | Some x ↦ x ]).stamp ≡ s → s < fresh → Came s
@@ -127,7 +128,7 @@ module _ (ch : Change) (base next fresh : ℕ) (own other : Cont) (base_up : fre
     where
       by_cell : (o : Option Cell) → slice_get other.cells k ≡ o → (elim o as (λ _. Cell) [ None ↦ blank (next + p) | Some x ↦ x ]).stamp ≡ s → Came s
       by_cell None e h = absurd (omega arith)
-      by_cell (Some x) e h = inr (k, cell-stamp other k x e ∙ ap (λ (n : ℕ). Some n) h)
+      by_cell (Some x) e h = inr (k, stamp_there other k x e ∙ ap (λ (n : ℕ). Some n) h)
 
   -- the stamp of each element
   source_came : (p : ℕ) (x : Source) (s : ℕ) → (from_source ch base own other (blank (next + p)) x).stamp ≡ s → s < fresh → Came s
@@ -146,7 +147,7 @@ module _ (ch : Change) (base next fresh : ℕ) (own other : Cont) (base_up : fre
           let y = stamp-cell (rebuilt base next ch own other) k s at within in
           let x = sources-got ch base own other next ch.sources k y.0 y.1 in
           source_came k x.0 s (ap (λ (z : Cell). z.stamp) x.2 ∙ y.2) low
-      by_place (inr e) = inl (size own, end-stamp own ∙ ap (λ (n : ℕ). Some n) (used_mark (size own) own.end s e.1 low))
+      by_place (inr e) = inl (size own, stamp_of_end own ∙ ap (λ (n : ℕ). Some n) (used_mark (size own) own.end s e.1 low))
 
 -- where both are of one form, it stood in a container of that form
 rebuilt-held : (m : Memory) (ch : Change) (base next : ℕ) (own other : Cont) → m.fresh ≤ base → m.fresh ≤ next → own.form ≡ other.form
