@@ -5,6 +5,7 @@ use Rattle.std.proofs.Common.{arith, ◌⊎◌, inl, inr, ℤ, refl}
 use Rattle.std.specs.List.{slice_get}
 use Rattle.std.proofs.lemmas.Bool.{cases_lt}
 use Rattle.std.proofs.lemmas.Bool.Decides.{nat_tests}
+use Rattle.std.proofs.lemmas.List.{length-map}
 use Rattle.sl_base.specs.declared.limits.TheConstants.{ELEMENTS}
 use Rattle.sl_specs.specs.declared.class.Class.{Class}
 use Rattle.sl_model.specs.Classes.{Edit, Fits, kills}
@@ -18,7 +19,6 @@ use Rattle.sl_model.proofs.WithEnd.{with_end, in_with_end, end_of_these}
 use Rattle.sl_model.proofs.After.{get-after-own, get-after-other, cont_at-after-own, size-changed, change-sound}
 use Rattle.sl_model.proofs.Places.{counts-fair}
 use Rattle.sl_model.proofs.FairChanges.{BuriesGone, edit-fair, edit-length, length_olds}
-use Rattle.sl_model.proofs.Counts.{length-map}
 use Rattle.sl_model.proofs.Located.{stamp-alive}
 use Rattle.sl_model.proofs.Moved.{in_cont}
 
@@ -50,7 +50,7 @@ edit_keeps class c e k fits within (inr above) =
     let B = news e.come in
     let C = olds (e.from + e.gone) (size c - (e.from + e.gone)) in
     let la : length A ≡ e.from = length_olds 0 e.from in
-    let lb : length B ≡ length e.come = length-map (λ (x : ℤ × ℤ). new x.0 x.1) e.come in
+    let lb : length B ≡ length e.come = length-map e.come (λ (x : ℤ × ℤ). new x.0 x.1) in
     let n : e.from + e.gone ≤ size c = fits in
     let at = k - (e.from + e.gone) in
     let s : shifted e k + e.gone ≡ k + length e.come = shifted_behind e k above in

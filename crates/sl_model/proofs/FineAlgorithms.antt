@@ -5,7 +5,7 @@ use Rattle.std.proofs.Common.{length, map, refl, ap, sym, ◌∙◌, subst, arit
 use Rattle.std.specs.Prelude.{ℤ, pos, nat_lt, take, drop, replicate, reverse}
 use Rattle.std.specs.List.{slice_get}
 use Rattle.std.proofs.lemmas.Bool.{ltb-false}
-use Rattle.std.proofs.lemmas.List.{length-reverse, length-replicate}
+use Rattle.std.proofs.lemmas.List.{length-reverse, length-replicate, length-map}
 use Rattle.std.proofs.lemmas.Option.{slice_get-get_or}
 use Rattle.sl_base.specs.declared.failures.TheConstants.{NO_ROOM, NOT_SORTED}
 use Rattle.sl_base.specs.declared.form.Form.TheVariants as f
@@ -36,7 +36,7 @@ use Rattle.sl_model.specs.Good.{IsSound}
 use Rattle.sl_model.proofs.After.{cont_of_there}
 use Rattle.sl_model.proofs.Called.{HasObject}
 use Rattle.sl_model.proofs.Placing.{HasPlace, how_many-low}
-use Rattle.sl_model.proofs.Counts.{length-map, length-sorted}
+use Rattle.sl_model.proofs.Counts.{length-sorted}
 use Rattle.sl_model.proofs.FairChanges.{overwrites-fair}
 use Rattle.sl_model.proofs.FineEffects.{IsThere, IsFine}
 use Rattle.sl_model.proofs.FineRows.{RowIsFine, no_fails, not_too_many}
@@ -67,8 +67,8 @@ over_range s picks xs sound there r low = written_over s picks s.object (index s
 
 -- numbers in order are as many
 sorted-length : (xs : List ℤ) → length (sorted xs) ≡ length xs
-sorted-length xs = length-map (λ (x : ℤ × ℕ). x.0) (sorted_entries (map (λ x. (x, 0)) xs))
-    ∙ (length-sorted (map (λ x. (x, 0)) xs) ∙ length-map (λ x. (x, 0)) xs)
+sorted-length xs = length-map (sorted_entries (map (λ x. (x, 0)) xs)) (λ (x : ℤ × ℕ). x.0)
+    ∙ (length-sorted (map (λ x. (x, 0)) xs) ∙ length-map xs (λ x. (x, 0)))
 
 -- the first of each group are no more
 firsts_after-low : (before : ℤ) (xs : List ℤ) → length (firsts_after before xs) ≤ length xs
@@ -98,7 +98,7 @@ shortened-low : (kept : List ℤ) (n : ℕ) (picks : List ℕ) → length kept �
     → length (kept ++ map (λ p. pos p) (picked (n - length kept) picks)) ≤ n
 shortened-low kept n picks low =
     let a = length-append kept (map (λ p. pos p) (picked (n - length kept) picks)) in
-    let b = length-map (λ p. pos p) (picked (n - length kept) picks) in
+    let b = length-map (picked (n - length kept) picks) (λ p. pos p) in
     let d = picked-length (n - length kept) picks in
     omega arith
 

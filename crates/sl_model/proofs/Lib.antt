@@ -40,6 +40,7 @@ pub mod OutputsTell
 pub mod AlgorithmRowsTell
 -- ## Each row is fine: its effect leaves a sound memory sound, and no mark vanishes
 pub mod FineRows
+pub mod OperandForms
 pub mod FineContainers
 pub mod TableRows
 pub mod FineAlgorithms

@@ -14,10 +14,10 @@ use Rattle.sl_model.specs.Containers.{Cell, Cont, Memory, cont_at, keys, items}
 use Rattle.sl_model.specs.Forms.{is_keyed}
 use Rattle.sl_model.specs.Numbers.{converted, fits}
 use Rattle.sl_model.specs.Needs.{first_failure}
-use Rattle.sl_model.specs.Operands.{Sort, an_iterator, a_writer, a_container, is_of_form, is_of, are_of, is_sequence, stands_in_sequence}
+use Rattle.sl_model.specs.Operands.{Sort, a_writer, is_of, are_of, is_sequence, stands_in_sequence}
 use Rattle.sl_model.specs.Orderly.{may_precede, Each, AreInOrder, HoldsInts, IsOrderlyCont, IsOrderly}
 use Rattle.sl_model.specs.Schedule.{scattered, after_picks}
-use Rattle.sl_model.specs.Situation.{Situation, argument, place_in, place_of, container_of, container_of_value, their, index, number_in}
+use Rattle.sl_model.specs.Situation.{Situation, argument, place_in, place_of, container_of, their, index, number_in}
 use Rattle.sl_model.specs.Situation.{item, as_items, listed, range_keys}
 use Rattle.sl_model.specs.Values.{Value, nothing, number, iterator, pair, two, scalar_at, container_at, element_at}
 use Rattle.sl_model.specs.Actions.{never}
@@ -27,8 +27,7 @@ use Rattle.sl_model.specs.Library.{form_of}
 use Rattle.sl_model.proofs.After.{cont_of_there}
 use Rattle.sl_model.proofs.AlgorithmsTell.{container_there}
 use Rattle.sl_model.proofs.AsInts.{converted-fits, converted-same}
-use Rattle.sl_model.proofs.Called.{IsCalled, one_form, own_form, own_there}
-use Rattle.sl_model.proofs.FineEffects.{IsThere}
+use Rattle.sl_model.proofs.Called.{IsCalled, one_form}
 use Rattle.sl_model.proofs.KeysAfter.{any_order, hash-turns}
 use Rattle.sl_model.proofs.OrderlyEffects.{HasIntKey, IsTidy}
 use Rattle.sl_model.proofs.Pairs.{each-map, each-weaker, each-take, each-drop, pairs-map, pairs-mapped, pairs-scattered}
@@ -150,39 +149,6 @@ copied-order f.MultiSet c picks h e = copy-order f.MultiSet c h e
 copied-order f.MultiMap c picks h e = copy-order f.MultiMap c h e
 
 -- ## Operands
-
--- the first operand is a container of a form
-pub first_of_form : (m : Memory) (form : Form) (sorts : List Sort) (vs : List Value) → are_of m (a_container form ∷ sorts) vs ≡ true
-    → is_of_form form (slice_get m.conts (container_of_value m (slice_index_or vs 0 nothing))) ≡ true
-first_of_form m form sorts [] h = absurd (cc)
-first_of_form m form sorts (v ∷ vs) h = by_value v (first_of_both (is_of m (a_container form) v) (are_of m sorts vs) h)
-  where
-    by_value : (v : Value) → is_of m (a_container form) v ≡ true → is_of_form form (slice_get m.conts (container_of_value m v)) ≡ true
-    by_value nothing h = absurd (cc)
-    by_value (number z) h = absurd (cc)
-    by_value (iterator x) h = absurd (cc)
-    by_value (pair x b) h = absurd (cc)
-    by_value (two x y) h = absurd (cc)
-    by_value (scalar_at l) h = absurd (cc)
-    by_value (container_at j) h = h
-    by_value (element_at i k p) h = absurd (cc)
-
--- the second operand behind an iterator is one
-pub second_of_form : (m : Memory) (form : Form) (sorts : List Sort) (vs : List Value)
-    → are_of m (an_iterator ∷ a_container form ∷ sorts) vs ≡ true
-    → is_of_form form (slice_get m.conts (container_of_value m (slice_index_or vs 1 nothing))) ≡ true
-second_of_form m form sorts [] h = absurd (cc)
-second_of_form m form sorts (v ∷ []) h = absurd (let q = second_of_both (is_of m an_iterator v) (are_of m (a_container form ∷ sorts) []) h in cc)
-second_of_form m form sorts (v ∷ w ∷ vs) h =
-    first_of_form m form sorts (w ∷ vs) (second_of_both (is_of m an_iterator v) (are_of m (a_container form ∷ sorts) (w ∷ vs)) h)
-
--- the form of a container of a form
-pub form_there : (m : Memory) (form : Form) (j : ℕ) → is_of_form form (slice_get m.conts j) ≡ true → (cont_at m j).form ≡ form
-form_there m form j h = own_form form (record { memory = m; object = j; values = []; picks = []; site = 0 }) h
-
--- it is there
-pub cont_there : (m : Memory) (form : Form) (j : ℕ) → is_of_form form (slice_get m.conts j) ≡ true → IsThere m j
-cont_there m form j h = own_there form (record { memory = m; object = j; values = []; picks = []; site = 0 }) h
 
 -- a container that is a sequence has no keys
 pub sequence-free : (m : Memory) (j : ℕ) → is_sequence (slice_get m.conts j) ≡ true → is_keyed (cont_at m j).form ≡ false
