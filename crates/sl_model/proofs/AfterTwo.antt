@@ -7,7 +7,7 @@ use Rattle.sl_base.specs.declared.limits.TheConstants.{ELEMENTS}
 use Rattle.sl_model.specs.Containers.{Cont, Memory, size, stamps, refers}
 use Rattle.sl_model.specs.Edits.{Source, old, written, theirs, new, Change, rebuilt, next_of_two, after_two}
 use Rattle.sl_model.specs.Good.{AreKeptApart, IsSound, NoneVanishFrom, NoneVanishes}
-use Rattle.sl_model.proofs.Getting.{get_set_same, get_set_other, get_within, get_map, map_set}
+use Rattle.sl_model.proofs.Getting.{get_set_other, get_within, get_map, map_set}
 use Rattle.sl_model.proofs.Apart.{list_distinct, list_below, lists_have_none}
 use Rattle.sl_model.proofs.Columns.{TakesTheirs, AllInside, marks_from, rebuilt-stamps, rebuilt-refers, rebuilt-size, stamps-length}
 use Rattle.sl_model.proofs.Columns.{refers-length, IsInside}
@@ -16,6 +16,7 @@ use Rattle.sl_model.proofs.TwoChanges.{AllGo, IsTrade, two-apart, two-none}
 use Rattle.sl_model.proofs.WithEnd.{with_end, of_with_end, in_with_end, with_end-inside, with_end-once, new_within, still_taken, end_taken, end_takes}
 use Rattle.sl_model.proofs.WithEnd.{end_takes_none, inside_at}
 use Rattle.sl_model.proofs.After.{Leaves}
+use Rattle.sl_model.proofs.Moved.{first-there, second-there}
 
 -- What one of two changes that exchange elements has to be: its sources are places of the two, none taken twice; what it takes over isn't
 -- invalidated by the other change; each element stays, goes over, or its marks are dropped; and there are not too many.
@@ -198,16 +199,6 @@ module _ (ch dh : Change) (m : Memory) (j i : ℕ) (c d : Cont) (site : ℕ) (so
       (marks_from ch.lose m.fresh (refers c) (refers d) next ch.sources)) i l)
       (rebuilt-refers dh base' d c next' fair'.inside)))
 
-  -- the first of the two afterwards
-  pub get-first : slice_get (after_two ch dh m j c i d site).conts j ≡ Some first
-  get-first = get_set_other (slice_set m.conts j first) i j second (λ e. differ (sym e))
-      ∙ get_set_same m.conts j first (get_within m.conts j c there)
-
-  -- the second
-  pub get-second : slice_get (after_two ch dh m j c i d site).conts i ≡ Some second
-  get-second = get_set_same (slice_set m.conts j first) i second
-      (get_within (slice_set m.conts j first) i d (get_set_other m.conts j i first differ ∙ there'))
-
   -- each other container stays
   pub get-third : (n : ℕ) → j ≢ n → i ≢ n → slice_get (after_two ch dh m j c i d site).conts n ≡ slice_get m.conts n
   get-third n a b = get_set_other (slice_set m.conts j first) i n second b ∙ get_set_other m.conts j n first a
@@ -216,10 +207,10 @@ module _ (ch dh : Change) (m : Memory) (j i : ℕ) (c d : Cont) (site : ℕ) (so
   small_after : (n : ℕ) (e : Cont) → slice_get (after_two ch dh m j c i d site).conts n ≡ Some e → size e ≤ ELEMENTS
   small_after n e h = ⊎_elim
       (λ (p : j ≡ n). of_size first (rebuilt-size ch m.fresh c d next) fair.few
-      (sym get-first ∙ (ap (slice_get (after_two ch dh m j c i d site).conts) p ∙ h)))
+      (sym (first-there ch dh m j i c d site differ there there') ∙ (ap (slice_get (after_two ch dh m j c i d site).conts) p ∙ h)))
       (λ (a : j ≢ n). ⊎_elim
       (λ (p : i ≡ n). of_size second (rebuilt-size dh base' d c next') fair'.few
-      (sym get-second ∙ (ap (slice_get (after_two ch dh m j c i d site).conts) p ∙ h)))
+      (sym (second-there ch dh m j i c d site differ there there') ∙ (ap (slice_get (after_two ch dh m j c i d site).conts) p ∙ h)))
       (λ (b : i ≢ n). sound.small n e (sym (get-third n a b) ∙ h))
       (cases_eq i n))
       (cases_eq j n)

@@ -1,6 +1,6 @@
 -- Retained elements, new keys and exchanges between two containers are fair.
-use Rattle.std.proofs.Common.{◌≡◌, ℕ, zero, suc, ◌+◌, ◌-◌, ◌<◌, ◌≤◌, ◌==◌, ◌&&◌, Bool, true, false, not, List, [], ◌∷◌, ◌++◌, length, map, take, drop}
-use Rattle.std.proofs.Common.{refl, ap, sym, ◌∙◌, arith, inr, ℤ, if◌then◌else◌, length-append}
+use Rattle.std.proofs.Common.{◌≡◌, ℕ, suc, ◌+◌, ◌-◌, ◌<◌, ◌≤◌, ◌==◌, ◌&&◌, Bool, true, false, not, List, [], ◌∷◌, ◌++◌, length, map, take, drop}
+use Rattle.std.proofs.Common.{refl, ap, sym, ◌∙◌, arith, inr, ℤ, if◌then◌else◌, length-append, take-append-drop}
 use Rattle.std.proofs.lemmas.Bool.Decides.{nat_tests}
 use Rattle.std.proofs.lemmas.List.{length-map}
 use Rattle.sl_base.specs.declared.limits.TheConstants.{ELEMENTS}
@@ -91,20 +91,10 @@ retained-fair c order picked few = record {
 
 -- sources cut in two
 own_cut : (k n : ℕ) (xs : List Source) → times k (own_places (take n xs)) + times k (own_places (drop n xs)) ≡ times k (own_places xs)
-own_cut k n xs = sym (own-append k (take n xs) (drop n xs)) ∙ ap (λ l. times k (own_places l)) (take_drop n xs)
-  where
-    take_drop : (n : ℕ) (xs : List Source) → take n xs ++ drop n xs ≡ xs
-    take_drop zero xs = refl
-    take_drop (suc n) [] = refl
-    take_drop (suc n) (x ∷ xs) = ap (λ l. x ∷ l) (take_drop n xs)
+own_cut k n xs = sym (own-append k (take n xs) (drop n xs)) ∙ ap (λ l. times k (own_places l)) (take-append-drop n xs)
 
 their_cut : (k n : ℕ) (xs : List Source) → times k (their_places (take n xs)) + times k (their_places (drop n xs)) ≡ times k (their_places xs)
-their_cut k n xs = sym (their-append k (take n xs) (drop n xs)) ∙ ap (λ l. times k (their_places l)) (take_drop n xs)
-  where
-    take_drop : (n : ℕ) (xs : List Source) → take n xs ++ drop n xs ≡ xs
-    take_drop zero xs = refl
-    take_drop (suc n) [] = refl
-    take_drop (suc n) (x ∷ xs) = ap (λ l. x ∷ l) (take_drop n xs)
+their_cut k n xs = sym (their-append k (take n xs) (drop n xs)) ∙ ap (λ l. times k (their_places l)) (take-append-drop n xs)
 
 -- a new element put in takes no place
 own_put : (k i : ℕ) (a b : ℤ) (xs : List Source) → times k (own_places (put_at i (new a b) xs)) ≡ times k (own_places xs)

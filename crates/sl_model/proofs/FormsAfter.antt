@@ -11,7 +11,7 @@ use Rattle.sl_model.specs.Containers.{Cell, Cont, Memory, size, stamps, cont_at,
 use Rattle.sl_model.specs.Containers.{end_from}
 use Rattle.sl_model.specs.Edits.{Source, old, written, theirs, new, Change, mark_after, stayed, from_source, rebuilt, changed, next_of_two, after}
 use Rattle.sl_model.specs.Edits.{after_two}
-use Rattle.sl_model.proofs.After.{cont_of_there}
+use Rattle.sl_model.proofs.After.{cont_of_there, cont_of_none}
 use Rattle.sl_model.proofs.Ending.{map_take}
 use Rattle.sl_model.proofs.Fitting.{forms_of, StampFits, KeepsForms}
 use Rattle.sl_model.proofs.Getting.{get_left, get_take, map_set}
@@ -58,18 +58,13 @@ held-at m j k stamp low at = by_cont (slice_get m.conts j) refl
     missing : Cont
     missing = record { form = f.Vector; cells = []; end = m.fresh; room = 0 }
 
-    not_there : (xs : List Cont) (i : ℕ) (d : Cont) → slice_get xs i ≡ None → slice_index_or xs i d ≡ d
-    not_there [] i d h = refl
-    not_there (x ∷ xs) zero d h = absurd (cc)
-    not_there (x ∷ xs) (suc i) d h = not_there xs i d h
-
     end_alone : (i : ℕ) → slice_get (m.fresh ∷ []) i ≡ Some stamp → m.fresh ≡ stamp
     end_alone zero h = cc
     end_alone (suc i) h = absurd (cc)
 
     by_cont : (o : Option Cont) → slice_get m.conts j ≡ o → Stood m (cont_at m j).form stamp
     by_cont None e =
-        let q : cont_at m j ≡ missing = not_there m.conts j missing e in
+        let q : cont_at m j ≡ missing = cont_of_none m j e in
         let h : slice_get (stamps missing) k ≡ Some stamp = subst (λ (d : Cont). slice_get (stamps d) k ≡ Some stamp) q at in
         let r : m.fresh ≡ stamp = end_alone k h in
         absurd (omega arith)

@@ -24,7 +24,7 @@ use Rattle.sl_model.specs.Actions.{never}
 use Rattle.sl_model.specs.MakeActions.{filled, copy_items}
 use Rattle.sl_model.specs.Rows.{Row, member_row}
 use Rattle.sl_model.specs.Library.{form_of}
-use Rattle.sl_model.proofs.After.{cont_of_there}
+use Rattle.sl_model.proofs.After.{cont_of_there, cont_of_none}
 use Rattle.sl_model.proofs.AlgorithmsTell.{container_there}
 use Rattle.sl_model.proofs.AsInts.{converted-fits, converted-same}
 use Rattle.sl_model.proofs.Called.{IsCalled, one_form}
@@ -71,16 +71,8 @@ free_form form class (x ∷ xs) e h =
 pub any_ints : (m : Memory) (j : ℕ) → IsOrderly m → Each HoldsInts (cont_at m j).cells
 any_ints m j orderly = by_cont (slice_get m.conts j) refl
   where
-    missing : Cont
-    missing = record { form = f.Vector; cells = []; end = m.fresh; room = 0 }
-
-    not_there : (xs : List Cont) (j : ℕ) (d : Cont) → slice_get xs j ≡ None → slice_index_or xs j d ≡ d
-    not_there [] j d h = refl
-    not_there (x ∷ xs) zero d h = absurd (cc)
-    not_there (x ∷ xs) (suc j) d h = not_there xs j d h
-
     by_cont : (o : Option Cont) → slice_get m.conts j ≡ o → Each HoldsInts (cont_at m j).cells
-    by_cont None e = subst (λ (c : Cont). Each HoldsInts c.cells) (sym (not_there m.conts j missing e)) tt
+    by_cont None e = subst (λ (c : Cont). Each HoldsInts c.cells) (sym (cont_of_none m j e)) tt
     by_cont (Some c) e = subst (λ (d : Cont). Each HoldsInts d.cells) (sym (cont_of_there m j c e)) (orderly j c e).ints
 
 -- the keys of a range
