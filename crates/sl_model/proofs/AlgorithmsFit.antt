@@ -1,8 +1,6 @@
 -- What an algorithm gives is of the type of its result: that of its first operand, or of its output.
-use Rattle.std.proofs.Common.{◌≡◌, ℕ, Bool, true, false, List, [], ◌∷◌, Some, None, refl, ap, sym, ◌∙◌, subst, option_map, length}
-use Rattle.std.proofs.Common.{if◌then◌else◌}
+use Rattle.std.proofs.Common.{◌≡◌, ℕ, true, false, List, [], ◌∷◌, Some, None, refl, ap, ◌∙◌, subst, option_map, length}
 use Rattle.std.specs.Prelude.{slice_get}
-use Rattle.std.specs.List.{list_all}
 use Rattle.sl_specs.specs.declared.letter.Letter.{Letter}
 use Rattle.sl_base.specs.declared.form.Form.{Form}
 use Rattle.sl_base.specs.declared.form.Form.TheVariants as f
@@ -12,7 +10,6 @@ use Rattle.sl_specs.specs.declared.need.Need.TheVariants as n
 use Rattle.sl_specs.specs.declared.return_type.ReturnType.{ReturnType}
 use Rattle.sl_specs.specs.declared.return_type.ReturnType.TheVariants as returns
 use Rattle.sl_specs.specs.declared.class.Class.{Class}
-use Rattle.sl_specs.specs.Forms.{same_object}
 use Rattle.sl_specs.specs.Rows.{Row as TableRow, Line, row_of as row_of_line, rows_on}
 use Rattle.sl_specs.specs.ContainerLines.{container_lines}
 use Rattle.sl_specs.specs.MultiLines.{multi_lines}
@@ -32,14 +29,14 @@ use Rattle.sl_model.specs.WellTypedCalls.{fits, first_type, last_type, result_ty
 use Rattle.sl_model.proofs.Placing.{IsPlaced}
 use Rattle.sl_model.proofs.Tells.{AllOf, all_at, all_rows_on, shape_of_answer, memory_after, Tells}
 use Rattle.sl_model.proofs.TableRows.{all_table}
-use Rattle.sl_model.proofs.Passing.{first_of_both, passes_at, three_parts}
+use Rattle.sl_model.proofs.Passing.{first_of_both, three_parts}
 use Rattle.sl_model.proofs.LibraryGood.{row-tells}
 use Rattle.sl_model.proofs.Fitting.{KeepsForms, AllFit, IsGiven}
 use Rattle.sl_model.proofs.GivenIn.{is_output, OperandStands, operand_given, GivesIn}
 use Rattle.sl_model.proofs.LibraryGives.{numbered-gives-in}
-use Rattle.sl_model.proofs.TypedRows.{no_object, meaning_alone}
+use Rattle.sl_model.proofs.TypedRows.{meaning_alone}
 use Rattle.sl_model.proofs.AnswersFit.{IsCarriedOut, RowGives, number_given, operand_type_given, operand_fits}
-use Rattle.sl_model.proofs.ScopedRows.{right_result, right_call, right_move, found_right, first_is_iterator, last_is_iterator}
+use Rattle.sl_model.proofs.ScopedRows.{right_result, right_call, right_move, found_right, first_is_iterator, last_is_iterator, advance_alone}
 
 -- ## Each algorithm
 
@@ -99,10 +96,10 @@ operand_typed returns.FirstArgument letters us right e = first_is_iterator f.Vec
 operand_typed returns.Output letters us right e = last_is_iterator f.Vector letters us e right
 operand_typed gives letters us right e = tt
 
--- so it is with the row with a number
-row_typed : (n : ℕ) (r : TableRow) (us : List ExprType) → slice_get table n ≡ Some r → fits f.Vector r.letters us ≡ true → IsTyped r.gives us
-row_typed n r us there e = operand_typed r.gives r.letters us
-    (three_parts (right_result r.gives r.letters) (right_call r.form r.call) (right_move r) (found_right n (Some r) there)).0 e
+-- the row with a number is right in its result, its call and what it moves
+right_parts : (n : ℕ) (r : TableRow) → slice_get table n ≡ Some r
+    → (right_result r.gives r.letters ≡ true) × (right_call r.form r.call ≡ true) × (right_move r ≡ true)
+right_parts n r there = three_parts (right_result r.gives r.letters) (right_call r.form r.call) (right_move r) (found_right n (Some r) there)
 
 -- what an algorithm gives, by what it is
 algorithm_by : (gives : ReturnType) (t : Memory) (us : List ExprType) (s : Situation) (answer : Answer) (shape : Shape)
@@ -134,26 +131,15 @@ algorithm-given n r us s there e typed has fit done =
     let object : (meaning_of false r).object ≡ of_first = ap (λ (q : Row). q.object) meant in
     let shape : (meaning_of false r).shape ≡ algorithm_shape false r.call r.gives = ap (λ (q : Row). q.shape) meant in
     algorithm_by r.gives (memory_after (meaning_of false r) s) us s ((meaning_of false r).action.answer s) (algorithm_shape false r.call r.gives)
-    (told.shaped ∙ shape) is.0 (row_typed n r us there typed) has fit
+    (told.shaped ∙ shape) is.0 (operand_typed r.gives r.letters us (right_parts n r there).0 typed) has fit
     (subst (λ (o : Object). OperandStands o s (operand_given (is_output r.gives) s) ((meaning_of false r).action.answer s)) object gives.stood)
     told.placed done.kept done.sound
 
 -- ## `advance`
 
--- a row that moves its iterator is an algorithm's
-abbrev moves_alone : TableRow → Bool
-moves_alone r = if is_advance r then same_object r.form None else true
-
-advances_alone : list_all moves_alone table ≡ true
-unfolding table
-advances_alone = refl
-
--- it is that of `advance`
+-- a row that moves its iterator is that of `advance`
 pub advancing_row : (n : ℕ) (r : TableRow) → slice_get table n ≡ Some r → is_advance r ≡ true → r ≡ advance_row
-advancing_row n r there moves =
-    let alone : same_object r.form None ≡ true =
-    ap (λ (b : Bool). if b then same_object r.form None else true) (sym moves) ∙ passes_at moves_alone table n r advances_alone there in
-    (algorithm_numbered n r there (no_object r.form alone)).1 moves
+advancing_row n r there moves = (algorithm_numbered n r there (advance_alone r.form r.call (right_parts n r there).1 moves)).1 moves
 
 -- its first operand is an iterator
 pub advance-begins : (us : List ExprType) → fits f.Vector advance_row.letters us ≡ true → is_iterator (first_type us) ≡ true

@@ -7,10 +7,8 @@ use Rattle.std.proofs.lemmas.Bool.{not-true}
 use Rattle.sl_base.specs.declared.form.Form.{Form}
 use Rattle.sl_base.specs.declared.form.Form.TheVariants as f
 use Rattle.sl_base.specs.declared.scalar.Scalar.TheVariants as t
-use Rattle.sl_specs.specs.declared.call.Call.TheVariants as c
 use Rattle.sl_specs.specs.Forms.{same_object}
 use Rattle.sl_specs.specs.Rows.{Row}
-use Rattle.sl_specs.specs.Table.{same_call}
 use Rattle.sl_syntax.specs.declared.operator.Access.{Access}
 use Rattle.sl_syntax.specs.declared.typed.callee.Callee.{Callee}
 use Rattle.sl_syntax.specs.declared.typed.callee.Callee.TheVariants as callees
@@ -32,7 +30,7 @@ use Rattle.sl_model.specs.WellTypedStatements.{is_making}
 use Rattle.sl_model.proofs.Passing.{first_of_both, second_of_both, three_parts}
 use Rattle.sl_model.proofs.TypedOperands.{only_holds, only_rest}
 use Rattle.sl_model.proofs.ScopedRows.{IsShaped, right_result, right_call, right_move, is_right, right_found, row_right, result_shaped, only_shaped}
-use Rattle.sl_model.proofs.ScopedRows.{algorithm_still, algorithm_moves}
+use Rattle.sl_model.proofs.ScopedRows.{algorithm_still, algorithm_moves, advance_alone}
 use Rattle.sl_model.proofs.ScopedRows.{nothing_shaped, advance_gives_nothing}
 use Rattle.sl_model.proofs.TypedRows.{no_object, one_object, meaning_on, meaning_alone, row_object}
 
@@ -141,8 +139,8 @@ call_still g (callees.Hidden o) object us still h = absurd cc
 -- a row that moves its iterator gives one
 row_moves : (row : Row) (o : Option Form) → row.form ≡ o → right_call o row.call ≡ true → is_advance row ≡ true
     → (meaning_of false row).shape ≡ a_stamp
-row_moves row None e right moves = ap (λ (m : Meaning). m.shape) (meaning_alone false row e) ∙ algorithm_moves row.call row.gives moves
-row_moves row (Some form) e right moves = absurd (let still = not-true (same_call c.Advance row.call) right in cc)
+row_moves row o e right moves =
+    ap (λ (m : Meaning). m.shape) (meaning_alone false row (e ∙ advance_alone o row.call right moves)) ∙ algorithm_moves row.call row.gives moves
 
 -- so does one that is found
 found_moves : (found : Option Row) → right_found found ≡ true → is_moving_row found ≡ true

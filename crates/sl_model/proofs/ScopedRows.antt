@@ -3,6 +3,7 @@ use Rattle.std.proofs.Common.{◌≡◌, ℕ, Bool, true, false, not, ◌&&◌, 
 use Rattle.std.proofs.Common.{refl}
 use Rattle.std.specs.Prelude.{slice_get}
 use Rattle.std.specs.List.{list_all}
+use Rattle.std.proofs.lemmas.Bool.{not-true}
 use Rattle.sl_base.specs.declared.form.Form.{Form}
 use Rattle.sl_specs.specs.declared.call.Call.{Call}
 use Rattle.sl_specs.specs.declared.call.Call.TheVariants as c
@@ -183,6 +184,11 @@ algorithm_still call gives h = refl
 pub algorithm_moves : (call : Call) (gives : ReturnType) → same_call c.Advance call ≡ true → algorithm_shape false call gives ≡ a_stamp
 algorithm_moves c.Advance gives h = refl
 algorithm_moves call gives h = absurd cc
+
+-- a right row that moves its iterator has no form
+pub advance_alone : (o : Option Form) (call : Call) → right_call o call ≡ true → same_call c.Advance call ≡ true → o ≡ None
+advance_alone None call right moves = refl
+advance_alone (Some form) call right moves = absurd (let still = not-true (same_call c.Advance call) right in cc)
 
 -- what gives nothing may have any shape
 pub nothing_shaped : (gives : ReturnType) (b : Bool) (x : Form) (us : List ExprType) (shape : Shape) → gives_nothing gives ≡ true
