@@ -65,7 +65,67 @@ AlgorithmIs r = ShapeOf r.gives (algorithm_shape false r.call r.gives) × (is_ad
 
 -- so it is with each algorithm
 each_algorithm : AllOf AlgorithmIs algorithm_rows
-each_algorithm = ((refl, λ e. absurd (cc)), ((refl, λ e. absurd (cc)), ((tt, λ e. absurd (cc)), ((refl, λ e. absurd (cc)), ((refl, λ e. absurd (cc)), ((refl, λ e. absurd (cc)), ((refl, λ e. absurd (cc)), ((refl, λ e. absurd (cc)), ((refl, λ e. absurd (cc)), ((refl, λ e. absurd (cc)), ((refl, λ e. absurd (cc)), ((refl, λ e. absurd (cc)), ((tt, λ e. absurd (cc)), ((tt, λ e. absurd (cc)), ((refl, λ e. absurd (cc)), ((refl, λ e. absurd (cc)), ((refl, λ e. absurd (cc)), ((refl, λ e. absurd (cc)), ((tt, λ e. refl), ((refl, λ e. absurd (cc)), ((refl, λ e. absurd (cc)), ((refl, λ e. absurd (cc)), ((refl, λ e. absurd (cc)), ((tt, λ e. absurd (cc)), tt))))))))))))))))))))))))
+each_algorithm = (
+  (refl, λ e. absurd (cc)),
+  (
+    (refl, λ e. absurd (cc)),
+    (
+      (tt, λ e. absurd (cc)),
+      (
+        (refl, λ e. absurd (cc)),
+        (
+          (refl, λ e. absurd (cc)),
+          (
+            (refl, λ e. absurd (cc)),
+            (
+              (refl, λ e. absurd (cc)),
+              (
+                (refl, λ e. absurd (cc)),
+                (
+                  (refl, λ e. absurd (cc)),
+                  (
+                    (refl, λ e. absurd (cc)),
+                    (
+                      (refl, λ e. absurd (cc)),
+                      (
+                        (refl, λ e. absurd (cc)),
+                        (
+                          (tt, λ e. absurd (cc)),
+                          (
+                            (tt, λ e. absurd (cc)),
+                            (
+                              (refl, λ e. absurd (cc)),
+                              (
+                                (refl, λ e. absurd (cc)),
+                                (
+                                  (refl, λ e. absurd (cc)),
+                                  (
+                                    (refl, λ e. absurd (cc)),
+                                    (
+                                      (tt, λ e. refl),
+                                      (
+                                        (refl, λ e. absurd (cc)),
+                                        ((refl, λ e. absurd (cc)), ((refl, λ e. absurd (cc)), ((refl, λ e. absurd (cc)), ((tt, λ e. absurd (cc)), tt)))),
+                                      ),
+                                    ),
+                                  ),
+                                ),
+                              ),
+                            ),
+                          ),
+                        ),
+                      ),
+                    ),
+                  ),
+                ),
+              ),
+            ),
+          ),
+        ),
+      ),
+    ),
+  ),
+)
 
 -- and with each row of the table that has no form
 abbrev FormlessIs : TableRow → Type 0

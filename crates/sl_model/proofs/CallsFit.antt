@@ -118,7 +118,8 @@ moving-given g (callees.Row n) object us r s e moves has fit done = by_row (slic
         let same : r ≡ meaning_of false x = cc in
         subst (λ (y : Row). IsCarriedOut [] y s → RowGives y s (first_type us)) (sym same)
         (subst (λ (y : TableRow). slice_get table n ≡ Some y → has_type (row_type g (Some y) object us) ≡ true
-        → IsCarriedOut [] (meaning_of false y) s → RowGives (meaning_of false y) s (first_type us)) (sym (advancing_row n x there m)) advances there h)
+        → IsCarriedOut [] (meaning_of false y) s → RowGives (meaning_of false y) s (first_type us)) (sym (advancing_row n x there m)) advances there
+        h)
         done
 moving-given g (callees.Appends n) object us r s e moves has fit done = absurd (cc)
 moving-given g (callees.Operator o) object us r s e moves has fit done =

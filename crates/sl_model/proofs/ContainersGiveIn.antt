@@ -73,7 +73,8 @@ key_element : (class : Class) (s : Situation) (x : ℤ × ℤ) (picks : List ℕ
 key_element class s x picks low = by_known (known_key (own s) x.0) refl
   where
     behind : HasPlace (after (key_change class (own s) x picks) s.memory s.object (own s) s.site) s.object (key_place (own s) x.0 picks + 1)
-    behind = after-place (key_change class (own s) x picks) s.memory s.object (own s) s.site (key_place (own s) x.0 picks + 1) low (key_sources class s x picks)
+    behind = after-place (key_change class (own s) x picks) s.memory s.object (own s) s.site (key_place (own s) x.0 picks + 1) low
+        (key_sources class s x picks)
 
     before : (k n : ℕ) → k + 1 ≤ n → k < n
     before k n h = omega arith

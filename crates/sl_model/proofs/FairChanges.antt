@@ -165,7 +165,9 @@ rehashed-fair c n picks few = record {
   alone = λ k. order_alone k (scattered (after_picks 1 picks) (numbers 0 (size c)));
   dies = λ k low z. let o = order_own k (scattered (after_picks 1 picks) (numbers 0 (size c))) in let t = same k in let y = times-numbers k 0 (size c) (omega arith) (omega arith) in absurd (omega arith);
   few =
-      let l : length (map (λ k. old k) (scattered (after_picks 1 picks) (numbers 0 (size c)))) ≡ length (scattered (after_picks 1 picks) (numbers 0 (size c))) = length-map (scattered (after_picks 1 picks) (numbers 0 (size c))) (λ k. old k) in
+      let l : length (map (λ k. old k) (scattered (after_picks 1 picks) (numbers 0 (size c))))
+      ≡ length (scattered (after_picks 1 picks) (numbers 0 (size c)))
+      = length-map (scattered (after_picks 1 picks) (numbers 0 (size c))) (λ k. old k) in
       let p : length (scattered (after_picks 1 picks) (numbers 0 (size c))) ≡ length (numbers 0 (size c)) = length-scattered (after_picks 1 picks) (numbers 0 (size c)) in
       let q : length (numbers 0 (size c)) ≡ size c = length-numbers 0 (size c) in
       omega arith;

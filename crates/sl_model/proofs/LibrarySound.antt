@@ -60,7 +60,8 @@ multi_lines-bury = refl
 class_of_form : (form : Form) (xs : List (Form × Class)) (class : Class) → class_on form xs ≡ Some class → all_bury xs ≡ true → buries class ≡ true
 class_of_form form [] class e h = absurd (cc)
 class_of_form form (x ∷ xs) class e h =
-    by_form (same_form x.0 form) e (first_of_both (buries x.1) (all_bury xs) h) (second_of_both (buries x.1) (all_bury xs) h) (class_of_form form xs class)
+    by_form (same_form x.0 form) e (first_of_both (buries x.1) (all_bury xs) h) (second_of_both (buries x.1) (all_bury xs) h)
+    (class_of_form form xs class)
   where
     by_form : (b : Bool) → option_map (λ (y : Form × Class). y.1) (if b then Some x else find (λ (y : Form × Class). same_form y.0 form) xs) ≡ Some class
         → buries x.1 ≡ true → all_bury xs ≡ true → (class_on form xs ≡ Some class → all_bury xs ≡ true → buries class ≡ true) → buries class ≡ true

@@ -53,8 +53,10 @@ told_rest number (b ∷ w) parts h = second_of_both (is_some (number (b ∷ w)))
 within_more : {A : Type 0} (number : List ℕ → Option A) (w : List ℕ) (parts others : List (List ℕ)) → told number (w ∷ others) ≡ true
     → Within number parts others → Within number (w ∷ parts) (w ∷ others)
 within_more number [] parts others h r = r
-within_more number (b ∷ w) parts others h r =
-    (and_from (is_some (number (b ∷ w))) (told number parts) (first_of_both (is_some (number (b ∷ w))) (told number others) h) r.0, omega (arith, r.1))
+within_more number (b ∷ w) parts others h r = (
+  and_from (is_some (number (b ∷ w))) (told number parts) (first_of_both (is_some (number (b ∷ w))) (told number others) h) r.0,
+  omega (arith, r.1),
+)
 
 completed_more : {A : Type 0} (number : List ℕ → Option A) (w : List ℕ) (parts longer whole : List (List ℕ)) → told number (w ∷ whole) ≡ true
     → Completed number parts longer whole → Completed number (w ∷ parts) (w ∷ longer) (w ∷ whole)

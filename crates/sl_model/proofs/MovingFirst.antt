@@ -53,5 +53,6 @@ pub moving_first : (g : Scope) (callee : Callee) (object : Option ℕ) (u : Expr
     → has_type (call_type g callee object (u ∷ us)) ≡ true → is_iterator u ≡ true
 moving_first g (callees.Row n) object u us k h = moved_by_row g n object u us k h
 moving_first g (callees.Appends n) object u us k h = absurd cc
-moving_first g (callees.Operator o) object u us k h = moving_operator-begins o (u ∷ us) k (only_rest (not (is_some object)) (operator_type o (u ∷ us)) h)
+moving_first g (callees.Operator o) object u us k h =
+    moving_operator-begins o (u ∷ us) k (only_rest (not (is_some object)) (operator_type o (u ∷ us)) h)
 moving_first g (callees.Hidden o) object u us k h = absurd cc
