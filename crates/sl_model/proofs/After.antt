@@ -1,11 +1,11 @@
 -- A change of one container, at a site, in a memory: what it leaves where it was, that it leaves the memory sound, and that no mark
 -- vanishes.
-use Rattle.std.proofs.Common.{◌≡◌, ◌≢◌, ℕ, ◌+◌, ◌<◌, ◌≤◌, true, List, [], Some, length, map, ap, sym, ◌∙◌, arith, ◌⊎◌, inl, inr}
-use Rattle.std.proofs.Common.{⊎_elim, subst}
+use Rattle.std.proofs.Common.{◌≡◌, ◌≢◌, ℕ, ◌+◌, ◌<◌, ◌≤◌, true, List, [], Some, length, map, ap, sym, ◌∙◌, arith, ◌⊎◌, inl, inr, None, Option}
+use Rattle.std.proofs.Common.{⊎_elim, subst, unwrap_or}
 use Rattle.std.specs.List.{slice_get, slice_set}
 use Rattle.std.proofs.Math.ListN.{length-set}
 use Rattle.std.proofs.lemmas.Bool.{cases_eq, cases_lt}
-use Rattle.std.proofs.lemmas.Option.{get_or_from_slice_get}
+use Rattle.std.proofs.lemmas.Option.{get_or_from_slice_get, unwrap_or-slice_get}
 use Rattle.sl_base.specs.declared.form.Form.TheVariants as f
 use Rattle.sl_base.specs.declared.limits.TheConstants.{ELEMENTS}
 use Rattle.sl_model.specs.Containers.{Cont, Memory, size, cont_at, stamps, refers}
@@ -52,6 +52,14 @@ size-changed ch fresh c = rebuilt-size ch fresh c c (fresh + size c + 1)
 -- what is said to be there is the container
 pub cont_of_there : (m : Memory) (j : ℕ) (c : Cont) → slice_get m.conts j ≡ Some c → cont_at m j ≡ c
 cont_of_there m j c there = get_or_from_slice_get m.conts j c (record { form = f.Vector; cells = []; end = m.fresh; room = 0 }) there
+
+-- where none is there, the container is one without elements
+pub cont_of_none : (m : Memory) (j : ℕ) → slice_get m.conts j ≡ None
+    → cont_at m j ≡ record { form = f.Vector; cells = []; end = m.fresh; room = 0 }
+cont_of_none m j none = sym (unwrap_or-slice_get m.conts j missing) ∙ ap (λ (o : Option Cont). unwrap_or o missing) none
+  where
+    missing : Cont
+    missing = record { form = f.Vector; cells = []; end = m.fresh; room = 0 }
 
 -- the container with the number is the changed one
 pub cont_at-after-own : (ch : Change) (m : Memory) (j : ℕ) (c : Cont) (site : ℕ) → slice_get m.conts j ≡ Some c

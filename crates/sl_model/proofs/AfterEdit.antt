@@ -1,10 +1,11 @@
 -- An edit of one container, at a site, in a memory: what it leaves where it was and what it moves, what it drops, and that it
 -- leaves the memory sound.
-use Rattle.std.proofs.Common.{◌≡◌, ◌≢◌, ℕ, zero, suc, ◌+◌, ◌-◌, ◌<◌, ◌≤◌, true, false, List, [], ◌∷◌, ◌++◌, Some, length, ap, sym, ◌∙◌}
+use Rattle.std.proofs.Common.{◌≡◌, ◌≢◌, ℕ, zero, suc, ◌+◌, ◌-◌, ◌<◌, ◌≤◌, true, false, List, [], ◌∷◌, ◌++◌, Some, length, ap, ◌∙◌}
 use Rattle.std.proofs.Common.{arith, ◌⊎◌, inl, inr, ℤ, refl}
 use Rattle.std.specs.List.{slice_get}
 use Rattle.std.proofs.lemmas.Bool.{cases_lt}
 use Rattle.std.proofs.lemmas.Bool.Decides.{nat_tests}
+use Rattle.std.proofs.lemmas.List.{length-map}
 use Rattle.sl_base.specs.declared.limits.TheConstants.{ELEMENTS}
 use Rattle.sl_specs.specs.declared.class.Class.{Class}
 use Rattle.sl_model.specs.Classes.{Edit, Fits, kills}
@@ -18,15 +19,8 @@ use Rattle.sl_model.proofs.WithEnd.{with_end, in_with_end, end_of_these}
 use Rattle.sl_model.proofs.After.{get-after-own, get-after-other, cont_at-after-own, size-changed, change-sound}
 use Rattle.sl_model.proofs.Places.{counts-fair}
 use Rattle.sl_model.proofs.FairChanges.{BuriesGone, edit-fair, edit-length, length_olds}
-use Rattle.sl_model.proofs.Counts.{length-map}
 use Rattle.sl_model.proofs.Located.{stamp-alive}
-
--- what stands in the container that is there, stands in it
-stands_in : (m : Memory) (j k s : ℕ) (c : Cont) → slice_get m.conts j ≡ Some c → IsAt m j k s → slice_get (stamps c) k ≡ Some s
-stands_in m j k s c there h = by_cont h.cont (sym there ∙ h.there) h.stands
-  where
-    by_cont : (d : Cont) → Some c ≡ Some d → slice_get (stamps d) k ≡ Some s → slice_get (stamps c) k ≡ Some s
-    by_cont d e g = let q : c ≡ d = cc in ap (λ (z : Cont). slice_get (stamps z) k) q ∙ g
+use Rattle.sl_model.proofs.Moved.{in_cont}
 
 -- the old place at an index of these
 olds_get : (i n p : ℕ) → p < n → slice_get (olds i n) p ≡ Some (old (i + p))
@@ -56,7 +50,7 @@ edit_keeps class c e k fits within (inr above) =
     let B = news e.come in
     let C = olds (e.from + e.gone) (size c - (e.from + e.gone)) in
     let la : length A ≡ e.from = length_olds 0 e.from in
-    let lb : length B ≡ length e.come = length-map (λ (x : ℤ × ℤ). new x.0 x.1) e.come in
+    let lb : length B ≡ length e.come = length-map e.come (λ (x : ℤ × ℤ). new x.0 x.1) in
     let n : e.from + e.gone ≤ size c = fits in
     let at = k - (e.from + e.gone) in
     let s : shifted e k + e.gone ≡ k + length e.come = shifted_behind e k above in
@@ -103,7 +97,7 @@ pub after-killed : (class : Class) (m : Memory) (j k s : ℕ) (c : Cont) (e : Ed
 after-killed class m j k s c e site sound there h killed =
     let z : 0 + k ≡ k = omega arith in
     killer_before s (buried (kills class (size c) c.room e) site 0 (stamps c)) m.graves site
-    (buried_killer (kills class (size c) c.room e) site 0 (stamps c) k s (stands_in m j k s c there h)
+    (buried_killer (kills class (size c) c.room e) site 0 (stamps c) k s (in_cont m j k s c there h)
     (ap (kills class (size c) c.room e) z ∙ killed))
 
 -- what was dropped before keeps its site
@@ -138,7 +132,7 @@ after-at-own class m j k s c e site there h fits alive outside = record {
 }
   where
     here : slice_get (stamps c) k ≡ Some s
-    here = stands_in m j k s c there h
+    here = in_cont m j k s c there h
 
     taken : (x : Source) → slice_get (with_end (size c) (change_of class c e).sources) (shifted e k) ≡ Some x → TakesOwn x k
         → slice_get (marks_from (kills class (size c) c.room e) m.fresh (stamps c) (stamps c) (m.fresh + size c + 1)

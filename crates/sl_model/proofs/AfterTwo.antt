@@ -7,7 +7,7 @@ use Rattle.sl_base.specs.declared.limits.TheConstants.{ELEMENTS}
 use Rattle.sl_model.specs.Containers.{Cont, Memory, size, stamps, refers}
 use Rattle.sl_model.specs.Edits.{Source, old, written, theirs, new, Change, rebuilt, next_of_two, after_two}
 use Rattle.sl_model.specs.Good.{AreKeptApart, IsSound, NoneVanishFrom, NoneVanishes}
-use Rattle.sl_model.proofs.Getting.{get_set_same, get_set_other, get_within, get_map, map_set}
+use Rattle.sl_model.proofs.Getting.{get_set_other, get_within, get_map, map_set}
 use Rattle.sl_model.proofs.Apart.{list_distinct, list_below, lists_have_none}
 use Rattle.sl_model.proofs.Columns.{TakesTheirs, AllInside, marks_from, rebuilt-stamps, rebuilt-refers, rebuilt-size, stamps-length}
 use Rattle.sl_model.proofs.Columns.{refers-length, IsInside}
@@ -16,6 +16,7 @@ use Rattle.sl_model.proofs.TwoChanges.{AllGo, IsTrade, two-apart, two-none}
 use Rattle.sl_model.proofs.WithEnd.{with_end, of_with_end, in_with_end, with_end-inside, with_end-once, new_within, still_taken, end_taken, end_takes}
 use Rattle.sl_model.proofs.WithEnd.{end_takes_none, inside_at}
 use Rattle.sl_model.proofs.After.{Leaves}
+use Rattle.sl_model.proofs.Moved.{first-there, second-there}
 
 -- What one of two changes that exchange elements has to be: its sources are places of the two, none taken twice; what it takes over isn't
 -- invalidated by the other change; each element stays, goes over, or its marks are dropped; and there are not too many.
@@ -98,13 +99,6 @@ module _ (ch dh : Change) (m : Memory) (j i : ℕ) (c d : Cont) (site : ℕ) (so
           let same : n ≡ k = end_takes n a k e.1 t in
           omega arith
 
-  -- the lengths of the lists
-  stamp_count : (x : Cont) → length (stamps x) ≡ size x + 1
-  stamp_count x = stamps-length x
-
-  refer_count : (x : Cont) → length (refers x) ≡ size x
-  refer_count x = refers-length x
-
   -- the stamps of one of the two are a column
   stamp_column : (a b : Cont) (x y : ℕ) (ah bh : Change) (base next limit : ℕ) → slice_get (map stamps m.conts) x ≡ Some (stamps a)
       → slice_get (map stamps m.conts) y ≡ Some (stamps b) → x ≢ y → IsFairSide a b ah bh → m.fresh ≤ base → (base + size a) + 1 ≤ next
@@ -116,9 +110,9 @@ module _ (ch dh : Change) (m : Memory) (j i : ℕ) (c d : Cont) (site : ℕ) (so
     other_below = list_below (map stamps m.conts) m.graves m.fresh sound.stamps_apart y (stamps b) at';
     none = lists_have_none (map stamps m.conts) m.graves m.fresh sound.stamps_apart x y (stamps a) (stamps b) at at' other;
     base_up = low;
-    next_up = let l : length (stamps a) ≡ size a + 1 = stamp_count a in omega arith;
+    next_up = let l : length (stamps a) ≡ size a + 1 = stamps-length a in omega arith;
     limit_up = omega arith;
-    inside = let l : length (stamps a) ≡ size a + 1 = stamp_count a in let l' : length (stamps b) ≡ size b + 1 = stamp_count b in
+    inside = let l : length (stamps a) ≡ size a + 1 = stamps-length a in let l' : length (stamps b) ≡ size b + 1 = stamps-length b in
         rw (l, l') (with_end-inside (size a) (size b) (size a + 1) (size b + 1) ah.sources (omega arith) (omega arith) fair.inside);
     once = with_end-once (size a) (size b) ah.sources fair.inside fair.once;
     news = λ p s here fresh_one. let w : p < length ah.sources = new_within (size a) ah.sources p s here fresh_one in omega arith;
@@ -135,9 +129,9 @@ module _ (ch dh : Change) (m : Memory) (j i : ℕ) (c d : Cont) (site : ℕ) (so
     other_below = list_below (map refers m.conts) m.lost m.fresh sound.refers_apart y (refers b) at';
     none = lists_have_none (map refers m.conts) m.lost m.fresh sound.refers_apart x y (refers a) (refers b) at at' other;
     base_up = low;
-    next_up = let l : length (refers a) ≡ size a = refer_count a in omega arith;
+    next_up = let l : length (refers a) ≡ size a = refers-length a in omega arith;
     limit_up = omega arith;
-    inside = let l : length (refers a) ≡ size a = refer_count a in let l' : length (refers b) ≡ size b = refer_count b in rw (l, l') fair.inside;
+    inside = let l : length (refers a) ≡ size a = refers-length a in let l' : length (refers b) ≡ size b = refers-length b in rw (l, l') fair.inside;
     once = fair.once;
     news = λ p s here fresh_one. let w : p < length ah.sources = get_within ah.sources p s here in omega arith;
   }
@@ -160,8 +154,8 @@ module _ (ch dh : Change) (m : Memory) (j i : ℕ) (c d : Cont) (site : ℕ) (so
     second = stamp_column d c i j dh ch base' next' limit' stamps_there' stamps_there (λ e. differ (sym e)) fair' low high' (omega arith);
     by_one = by_one-end (size c) (size d) ch.sources dh.sources fair.inside fair'.inside fair.by_one;
     by_other = by_one-end (size d) (size c) dh.sources ch.sources fair'.inside fair.inside fair'.by_one;
-    bases = let l : length (stamps c) ≡ size c + 1 = stamp_count c in omega arith;
-    nexts = let l : length (stamps d) ≡ size d + 1 = stamp_count d in omega arith;
+    bases = let l : length (stamps c) ≡ size c + 1 = stamps-length c in omega arith;
+    nexts = let l : length (stamps d) ≡ size d + 1 = stamps-length d in omega arith;
     limits = omega arith;
     lives = λ k t. (fair'.lives k (end-taken_over (size d) dh.sources k t)).0;
     lives' = λ k t. (fair.lives k (end-taken_over (size c) ch.sources k t)).0;
@@ -174,8 +168,8 @@ module _ (ch dh : Change) (m : Memory) (j i : ℕ) (c d : Cont) (site : ℕ) (so
     second = refer_column d c i j dh ch base' next' limit' refers_there' refers_there (λ e. differ (sym e)) fair' low high' (omega arith);
     by_one = fair.by_one;
     by_other = fair'.by_one;
-    bases = let l : length (refers c) ≡ size c = refer_count c in omega arith;
-    nexts = let l : length (refers d) ≡ size d = refer_count d in omega arith;
+    bases = let l : length (refers c) ≡ size c = refers-length c in omega arith;
+    nexts = let l : length (refers d) ≡ size d = refers-length d in omega arith;
     limits = omega arith;
     lives = λ k t. (fair'.lives k t).1;
     lives' = λ k t. (fair.lives k t).1;
@@ -205,16 +199,6 @@ module _ (ch dh : Change) (m : Memory) (j i : ℕ) (c d : Cont) (site : ℕ) (so
       (marks_from ch.lose m.fresh (refers c) (refers d) next ch.sources)) i l)
       (rebuilt-refers dh base' d c next' fair'.inside)))
 
-  -- the first of the two afterwards
-  pub get-first : slice_get (after_two ch dh m j c i d site).conts j ≡ Some first
-  get-first = get_set_other (slice_set m.conts j first) i j second (λ e. differ (sym e))
-      ∙ get_set_same m.conts j first (get_within m.conts j c there)
-
-  -- the second
-  pub get-second : slice_get (after_two ch dh m j c i d site).conts i ≡ Some second
-  get-second = get_set_same (slice_set m.conts j first) i second
-      (get_within (slice_set m.conts j first) i d (get_set_other m.conts j i first differ ∙ there'))
-
   -- each other container stays
   pub get-third : (n : ℕ) → j ≢ n → i ≢ n → slice_get (after_two ch dh m j c i d site).conts n ≡ slice_get m.conts n
   get-third n a b = get_set_other (slice_set m.conts j first) i n second b ∙ get_set_other m.conts j n first a
@@ -223,10 +207,10 @@ module _ (ch dh : Change) (m : Memory) (j i : ℕ) (c d : Cont) (site : ℕ) (so
   small_after : (n : ℕ) (e : Cont) → slice_get (after_two ch dh m j c i d site).conts n ≡ Some e → size e ≤ ELEMENTS
   small_after n e h = ⊎_elim
       (λ (p : j ≡ n). of_size first (rebuilt-size ch m.fresh c d next) fair.few
-      (sym get-first ∙ (ap (slice_get (after_two ch dh m j c i d site).conts) p ∙ h)))
+      (sym (first-there ch dh m j i c d site differ there there') ∙ (ap (slice_get (after_two ch dh m j c i d site).conts) p ∙ h)))
       (λ (a : j ≢ n). ⊎_elim
       (λ (p : i ≡ n). of_size second (rebuilt-size dh base' d c next') fair'.few
-      (sym get-second ∙ (ap (slice_get (after_two ch dh m j c i d site).conts) p ∙ h)))
+      (sym (second-there ch dh m j i c d site differ there there') ∙ (ap (slice_get (after_two ch dh m j c i d site).conts) p ∙ h)))
       (λ (b : i ≢ n). sound.small n e (sym (get-third n a b) ∙ h))
       (cases_eq i n))
       (cases_eq j n)
@@ -252,7 +236,7 @@ module _ (ch dh : Change) (m : Memory) (j i : ℕ) (c d : Cont) (site : ℕ) (so
   stamps_go a b ah bh fair k within = ⊎_elim
       (λ (inner : k < size a). by_taken (fair.goes k inner))
       (λ (outer : size a ≤ k).
-      let l : length (stamps a) ≡ size a + 1 = stamp_count a in
+      let l : length (stamps a) ≡ size a + 1 = stamps-length a in
       let e : size a ≡ k = omega arith in
       inl (subst (λ n. IsTaken (with_end (size a) ah.sources) n) e (end_taken (size a) ah.sources)))
       (cases_lt k (size a))
@@ -265,7 +249,7 @@ module _ (ch dh : Change) (m : Memory) (j i : ℕ) (c d : Cont) (site : ℕ) (so
 
   -- each element of one of the two is taken, or its refer is dropped
   refers_go : (a b : Cont) (ah bh : Change) → IsFairSide a b ah bh → AllGo ah.lose (length (refers a)) ah.sources bh.sources
-  refers_go a b ah bh fair k within = let l : length (refers a) ≡ size a = refer_count a in by_taken (fair.goes k (omega arith))
+  refers_go a b ah bh fair k within = let l : length (refers a) ≡ size a = refers-length a in by_taken (fair.goes k (omega arith))
     where
       by_taken : IsTaken ah.sources k ⊎ (IsTakenOver bh.sources k ⊎ ((ah.kill k ≡ true) × (ah.lose k ≡ true)))
           → IsTaken ah.sources k ⊎ (IsTakenOver bh.sources k ⊎ (ah.lose k ≡ true))

@@ -1,8 +1,7 @@
 -- What an algorithm gives is of the type of its result: that of its first operand, or of its output.
-use Rattle.std.proofs.Common.{◌≡◌, ℕ, Bool, true, false, not, ◌&&◌, List, [], ◌∷◌, Option, Some, None, refl, ap, sym, ◌∙◌, subst, option_map, length}
-use Rattle.std.proofs.Common.{if◌then◌else◌}
-use Rattle.std.specs.Prelude.{slice_get, take, drop}
-use Rattle.std.specs.List.{list_all}
+use Rattle.std.proofs.Common.{◌≡◌, ℕ, true, false, List, [], ◌∷◌, Some, None, refl, ap, ◌∙◌, subst, option_map, length}
+use Rattle.std.specs.Prelude.{slice_get}
+use Rattle.sl_specs.specs.declared.letter.Letter.{Letter}
 use Rattle.sl_base.specs.declared.form.Form.{Form}
 use Rattle.sl_base.specs.declared.form.Form.TheVariants as f
 use Rattle.sl_specs.specs.declared.call.Call.TheVariants as c
@@ -11,88 +10,33 @@ use Rattle.sl_specs.specs.declared.need.Need.TheVariants as n
 use Rattle.sl_specs.specs.declared.return_type.ReturnType.{ReturnType}
 use Rattle.sl_specs.specs.declared.return_type.ReturnType.TheVariants as returns
 use Rattle.sl_specs.specs.declared.class.Class.{Class}
-use Rattle.sl_specs.specs.Forms.{same_object}
 use Rattle.sl_specs.specs.Rows.{Row as TableRow, Line, row_of as row_of_line, rows_on}
 use Rattle.sl_specs.specs.ContainerLines.{container_lines}
 use Rattle.sl_specs.specs.MultiLines.{multi_lines}
 use Rattle.sl_specs.specs.AlgorithmRows.{algorithm, algorithm_rows}
 use Rattle.sl_specs.specs.Table.{table}
 use Rattle.sl_syntax.specs.declared.typed.callee.Callee.TheVariants as callees
-use Rattle.sl_syntax.specs.Written.{is_map}
 use Rattle.sl_model.specs.Containers.{Memory}
 use Rattle.sl_model.specs.Values.{Shape, a_number, a_stamp}
 use Rattle.sl_model.specs.Situation.{Situation}
 use Rattle.sl_model.specs.Actions.{Answer}
-use Rattle.sl_model.specs.Forms.{is_keyed, is_hash}
 use Rattle.sl_model.specs.Library.{value_in}
 use Rattle.sl_model.specs.Good.{IsSound}
-use Rattle.sl_model.specs.Rows.{Object, of_first, Row, algorithm_shape, algorithm_row, member_row, meaning_of}
-use Rattle.sl_model.specs.WellTypedTypes.{ExprType, no_type, empty_type, scalar_type, element_type, iterator_type, iterator_and_bool, two_iterators}
-use Rattle.sl_model.specs.WellTypedTypes.{container_type, handed_type, int_reference, entry_reference, has_type, is_iterator, is_iterator_that}
-use Rattle.sl_model.specs.WellTypedTypes.{is_writing_iterator, same_iterators}
-use Rattle.sl_model.specs.WellTypedCalls.{one, range, fits, first_type, last_type, result_type, is_advance}
+use Rattle.sl_model.specs.Rows.{Object, of_first, Row, algorithm_shape, algorithm_row, meaning_of}
+use Rattle.sl_model.specs.WellTypedTypes.{ExprType}
+use Rattle.sl_model.specs.WellTypedTypes.{has_type, is_iterator}
+use Rattle.sl_model.specs.WellTypedCalls.{fits, first_type, last_type, result_type, is_advance}
 use Rattle.sl_model.proofs.Placing.{IsPlaced}
 use Rattle.sl_model.proofs.Tells.{AllOf, all_at, all_rows_on, shape_of_answer, memory_after, Tells}
 use Rattle.sl_model.proofs.TableRows.{all_table}
-use Rattle.sl_model.proofs.Passing.{first_of_both, second_of_both, passes_at}
+use Rattle.sl_model.proofs.Passing.{first_of_both, three_parts}
 use Rattle.sl_model.proofs.LibraryGood.{row-tells}
 use Rattle.sl_model.proofs.Fitting.{KeepsForms, AllFit, IsGiven}
 use Rattle.sl_model.proofs.GivenIn.{is_output, OperandStands, operand_given, GivesIn}
 use Rattle.sl_model.proofs.LibraryGives.{numbered-gives-in}
-use Rattle.sl_model.proofs.AnswersFit.{IsDone, RowGives, number_given, operand_type_given, operand_fits}
-
--- ## Operands that are iterators
-
--- an iterator that passes a test is an iterator
-passing_iterator : (test : Bool → Form → Bool) (u : ExprType) → is_iterator_that test u ≡ true → is_iterator u ≡ true
-passing_iterator test no_type e = absurd (cc)
-passing_iterator test empty_type e = absurd (cc)
-passing_iterator test (scalar_type r) e = absurd (cc)
-passing_iterator test (element_type w) e = absurd (cc)
-passing_iterator test (iterator_type b x) e = refl
-passing_iterator test (iterator_and_bool x) e = absurd (cc)
-passing_iterator test (two_iterators b x) e = absurd (cc)
-passing_iterator test (container_type access x) e = absurd (cc)
-passing_iterator test (handed_type r) e = absurd (cc)
-passing_iterator test (int_reference w) e = absurd (cc)
-passing_iterator test (entry_reference w) e = absurd (cc)
-
--- where one operand is an iterator that passes a test, the first one is
-one_begins : (test : Bool → Form → Bool) (us : List ExprType) (b : Bool) → (one (λ u. is_iterator_that test u) (take 1 us) && b) ≡ true
-    → is_iterator (first_type us) ≡ true
-one_begins test [] b e = absurd (cc)
-one_begins test (u ∷ us) b e = passing_iterator test u (first_of_both (is_iterator_that test u) b e)
-
--- and where two are a range
-range_begins : (test : Bool → Form → Bool) (us : List ExprType) (b : Bool) → (range (λ u. is_iterator_that test u) (take 2 us) && b) ≡ true
-    → is_iterator (first_type us) ≡ true
-range_begins test [] b e = absurd (cc)
-range_begins test (u ∷ []) b e = absurd (cc)
-range_begins test (u ∷ v ∷ us) b e = passing_iterator test u
-    (first_of_both (is_iterator_that test u) (same_iterators u v) (first_of_both (is_iterator_that test u && same_iterators u v) b e))
-
--- an output behind a range is the last operand
-output_ends : (us : List ExprType) → fits f.Vector (a.Output ∷ []) us ≡ true → is_iterator (last_type us) ≡ true
-output_ends [] e = absurd (cc)
-output_ends (u ∷ []) e = passing_iterator (λ b x. not b && not (is_keyed x)) u (first_of_both (is_writing_iterator u) true e)
-output_ends (u ∷ v ∷ us) e = absurd (let q = second_of_both (is_writing_iterator u) false e in cc)
-
--- what is last behind two operands is last
-behind_two : (us : List ExprType) → is_iterator (last_type (drop 2 us)) ≡ true → is_iterator (last_type us) ≡ true
-behind_two [] e = absurd (cc)
-behind_two (u ∷ []) e = absurd (cc)
-behind_two (u ∷ v ∷ []) e = absurd (cc)
-behind_two (u ∷ v ∷ w ∷ us) e = e
-
--- so it is with an output behind a range
-range_ends : (b : Bool) (us : List ExprType) → (b && fits f.Vector (a.Output ∷ []) (drop 2 us)) ≡ true → is_iterator (last_type us) ≡ true
-range_ends b us e = behind_two us (output_ends (drop 2 us) (second_of_both b (fits f.Vector (a.Output ∷ []) (drop 2 us)) e))
-
--- and behind two
-two_ranges_end : (b d : Bool) (us : List ExprType) → (b && (d && fits f.Vector (a.Output ∷ []) (drop 2 (drop 2 us)))) ≡ true
-    → is_iterator (last_type us) ≡ true
-two_ranges_end b d us e =
-    behind_two us (range_ends d (drop 2 us) (second_of_both b (d && fits f.Vector (a.Output ∷ []) (drop 2 (drop 2 us))) e))
+use Rattle.sl_model.proofs.TypedRows.{meaning_alone}
+use Rattle.sl_model.proofs.AnswersFit.{IsCarriedOut, RowGives, number_given, operand_type_given, operand_fits}
+use Rattle.sl_model.proofs.ScopedRows.{right_result, right_call, right_move, found_right, first_is_iterator, last_is_iterator, advance_alone}
 
 -- ## Each algorithm
 
@@ -115,15 +59,73 @@ IsTyped gives us = Unit {0}
 abbrev pub advance_row : TableRow
 advance_row = algorithm c.Advance (a.IteratorVariable ∷ a.Distance ∷ []) returns.Nothing (n.Movable ∷ [])
 
--- what an algorithm gives has the shape that its type asks for, operands that fit its letters have the iterator whose type it is, and
--- `advance` has one row
+-- what an algorithm gives has the shape that its type asks for, and `advance` has one row
 abbrev AlgorithmIs : TableRow → Type 0
-AlgorithmIs r = ShapeOf r.gives (algorithm_shape false r.call r.gives)
-    × ((us : List ExprType) → fits f.Vector r.letters us ≡ true → IsTyped r.gives us) × (is_advance r ≡ true → r ≡ advance_row)
+AlgorithmIs r = ShapeOf r.gives (algorithm_shape false r.call r.gives) × (is_advance r ≡ true → r ≡ advance_row)
 
 -- so it is with each algorithm
 each_algorithm : AllOf AlgorithmIs algorithm_rows
-each_algorithm = ((refl, (λ us e. range_begins (λ b x. not (is_map x)) us _ e), λ e. absurd (cc)), ((refl, (λ us e. tt), λ e. absurd (cc)), ((tt, (λ us e. tt), λ e. absurd (cc)), ((refl, (λ us e. range_begins (λ b x. not (is_map x)) us _ e), λ e. absurd (cc)), ((refl, (λ us e. range_begins (λ b x. not (is_map x)) us _ e), λ e. absurd (cc)), ((refl, (λ us e. tt), λ e. absurd (cc)), ((refl, (λ us e. two_ranges_end _ _ us e), λ e. absurd (cc)), ((refl, (λ us e. tt), λ e. absurd (cc)), ((refl, (λ us e. two_ranges_end _ _ us e), λ e. absurd (cc)), ((refl, (λ us e. two_ranges_end _ _ us e), λ e. absurd (cc)), ((refl, (λ us e. two_ranges_end _ _ us e), λ e. absurd (cc)), ((refl, (λ us e. range_ends _ us e), λ e. absurd (cc)), ((tt, (λ us e. tt), λ e. absurd (cc)), ((tt, (λ us e. tt), λ e. absurd (cc)), ((refl, (λ us e. range_begins (λ b x. not b && not (is_keyed x)) us _ e), λ e. absurd (cc)), ((refl, (λ us e. range_begins (λ b x. not b && not (is_keyed x)) us _ e), λ e. absurd (cc)), ((refl, (λ us e. tt), λ e. absurd (cc)), ((refl, (λ us e. tt), λ e. absurd (cc)), ((tt, (λ us e. tt), λ e. refl), ((refl, (λ us e. one_begins (λ b x. true) us _ e), λ e. absurd (cc)), ((refl, (λ us e. one_begins (λ b x. not (is_hash x)) us _ e), λ e. absurd (cc)), ((refl, (λ us e. range_begins (λ b x. not (is_map x)) us _ e), λ e. absurd (cc)), ((refl, (λ us e. range_begins (λ b x. not (is_map x)) us _ e), λ e. absurd (cc)), ((tt, (λ us e. tt), λ e. absurd (cc)), tt))))))))))))))))))))))))
+each_algorithm = (
+  (refl, λ e. absurd (cc)),
+  (
+    (refl, λ e. absurd (cc)),
+    (
+      (tt, λ e. absurd (cc)),
+      (
+        (refl, λ e. absurd (cc)),
+        (
+          (refl, λ e. absurd (cc)),
+          (
+            (refl, λ e. absurd (cc)),
+            (
+              (refl, λ e. absurd (cc)),
+              (
+                (refl, λ e. absurd (cc)),
+                (
+                  (refl, λ e. absurd (cc)),
+                  (
+                    (refl, λ e. absurd (cc)),
+                    (
+                      (refl, λ e. absurd (cc)),
+                      (
+                        (refl, λ e. absurd (cc)),
+                        (
+                          (tt, λ e. absurd (cc)),
+                          (
+                            (tt, λ e. absurd (cc)),
+                            (
+                              (refl, λ e. absurd (cc)),
+                              (
+                                (refl, λ e. absurd (cc)),
+                                (
+                                  (refl, λ e. absurd (cc)),
+                                  (
+                                    (refl, λ e. absurd (cc)),
+                                    (
+                                      (tt, λ e. refl),
+                                      (
+                                        (refl, λ e. absurd (cc)),
+                                        ((refl, λ e. absurd (cc)), ((refl, λ e. absurd (cc)), ((refl, λ e. absurd (cc)), ((tt, λ e. absurd (cc)), tt)))),
+                                      ),
+                                    ),
+                                  ),
+                                ),
+                              ),
+                            ),
+                          ),
+                        ),
+                      ),
+                    ),
+                  ),
+                ),
+              ),
+            ),
+          ),
+        ),
+      ),
+    ),
+  ),
+)
 
 -- and with each row of the table that has no form
 abbrev FormlessIs : TableRow → Type 0
@@ -147,6 +149,18 @@ algorithm_numbered : (n : ℕ) (r : TableRow) → slice_get table n ≡ Some r �
 algorithm_numbered n r there e = all_at FormlessIs table n r
     (all_table FormlessIs (λ form e. formed form container_lines) (λ form e. formed form multi_lines) (formless algorithm_rows each_algorithm)) there e
 
+-- operands that fit the letters of a row have the iterator whose type it gives
+operand_typed : (gives : ReturnType) (letters : List Letter) (us : List ExprType) → right_result gives letters ≡ true
+    → fits f.Vector letters us ≡ true → IsTyped gives us
+operand_typed returns.FirstArgument letters us right e = first_is_iterator f.Vector letters us e right
+operand_typed returns.Output letters us right e = last_is_iterator f.Vector letters us e right
+operand_typed gives letters us right e = tt
+
+-- the row with a number is right in its result, its call and what it moves
+right_parts : (n : ℕ) (r : TableRow) → slice_get table n ≡ Some r
+    → (right_result r.gives r.letters ≡ true) × (right_call r.form r.call ≡ true) × (right_move r ≡ true)
+right_parts n r there = three_parts (right_result r.gives r.letters) (right_call r.form r.call) (right_move r) (found_right n (Some r) there)
+
 -- what an algorithm gives, by what it is
 algorithm_by : (gives : ReturnType) (t : Memory) (us : List ExprType) (s : Situation) (answer : Answer) (shape : Shape)
     → shape_of_answer answer ≡ shape → ShapeOf gives shape → IsTyped gives us → has_type (result_type gives false f.Vector us) ≡ true
@@ -164,16 +178,12 @@ algorithm_by returns.Output t us s answer shape e is typed has fit stood placed 
     operand_type_given s (length s.values) t kept sound (last_type us) answer typed (operand_fits true s us typed fit) (e ∙ is) stood placed
 algorithm_by returns.Appender t us s answer shape e is typed has fit stood placed kept sound = absurd (cc)
 
--- the meaning of a row without a form is that of an algorithm
-pub algorithm_meant : (r : TableRow) → r.form ≡ None → meaning_of false r ≡ algorithm_row false r
-algorithm_meant r e = ap (λ (o : Option Form). elim o as (λ _. Row) [ None ↦ algorithm_row false r | Some form ↦ member_row form r ]) e
-
 -- what an algorithm gives is of the type of its result
 pub algorithm-given : (n : ℕ) (r : TableRow) (us : List ExprType) (s : Situation) → slice_get table n ≡ Some r → r.form ≡ None
     → fits f.Vector r.letters us ≡ true → has_type (result_type r.gives false f.Vector us) ≡ true → AllFit s.memory us s.values
-    → IsDone [] (meaning_of false r) s → RowGives (meaning_of false r) s (result_type r.gives false f.Vector us)
+    → IsCarriedOut [] (meaning_of false r) s → RowGives (meaning_of false r) s (result_type r.gives false f.Vector us)
 algorithm-given n r us s there e typed has fit done =
-    let meant = algorithm_meant r e in
+    let meant = meaning_alone false r e in
     let is = algorithm_numbered n r there e in
     let told : Tells (meaning_of false r) s =
     row-tells (callees.Row n) (meaning_of false r) (ap (option_map (meaning_of false)) there) s done.called done.needs in
@@ -181,38 +191,24 @@ algorithm-given n r us s there e typed has fit done =
     let object : (meaning_of false r).object ≡ of_first = ap (λ (q : Row). q.object) meant in
     let shape : (meaning_of false r).shape ≡ algorithm_shape false r.call r.gives = ap (λ (q : Row). q.shape) meant in
     algorithm_by r.gives (memory_after (meaning_of false r) s) us s ((meaning_of false r).action.answer s) (algorithm_shape false r.call r.gives)
-    (told.shaped ∙ shape) is.0 (is.1 us typed) has fit
+    (told.shaped ∙ shape) is.0 (operand_typed r.gives r.letters us (right_parts n r there).0 typed) has fit
     (subst (λ (o : Object). OperandStands o s (operand_given (is_output r.gives) s) ((meaning_of false r).action.answer s)) object gives.stood)
     told.placed done.kept done.sound
 
 -- ## `advance`
 
--- a row that moves its iterator is an algorithm's
-abbrev moves_alone : TableRow → Bool
-moves_alone r = if is_advance r then same_object r.form None else true
-
-advances_alone : list_all moves_alone table ≡ true
-unfolding table
-advances_alone = refl
-
--- it is that of `advance`
+-- a row that moves its iterator is that of `advance`
 pub advancing_row : (n : ℕ) (r : TableRow) → slice_get table n ≡ Some r → is_advance r ≡ true → r ≡ advance_row
-advancing_row n r there moves =
-    let alone : same_object r.form None ≡ true =
-    ap (λ (b : Bool). if b then same_object r.form None else true) (sym moves) ∙ passes_at moves_alone table n r advances_alone there in
-    (algorithm_numbered n r there (without_form r.form alone)).2 moves
-  where
-    without_form : (o : Option Form) → same_object o None ≡ true → o ≡ None
-    without_form None e = refl
-    without_form (Some form) e = absurd (cc)
+advancing_row n r there moves = (algorithm_numbered n r there (advance_alone r.form r.call (right_parts n r there).1 moves)).1 moves
 
 -- its first operand is an iterator
 pub advance-begins : (us : List ExprType) → fits f.Vector advance_row.letters us ≡ true → is_iterator (first_type us) ≡ true
-advance-begins us e = one_begins (λ b x. true) us _ e
+advance-begins [] e = absurd (cc)
+advance-begins (u ∷ us) e = first_of_both (is_iterator u) (fits f.Vector (a.Distance ∷ []) us) e
 
 -- and it gives one of its type
 pub advance-given : (n : ℕ) (us : List ExprType) (s : Situation) → slice_get table n ≡ Some advance_row
-    → fits f.Vector advance_row.letters us ≡ true → AllFit s.memory us s.values → IsDone [] (algorithm_row false advance_row) s
+    → fits f.Vector advance_row.letters us ≡ true → AllFit s.memory us s.values → IsCarriedOut [] (algorithm_row false advance_row) s
     → RowGives (algorithm_row false advance_row) s (first_type us)
 advance-given n us s there typed fit done =
     let told : Tells (algorithm_row false advance_row) s =

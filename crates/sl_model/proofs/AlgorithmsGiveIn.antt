@@ -27,8 +27,8 @@ use Rattle.sl_model.proofs.AlgorithmsTell.{IsRange, no_failure, none_left, none_
 use Rattle.sl_model.proofs.OutputsTell.{writer_of_three, writer_of_five, sequence_of_three, sequence_of_five, output_stands}
 use Rattle.sl_model.proofs.AlgorithmRowsTell.{moved-stands}
 use Rattle.sl_model.proofs.FineAlgorithms.{copy_row, set_row}
-use Rattle.sl_model.proofs.FineContainers.{no_fails}
 use Rattle.sl_model.proofs.GivenIn.{AnswerIsIn, ElementIsThere, HasElement, OperandStands, given_in, is_output, RowGivesIn, stands_in, first_stands}
+use Rattle.sl_model.proofs.FineRows.{no_fails}
 
 -- so it is with the row of an algorithm
 abbrev pub AlgorithmGivesIn : Bool → TableRow → Type 0

@@ -23,7 +23,9 @@ use Rattle.sl_model.proofs.Getting.{get_within}
 use Rattle.sl_model.proofs.Located.{at-locate}
 use Rattle.sl_model.proofs.Columns.{stamps-length}
 use Rattle.sl_model.proofs.Called.{HasObject}
-use Rattle.sl_model.proofs.Placing.{HasPlace, IsPlaced, olds-length, after-place, how_many-low, first_of_key-low, range-length}
+use Rattle.sl_model.proofs.Placing.{HasPlace, IsPlaced, after-place, how_many-low, first_of_key-low, range-length}
+use Rattle.sl_model.proofs.FairChanges.{length_olds}
+use Rattle.sl_model.proofs.Counts.{length-overwritten}
 
 -- where no failure is the first, there is none
 pub no_failure : (xs : List (ℕ × ℕ)) → first_failure xs ≡ None → xs ≡ []
@@ -174,19 +176,14 @@ pub greatest_place-low : (xs : List ℤ) → greatest_place xs ≤ length xs
 greatest_place-low [] = omega arith
 greatest_place-low (x ∷ xs) = let r = best_place-low (λ a b. int_lt b a) x 0 1 xs (omega arith) in omega arith
 
--- as many keys written over as there are
-overwritten-length : (k : ℕ) (xs : List ℤ) → length (overwritten k xs) ≡ length xs
-overwritten-length k [] = refl
-overwritten-length k (x ∷ xs) = ap suc (overwritten-length (k + 1) xs)
-
 -- a container whose keys are written over has a place behind the last of these
 pub overwrites-place : (m : Memory) (j : ℕ) (own : Cont) (site from n : ℕ) (xs : List ℤ) → j < length m.conts → n ≤ length xs
     → HasPlace (after (overwrites from xs own) m j (cont_at m j) site) j (from + n)
 overwrites-place m j own site from n xs low few = after-place (overwrites from xs own) m j (cont_at m j) site (from + n) low
     (let p = length-append (olds 0 from) (overwritten from xs ++ olds (from + length xs) (size own - (from + length xs))) in
     let q = length-append (overwritten from xs) (olds (from + length xs) (size own - (from + length xs))) in
-    let r = olds-length 0 from in
-    let t = overwritten-length from xs in
+    let r = length_olds 0 from in
+    let t = length-overwritten from xs in
     omega arith)
 
 -- a place at which a step ends

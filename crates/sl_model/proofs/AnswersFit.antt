@@ -24,7 +24,7 @@ use Rattle.sl_model.proofs.Fitting.{forms_of, KeepsForms, IsNumber, IsIteratorOf
 use Rattle.sl_model.proofs.GivenIn.{AnswerIsIn, ElementIsThere, OperandStands, operand_given, place_fits, operand_form, form_kept, element_read}
 
 -- a row was called, its needs hold and nothing stops it; what it leaves is sound, and each container keeps its form
-pub record IsDone (more : List Form) (r : Row) (s : Situation) : Type 0 where
+pub record IsCarriedOut (more : List Form) (r : Row) (s : Situation) : Type 0 where
   pub called : IsCalled r s
   pub needs : first_failure (r.fails s) ≡ None
   pub goes : r.action.stops s ≡ never

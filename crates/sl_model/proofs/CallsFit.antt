@@ -2,7 +2,6 @@
 use Rattle.std.proofs.Common.{◌≡◌, ℕ, true, false, not, ◌&&◌, List, [], Option, Some, None, is_some, refl, sym, subst, option_map, map}
 use Rattle.std.specs.Prelude.{slice_get}
 use Rattle.std.specs.List.{list_any}
-use Rattle.sl_base.specs.declared.form.Form.{Form}
 use Rattle.sl_base.specs.declared.form.Form.TheVariants as f
 use Rattle.sl_specs.specs.Forms.{same_object}
 use Rattle.sl_specs.specs.Rows.{Row as TableRow}
@@ -12,39 +11,29 @@ use Rattle.sl_syntax.specs.declared.typed.callee.Callee.TheVariants as callees
 use Rattle.sl_model.specs.Situation.{Situation}
 use Rattle.sl_model.specs.Operators.{operator_name}
 use Rattle.sl_model.specs.Rows.{Row, meaning_of, row_of_operator, row_of}
-use Rattle.sl_model.specs.WellTypedTypes.{ExprType, empty_type, container_type, Scope, variable_type, has_type, is_const, is_iterator}
+use Rattle.sl_model.specs.WellTypedTypes.{ExprType, empty_type, container_type, Scope, variable_type, has_type, is_const}
 use Rattle.sl_model.specs.WellTypedCalls.{is_output, appending, first_type, result_type, row_at, is_constructor, may_be_called, member_type}
 use Rattle.sl_model.specs.WellTypedCalls.{is_algorithm, algorithm_type, row_type, appending_type, fits, operator_type, call_type}
 use Rattle.sl_model.specs.WellTypedCalls.{is_moving_row, is_moving}
-use Rattle.sl_model.proofs.Called.{one_form}
 use Rattle.sl_model.proofs.Passing.{first_of_both, second_of_both}
 use Rattle.sl_model.proofs.TypedOperands.{only_holds, only_rest}
+use Rattle.sl_model.proofs.TypedRows.{one_object, no_object}
 use Rattle.sl_model.proofs.Fitting.{AllFit}
-use Rattle.sl_model.proofs.AnswersFit.{IsDone, RowGives}
+use Rattle.sl_model.proofs.AnswersFit.{IsCarriedOut, RowGives}
 use Rattle.sl_model.proofs.MembersFit.{member-given}
-use Rattle.sl_model.proofs.AlgorithmsFit.{algorithm-given, advance_row, advancing_row, advance-begins, advance-given}
-use Rattle.sl_model.proofs.OperatorsFit.{only_given, operator-given, moving_operator-begins, moving_operator-given}
-
--- an algorithm has no form
-no_form : (o : Option Form) → same_object o None ≡ true → o ≡ None
-no_form None e = refl
-no_form (Some form) e = absurd (cc)
-
--- a row of an object is of its form
-its_form : (o : Option Form) (form : Form) → same_object o (Some form) ≡ true → o ≡ Some form
-its_form None form e = absurd (cc)
-its_form (Some x) form e = let same = one_form x form e in cc
+use Rattle.sl_model.proofs.AlgorithmsFit.{algorithm-given, advance_row, advancing_row, advance-given}
+use Rattle.sl_model.proofs.OperatorsFit.{only_given, operator-given, moving_operator-given}
 
 -- ## By the row
 
 module _ (n : ℕ) (r : TableRow) (us : List ExprType) (s : Situation) (there : slice_get table n ≡ Some r) (fit : AllFit s.memory us s.values)
-    (done : IsDone [] (meaning_of false r) s) where
+    (done : IsCarriedOut [] (meaning_of false r) s) where
   -- an algorithm
   algorithm_fits : has_type (algorithm_type r us) ≡ true → RowGives (meaning_of false r) s (algorithm_type r us)
   algorithm_fits has =
       let both = only_holds (is_algorithm r && fits f.Vector r.letters us) (result_type r.gives false f.Vector us) has in
       only_given (is_algorithm r && fits f.Vector r.letters us) (result_type r.gives false f.Vector us) (meaning_of false r) s has
-      (algorithm-given n r us s there (no_form r.form (first_of_both (is_algorithm r) (fits f.Vector r.letters us) both))
+      (algorithm-given n r us s there (no_object r.form (first_of_both (is_algorithm r) (fits f.Vector r.letters us) both))
       (second_of_both (is_algorithm r) (fits f.Vector r.letters us) both)
       (only_rest (is_algorithm r && fits f.Vector r.letters us) (result_type r.gives false f.Vector us) has) fit done)
 
@@ -59,7 +48,7 @@ module _ (n : ℕ) (r : TableRow) (us : List ExprType) (s : Situation) (there : 
       let one = first_of_both (same_object r.form (Some x)) (not (is_constructor r)) two in
       only_given (same_object r.form (Some x) && not (is_constructor r) && may_be_called r.changes access && fits x r.letters us)
       (result_type r.gives (is_const access) x us) (meaning_of false r) s has
-      (member-given n r x (is_const access) us s there (its_form r.form x one) done)
+      (member-given n r x (is_const access) us s there (one_object r.form x one) done)
   member_fits u has = absurd (cc)
 
   -- either
@@ -79,7 +68,7 @@ appending_fits (Some x) us r s has =
 
 -- what a typed call gives is of its type
 pub call-given : (g : Scope) (callee : Callee) (object : Option ℕ) (us : List ExprType) (r : Row) (s : Situation) → row_of callee ≡ Some r
-    → has_type (call_type g callee object us) ≡ true → AllFit s.memory us s.values → IsDone [] r s
+    → has_type (call_type g callee object us) ≡ true → AllFit s.memory us s.values → IsCarriedOut [] r s
     → RowGives r s (call_type g callee object us)
 call-given g (callees.Row n) object us r s e has fit done = by_row (slice_get table n) refl e has
   where
@@ -88,13 +77,13 @@ call-given g (callees.Row n) object us r s e has fit done = by_row (slice_get ta
     by_row None there q h = absurd (cc)
     by_row (Some x) there q h =
         let same : r ≡ meaning_of false x = cc in
-        subst (λ (y : Row). IsDone [] y s → RowGives y s (row_type g (Some x) object us)) (sym same)
+        subst (λ (y : Row). IsCarriedOut [] y s → RowGives y s (row_type g (Some x) object us)) (sym same)
         (λ d. row_fits n x us s there fit d g object h) done
 call-given g (callees.Appends n) object us r s e has fit done = only_given (not (is_some object)) (appending_type (row_at n) us) r s has
     (appending_fits (row_at n) us r s (only_rest (not (is_some object)) (appending_type (row_at n) us) has))
 call-given g (callees.Operator o) object us r s e has fit done =
     let same : r ≡ row_of_operator (operator_name o) o = cc in
-    subst (λ (y : Row). IsDone [] y s → RowGives y s (call_type g (callees.Operator o) object us)) (sym same)
+    subst (λ (y : Row). IsCarriedOut [] y s → RowGives y s (call_type g (callees.Operator o) object us)) (sym same)
     (λ d. only_given (not (is_some object)) (operator_type o us) (row_of_operator (operator_name o) o) s has
     (operator-given (operator_name o) o us s (only_rest (not (is_some object)) (operator_type o us) has) fit d)) done
 call-given g (callees.Hidden o) object us r s e has fit done = absurd (cc)
@@ -112,29 +101,14 @@ advance_fits g (Some x) us has = absurd (no_member (variable_type g.containers x
     no_member (container_type access y) h = cc
     no_member u h = cc
 
--- a typed call that moves a variable begins with an iterator
-pub moving-begins : (g : Scope) (callee : Callee) (object : Option ℕ) (us : List ExprType) → is_moving callee ≡ true
-    → has_type (call_type g callee object us) ≡ true → is_iterator (first_type us) ≡ true
-moving-begins g (callees.Row n) object us moves has = by_row (slice_get table n) refl moves has
-  where
-    by_row : (o : Option TableRow) → slice_get table n ≡ o → is_moving_row o ≡ true → has_type (row_type g o object us) ≡ true
-        → is_iterator (first_type us) ≡ true
-    by_row None there m h = absurd (cc)
-    by_row (Some x) there m h = advance-begins us (advance_fits g object us
-        (subst (λ (y : TableRow). has_type (row_type g (Some y) object us) ≡ true) (advancing_row n x there m) h))
-moving-begins g (callees.Appends n) object us moves has = absurd (cc)
-moving-begins g (callees.Operator o) object us moves has =
-    moving_operator-begins o us moves (only_rest (not (is_some object)) (operator_type o us) has)
-moving-begins g (callees.Hidden o) object us moves has = absurd (cc)
-
--- and it gives an iterator of its type
+-- a typed call that moves a variable gives an iterator of its type
 pub moving-given : (g : Scope) (callee : Callee) (object : Option ℕ) (us : List ExprType) (r : Row) (s : Situation) → row_of callee ≡ Some r
-    → is_moving callee ≡ true → has_type (call_type g callee object us) ≡ true → AllFit s.memory us s.values → IsDone [] r s
+    → is_moving callee ≡ true → has_type (call_type g callee object us) ≡ true → AllFit s.memory us s.values → IsCarriedOut [] r s
     → RowGives r s (first_type us)
 moving-given g (callees.Row n) object us r s e moves has fit done = by_row (slice_get table n) refl e moves has
   where
     advances : slice_get table n ≡ Some advance_row → has_type (row_type g (Some advance_row) object us) ≡ true
-        → IsDone [] (meaning_of false advance_row) s → RowGives (meaning_of false advance_row) s (first_type us)
+        → IsCarriedOut [] (meaning_of false advance_row) s → RowGives (meaning_of false advance_row) s (first_type us)
     advances there h d = advance-given n us s there (advance_fits g object us h) fit d
 
     by_row : (o : Option TableRow) → slice_get table n ≡ o → option_map (meaning_of false) o ≡ Some r → is_moving_row o ≡ true
@@ -142,13 +116,14 @@ moving-given g (callees.Row n) object us r s e moves has fit done = by_row (slic
     by_row None there q m h = absurd (cc)
     by_row (Some x) there q m h =
         let same : r ≡ meaning_of false x = cc in
-        subst (λ (y : Row). IsDone [] y s → RowGives y s (first_type us)) (sym same)
+        subst (λ (y : Row). IsCarriedOut [] y s → RowGives y s (first_type us)) (sym same)
         (subst (λ (y : TableRow). slice_get table n ≡ Some y → has_type (row_type g (Some y) object us) ≡ true
-        → IsDone [] (meaning_of false y) s → RowGives (meaning_of false y) s (first_type us)) (sym (advancing_row n x there m)) advances there h)
+        → IsCarriedOut [] (meaning_of false y) s → RowGives (meaning_of false y) s (first_type us)) (sym (advancing_row n x there m)) advances there
+        h)
         done
 moving-given g (callees.Appends n) object us r s e moves has fit done = absurd (cc)
 moving-given g (callees.Operator o) object us r s e moves has fit done =
     let same : r ≡ row_of_operator (operator_name o) o = cc in
-    subst (λ (y : Row). IsDone [] y s → RowGives y s (first_type us)) (sym same)
+    subst (λ (y : Row). IsCarriedOut [] y s → RowGives y s (first_type us)) (sym same)
     (moving_operator-given (operator_name o) o us s moves (only_rest (not (is_some object)) (operator_type o us) has) fit) done
 moving-given g (callees.Hidden o) object us r s e moves has fit done = absurd (cc)

@@ -3,6 +3,7 @@
 use Rattle.std.proofs.Common.{◌≡◌, ℕ, zero, suc, ◌+◌, ◌<◌, Bool, true, false, List, [], ◌∷◌, ◌++◌, Option, Some, None, length, map, refl, ap, sym, ◌∙◌}
 use Rattle.std.proofs.Common.{arith, if◌then◌else◌, pos}
 use Rattle.std.specs.List.{slice_get}
+use Rattle.std.proofs.lemmas.List.{length-map}
 use Rattle.sl_model.specs.Containers.{Cell, Cont, size, stamps, refers}
 use Rattle.sl_model.specs.Edits.{Source, old, written, theirs, new, Change, mark_after, stayed, from_source, from_sources, rebuilt}
 use Rattle.sl_model.proofs.Getting.{get_left, get_behind, get_within, get_some, get_map}
@@ -165,15 +166,11 @@ comes_at renewed base own other next (y ∷ xs) (suc p) k s x at takes there = c
 -- ## The columns of a container after a change
 
 -- the stamp at the place of an element
-stamp_there : (c : Cont) (k : ℕ) (x : Cell) → slice_get c.cells k ≡ Some x → slice_get (stamps c) k ≡ Some x.stamp
+pub stamp_there : (c : Cont) (k : ℕ) (x : Cell) → slice_get c.cells k ≡ Some x → slice_get (stamps c) k ≡ Some x.stamp
 stamp_there c k x at =
     let within : k < length c.cells = get_within c.cells k x at in
-    let l : length (map (λ (y : Cell). y.stamp) c.cells) ≡ length c.cells = length-map c.cells in
+    let l : length (map (λ (y : Cell). y.stamp) c.cells) ≡ length c.cells = length-map c.cells (λ (y : Cell). y.stamp) in
     get_left (map (λ (y : Cell). y.stamp) c.cells) (c.end ∷ []) k (omega arith) ∙ get_map (λ (y : Cell). y.stamp) c.cells k x at
-  where
-    length-map : (xs : List Cell) → length (map (λ (y : Cell). y.stamp) xs) ≡ length xs
-    length-map [] = refl
-    length-map (y ∷ xs) = ap suc (length-map xs)
 
 -- the stamp at the end
 pub stamp_of_end : (c : Cont) → slice_get (stamps c) (size c) ≡ Some c.end
@@ -195,11 +192,7 @@ stamps-length c = by_cells c.cells
 
 -- there are as many refers as elements
 pub refers-length : (c : Cont) → length (refers c) ≡ size c
-refers-length c = by_cells c.cells
-  where
-    by_cells : (xs : List Cell) → length (map (λ (y : Cell). y.refer) xs) ≡ length xs
-    by_cells [] = refl
-    by_cells (y ∷ xs) = ap suc (by_cells xs)
+refers-length c = length-map c.cells (λ (y : Cell). y.refer)
 
 module _ (ch : Change) (base : ℕ) (own other : Cont) where
   -- the stamp of the element that comes from an old place

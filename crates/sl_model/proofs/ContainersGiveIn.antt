@@ -1,9 +1,8 @@
 -- Each call on a container gives what is in its object, and an element that it gives is there.
-use Rattle.std.proofs.Common.{◌≡◌, ℕ, ◌+◌, ◌-◌, ◌<◌, ◌≤◌, Bool, true, false, List, [], Option, Some, None, length, map, refl}
+use Rattle.std.proofs.Common.{◌≡◌, ℕ, ◌+◌, ◌-◌, ◌<◌, ◌≤◌, Bool, true, false, List, [], Option, Some, None, length, refl}
 use Rattle.std.proofs.Common.{arith, if◌then◌else◌}
 use Rattle.std.specs.Prelude.{ℤ, pos, nat_le, take, drop}
 use Rattle.std.proofs.lemmas.Bool.{leb-false}
-use Rattle.std.proofs.lemmas.List.{length-map}
 use Rattle.sl_base.specs.declared.failures.TheConstants.{OUT_OF_RANGE}
 use Rattle.sl_base.specs.declared.form.Form.{Form}
 use Rattle.sl_specs.specs.declared.class.Class.{Class}
@@ -11,21 +10,22 @@ use Rattle.sl_specs.specs.Rows.{Line, row_of as row_of_line}
 use Rattle.sl_specs.specs.ContainerLines.{container_lines}
 use Rattle.sl_specs.specs.MultiLines.{multi_lines}
 use Rattle.sl_model.specs.Containers.{Memory, cont_at, size}
-use Rattle.sl_model.specs.Edits.{Source, old, new, after}
+use Rattle.sl_model.specs.Edits.{after}
 use Rattle.sl_model.specs.Forms.{holds_equal_keys}
 use Rattle.sl_model.specs.Schedule.{after_picks}
 use Rattle.sl_model.specs.Situation.{Situation, own, own_size, int_of, count_of}
 use Rattle.sl_model.specs.Needs.{fails_if}
 use Rattle.sl_model.specs.Actions.{gives_place, gives_place_and, never, exception_if}
-use Rattle.sl_model.specs.Effects.{Left, key_order, key_place, key_change, key_picks, known_key, insert_key}
+use Rattle.sl_model.specs.Effects.{Left, key_place, key_change, key_picks, known_key, insert_key}
 use Rattle.sl_model.specs.KeyActions.{key_index, is_missing, place_or, key_after, is_new, inserted}
 use Rattle.sl_model.specs.Rows.{of_form, member_row}
 use Rattle.sl_model.proofs.Called.{HasObject, own_within}
-use Rattle.sl_model.proofs.Placing.{HasPlace, after-place, put_at-length}
+use Rattle.sl_model.proofs.Placing.{HasPlace, after-place}
 use Rattle.sl_model.proofs.Tells.{AllOf, all_parts}
-use Rattle.sl_model.proofs.ContainersTell.{key_index-low, key_order-length, key_place-low, known_key-low}
-use Rattle.sl_model.proofs.FineContainers.{no_fails, filled_one, first_need}
+use Rattle.sl_model.proofs.ContainersTell.{key_index-low, known_key-low, key_sources}
+use Rattle.sl_model.proofs.FineContainers.{filled_one, first_need}
 use Rattle.sl_model.proofs.GivenIn.{AnswerIsIn, ElementIsThere, HasElement, is_output, given_in, RowGivesIn}
+use Rattle.sl_model.proofs.FineRows.{no_fails}
 
 -- so it is with a line of the table on each form
 abbrev pub LineGivesIn : Line → Type 0
@@ -72,17 +72,9 @@ key_element : (class : Class) (s : Situation) (x : ℤ × ℤ) (picks : List ℕ
     (place_or (key_place (own s) x.0 picks) (known_key (own s) x.0))
 key_element class s x picks low = by_known (known_key (own s) x.0) refl
   where
-    sources : key_place (own s) x.0 picks + 1 ≤ length (key_change class (own s) x picks).sources
-    sources =
-        let old_ones : List Source = map (λ k. old k) (key_order (own s) picks) in
-        let p = put_at-length (key_place (own s) x.0 picks) (new x.0 x.1) old_ones in
-        let q = length-map (key_order (own s) picks) (λ k. old k) in
-        let r = key_order-length (own s) picks in
-        let t = key_place-low (own s) x.0 picks in
-        omega arith
-
     behind : HasPlace (after (key_change class (own s) x picks) s.memory s.object (own s) s.site) s.object (key_place (own s) x.0 picks + 1)
-    behind = after-place (key_change class (own s) x picks) s.memory s.object (own s) s.site (key_place (own s) x.0 picks + 1) low sources
+    behind = after-place (key_change class (own s) x picks) s.memory s.object (own s) s.site (key_place (own s) x.0 picks + 1) low
+        (key_sources class s x picks)
 
     before : (k n : ℕ) → k + 1 ≤ n → k < n
     before k n h = omega arith

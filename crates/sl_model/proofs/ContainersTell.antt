@@ -10,7 +10,7 @@ use Rattle.sl_specs.specs.ContainerLines.{container_lines}
 use Rattle.sl_specs.specs.MultiLines.{multi_lines}
 use Rattle.sl_model.specs.Containers.{Cont, Memory, size, keys}
 use Rattle.sl_model.specs.Classes.{Edit}
-use Rattle.sl_model.specs.Edits.{Source, old, new, numbers, change_of, after}
+use Rattle.sl_model.specs.Edits.{old, new, numbers, change_of, after}
 use Rattle.sl_model.specs.Forms.{is_hash, holds_equal_keys}
 use Rattle.sl_model.specs.Orders.{index_of_key}
 use Rattle.sl_model.specs.Schedule.{scattered, hash_place, after_picks, pick, pick_at}
@@ -26,10 +26,11 @@ use Rattle.sl_model.specs.Rows.{of_form}
 use Rattle.sl_model.specs.Values.{Shape, a_stamp, a_pair}
 use Rattle.sl_model.proofs.Called.{HasObject, own_within, own_form}
 use Rattle.sl_model.proofs.Growing.{makes_one}
-use Rattle.sl_model.proofs.Placing.{HasPlace, IsPlaced, numbers-length, after-place, edit-place, put_at-length, scattered-length, hash_place-low}
+use Rattle.sl_model.proofs.Placing.{HasPlace, IsPlaced, after-place, edit-place, hash_place-low}
 use Rattle.sl_model.proofs.Placing.{how_many-low}
 use Rattle.sl_model.proofs.Placing.{first_of_key-low, keys-length}
 use Rattle.sl_model.proofs.Tells.{shape_of_answer, tells, LineTells, AllOf, all_parts}
+use Rattle.sl_model.proofs.Counts.{length-scattered, length-put, length-numbers}
 
 -- a new container is made, whatever its form
 filled-makes : (form : Form) (xs : List (ℤ × ℤ)) (picks : List ℕ) → makes_one (filled form xs picks) ≡ true
@@ -97,9 +98,9 @@ key_order-length c picks = by_hash (is_hash c.form) (is_full c 1)
     by_hash : (h full : Bool) → length (if h
         then (if full then scattered (after_picks 1 picks) (numbers 0 (size c)) else numbers 0 (size c))
         else numbers 0 (size c)) ≡ size c
-    by_hash true true = scattered-length (after_picks 1 picks) (numbers 0 (size c)) ∙ numbers-length 0 (size c)
-    by_hash true false = numbers-length 0 (size c)
-    by_hash false full = numbers-length 0 (size c)
+    by_hash true true = length-scattered (after_picks 1 picks) (numbers 0 (size c)) ∙ length-numbers 0 (size c)
+    by_hash true false = length-numbers 0 (size c)
+    by_hash false full = length-numbers 0 (size c)
 
 -- the place of a new key is one of the container with it
 pub key_place-low : (c : Cont) (z : ℤ) (picks : List ℕ) → key_place c z picks ≤ size c
@@ -120,6 +121,16 @@ known_key-low c z k e = by_equal (holds_equal_keys c.form) e
     by_equal true h = absurd (cc)
     by_equal false h = let r = first_of_key-low z 0 (keys c) k h in let q = keys-length c in omega arith
 
+-- a key that is put in has a place among the sources
+pub key_sources : (class : Class) (s : Situation) (x : ℤ × ℤ) (picks : List ℕ)
+    → key_place (own s) x.0 picks + 1 ≤ length (key_change class (own s) x picks).sources
+key_sources class s x picks =
+    let p = length-put (key_place (own s) x.0 picks) (new x.0 x.1) (map (λ k. old k) (key_order (own s) picks)) in
+    let q = length-map (key_order (own s) picks) (λ k. old k) in
+    let r = key_order-length (own s) picks in
+    let t = key_place-low (own s) x.0 picks in
+    omega arith
+
 -- a key that is put in has a place then
 key_placed : (class : Class) (s : Situation) (x : ℤ × ℤ) (picks : List ℕ) → s.object < length s.memory.conts
     → HasPlace (insert_key class s.site s.object (own s) x (record { memory = s.memory; picks = picks })).memory s.object
@@ -127,13 +138,7 @@ key_placed : (class : Class) (s : Situation) (x : ℤ × ℤ) (picks : List ℕ)
 key_placed class s x picks low = by_known (known_key (own s) x.0) refl
   where
     sources : key_place (own s) x.0 picks ≤ length (key_change class (own s) x picks).sources
-    sources =
-        let old_ones : List Source = map (λ k. old k) (key_order (own s) picks) in
-        let p = put_at-length (key_place (own s) x.0 picks) (new x.0 x.1) old_ones in
-        let q = length-map (key_order (own s) picks) (λ k. old k) in
-        let r = key_order-length (own s) picks in
-        let t = key_place-low (own s) x.0 picks in
-        omega arith
+    sources = let r = key_sources class s x picks in omega arith
 
     by_known : (o : Option ℕ) → known_key (own s) x.0 ≡ o
         → HasPlace (elim o as (λ _. Left) [

@@ -1,8 +1,9 @@
 -- How often a number stands in the lists that changes are made of.
-use Rattle.std.proofs.Common.{◌≡◌, ℕ, zero, suc, ◌+◌, ◌-◌, ◌<◌, ◌≤◌, Bool, true, false, List, [], ◌∷◌, ◌++◌, length, map, take, drop}
+use Rattle.std.proofs.Common.{◌≡◌, ℕ, zero, suc, ◌+◌, ◌-◌, ◌<◌, ◌≤◌, Bool, true, false, List, [], ◌∷◌, ◌++◌, length, map, take, drop, length-append}
 use Rattle.std.proofs.Common.{refl, ap, sym, ◌∙◌, arith, ◌⊎◌, inl, inr, ⊎_elim, ℤ, if◌then◌else◌}
 use Rattle.std.specs.Prelude.{int_lt, nat_le}
 use Rattle.std.proofs.lemmas.Bool.{cases_lt, cases_eq}
+use Rattle.std.proofs.lemmas.List.{length-map}
 use Rattle.sl_model.specs.Edits.{Source, old, written, theirs, new, numbers, news}
 use Rattle.sl_model.specs.Orders.{put_sorted, put_all_sorted, sorted_entries, with_places, sorted_places}
 use Rattle.sl_model.specs.Rearrangements.{overwritten, moved_order}
@@ -116,10 +117,6 @@ their-overwritten i [] = refl
 their-overwritten i (x ∷ xs) = their-overwritten (i + 1) xs
 
 -- how many sources there are
-pub length-map : {A B : Type 0} (f : A → B) (xs : List A) → length (map f xs) ≡ length xs
-length-map f [] = refl
-length-map f (x ∷ xs) = ap suc (length-map f xs)
-
 pub length-numbers : (i n : ℕ) → length (numbers i n) ≡ n
 length-numbers i zero = refl
 length-numbers i (suc n) = ap suc (length-numbers (i + 1) n)
@@ -264,7 +261,7 @@ length-with_places i (x ∷ xs) = ap suc (length-with_places (i + 1) xs)
 
 pub length-sorted_places : (xs : List ℤ) → length (sorted_places xs) ≡ length xs
 length-sorted_places xs =
-    length-map (λ (x : ℤ × ℕ). x.1) (sorted_entries (with_places 0 xs)) ∙ (length-sorted (with_places 0 xs) ∙ length-with_places 0 xs)
+    length-map (sorted_entries (with_places 0 xs)) (λ (x : ℤ × ℕ). x.1) ∙ (length-sorted (with_places 0 xs) ∙ length-with_places 0 xs)
 
 -- the first n numbers in three parts
 pub three_parts : (k n from count : ℕ) → from + count ≤ n
@@ -328,10 +325,6 @@ moved_length n p from count fits =
     let g = length-numbers (from + count) (n - (from + count)) in
     omega arith
   where
-    length-append : (xs ys : List ℕ) → length (xs ++ ys) ≡ length xs + length ys
-    length-append [] ys = omega arith
-    length-append (x ∷ xs) ys = let r = length-append xs ys in omega arith
-
     length-cut : (i : ℕ) (xs : List ℕ) → length (take i xs) + length (drop i xs) ≡ length xs
     length-cut zero xs = omega arith
     length-cut (suc i) [] = omega arith

@@ -16,25 +16,20 @@ use Rattle.sl_model.specs.ListActions.{merged, merge, splices}
 use Rattle.sl_model.specs.Good.{IsAt, RefersTo}
 use Rattle.sl_model.specs.Effects.{does}
 use Rattle.sl_model.proofs.Getting.{get_left, get_behind}
-use Rattle.sl_model.proofs.Columns.{TakesOwn, TakesTheirs}
+use Rattle.sl_model.proofs.Columns.{TakesOwn, TakesTheirs, stamp_of_end}
 use Rattle.sl_model.proofs.ColumnLaws.{IsTaken, IsTakenOver}
 use Rattle.sl_model.proofs.Counts.{times-numbers}
 use Rattle.sl_model.proofs.FairChanges.{length_olds}
-use Rattle.sl_model.proofs.FairRearrangements.{merged_own, merged_their}
+use Rattle.sl_model.proofs.FairRearrangements.{merged_own, merged_their, length_theirs}
 use Rattle.sl_model.proofs.Places.{own_found, their_found}
 use Rattle.sl_model.proofs.OneChange.{buried_grave, still_grave}
-use Rattle.sl_model.proofs.Moved.{end-stamp, goes_to_first, goes_to_second, stays_in_first}
+use Rattle.sl_model.proofs.Moved.{goes_to_first, goes_to_second, stays_in_first}
 
 -- the other's place at an index of these
 pub theirs-get : (i n p : ℕ) → p < n → slice_get (theirs_from i n) p ≡ Some (theirs (i + p))
 theirs-get i zero p h = absurd (omega arith)
 theirs-get i (suc n) zero h = ap (λ k. Some (theirs k)) (omega arith)
 theirs-get i (suc n) (suc p) h = theirs-get (i + 1) n p (omega arith) ∙ ap (λ k. Some (theirs k)) (omega arith)
-
--- there are n of them
-pub theirs-length : (i n : ℕ) → length (theirs_from i n) ≡ n
-theirs-length i zero = refl
-theirs-length i (suc n) = ap suc (theirs-length (i + 1) n)
 
 -- an exchange takes each element over to the same place
 exchanged-comes : (c d : Cont) (k : ℕ) → k < size d → ComesOver (exchanged c d) k k
@@ -45,7 +40,7 @@ received-comes : (p from count : ℕ) (c : Cont) (k : ℕ) → from ≤ k → k 
 received-comes p from count c k low high =
     let l : length (olds 0 p) ≡ p = length_olds 0 p in
     let e : p + (k - from) ≡ length (olds 0 p) + (k - from) = omega arith in
-    let t : length (theirs_from from count) ≡ count = theirs-length from count in
+    let t : length (theirs_from from count) ≡ count = length_theirs from count in
     ap (slice_get (olds 0 p ++ (theirs_from from count ++ olds p (size c - p)))) e
     ∙ (get_behind (olds 0 p) (theirs_from from count ++ olds p (size c - p)) (k - from)
     ∙ (get_left (theirs_from from count) (olds p (size c - p)) (k - from) (omega arith)
@@ -144,12 +139,12 @@ module _ (form : Form) (class : Class) (s : Situation) where
       (λ e. Dropped (does form class s e).memory (own s).end s.site × Dropped (does form class s e).memory (their s 1).end s.site)
       (sym (swap-trades s n)) (
         buried_grave (λ k. k == own_size s) s.site (stamps (own s))
-            (buried (λ k. k == their_size s 1) s.site 0 (stamps (their s 1)) ++ s.memory.graves) (own_size s) (own s).end (end-stamp (own s))
+            (buried (λ k. k == their_size s 1) s.site 0 (stamps (their s 1)) ++ s.memory.graves) (own_size s) (own s).end (stamp_of_end (own s))
             (same-test (own_size s)),
         still_grave (buried (λ k. k == own_size s) s.site 0 (stamps (own s)))
             (buried (λ k. k == their_size s 1) s.site 0 (stamps (their s 1)) ++ s.memory.graves) (their s 1).end s.site
             (buried_grave (λ k. k == their_size s 1) s.site (stamps (their s 1)) s.memory.graves (their_size s 1) (their s 1).end
-            (end-stamp (their s 1)) (same-test (their_size s 1))),
+            (stamp_of_end (their s 1)) (same-test (their_size s 1))),
       )
     where
       same-test : (n : ℕ) → (n == n) ≡ true

@@ -1,6 +1,7 @@
 -- The changes that calls make are fair: each place is taken at most once, and what isn't taken has its marks dropped.
-use Rattle.std.proofs.Common.{◌≡◌, ℕ, ◌+◌, ◌-◌, ◌<◌, ◌≤◌, true, List, [], ◌∷◌, ◌++◌, length, map}
+use Rattle.std.proofs.Common.{◌≡◌, ℕ, ◌+◌, ◌-◌, ◌<◌, ◌≤◌, true, List, ◌++◌, length, map, length-append}
 use Rattle.std.proofs.Common.{ap, ◌∙◌, arith, inr, ℤ}
+use Rattle.std.proofs.lemmas.List.{length-map}
 use Rattle.sl_base.specs.declared.limits.TheConstants.{ELEMENTS}
 use Rattle.sl_specs.specs.declared.class.Class.{Class}
 use Rattle.sl_model.specs.Classes.{Edit, Fits, kills, loses}
@@ -11,7 +12,7 @@ use Rattle.sl_model.specs.AccessActions.{rehashed}
 use Rattle.sl_model.specs.Schedule.{scattered, after_picks}
 use Rattle.sl_model.proofs.Places.{times, own_places, their_places, CountsFair}
 use Rattle.sl_model.proofs.Counts.{in_turn, InTurn, one_of, lower, higher, own-append, their-append, own-old, their-old, own-news}
-use Rattle.sl_model.proofs.Counts.{their-news, own-overwritten, their-overwritten, length-map, length-numbers, length-overwritten, times-scattered}
+use Rattle.sl_model.proofs.Counts.{their-news, own-overwritten, their-overwritten, length-numbers, length-overwritten, times-scattered}
 use Rattle.sl_model.proofs.Counts.{length-scattered, times-outside, times-numbers, three_parts}
 
 -- the places of olds
@@ -23,11 +24,7 @@ their_olds k i n = ap (times k) (their-old (numbers i n))
 
 -- how many olds there are
 pub length_olds : (i n : ℕ) → length (olds i n) ≡ n
-length_olds i n = length-map (λ k. old k) (numbers i n) ∙ length-numbers i n
-
-pub length_append : {A : Type 0} (xs ys : List A) → length (xs ++ ys) ≡ length xs + length ys
-length_append [] ys = omega arith
-length_append (x ∷ xs) ys = let r = length_append xs ys in omega arith
+length_olds i n = length-map (numbers i n) (λ k. old k) ∙ length-numbers i n
 
 -- ## Edits
 
@@ -75,10 +72,10 @@ module _ (class : Class) (c : Cont) (e : Edit) (fits : Fits e (size c)) where
   edit-length =
       let a : length (olds 0 e.from ++ (news e.come ++ olds (e.from + e.gone) rest))
       ≡ length (olds 0 e.from) + length (news e.come ++ olds (e.from + e.gone) rest) =
-      length_append (olds 0 e.from) (news e.come ++ olds (e.from + e.gone) rest) in
+      length-append (olds 0 e.from) (news e.come ++ olds (e.from + e.gone) rest) in
       let b : length (news e.come ++ olds (e.from + e.gone) rest) ≡ length (news e.come) + length (olds (e.from + e.gone) rest) =
-      length_append (news e.come) (olds (e.from + e.gone) rest) in
-      let n : length (news e.come) ≡ length e.come = length-map (λ (x : ℤ × ℤ). new x.0 x.1) e.come in
+      length-append (news e.come) (olds (e.from + e.gone) rest) in
+      let n : length (news e.come) ≡ length e.come = length-map e.come (λ (x : ℤ × ℤ). new x.0 x.1) in
       let o : length (olds 0 e.from) ≡ e.from = length_olds 0 e.from in
       let p : length (olds (e.from + e.gone) rest) ≡ rest = length_olds (e.from + e.gone) rest in
       let f : e.from + e.gone ≤ size c = fits in
@@ -157,7 +154,7 @@ arranged-fair c order is few = record {
   none = λ k h. let o = order_own k order in let t = is.1 k in let z = times-outside k 0 (size c) (inr (omega arith)) in omega arith;
   alone = λ k. order_alone k order;
   dies = λ k low z. let o = order_own k order in let t = is.1 k in let y = times-numbers k 0 (size c) (omega arith) (omega arith) in absurd (omega arith);
-  few = let l : length (map (λ k. old k) order) ≡ length order = length-map (λ k. old k) order in let n : length order ≡ size c = is.0 in omega arith;
+  few = let l : length (map (λ k. old k) order) ≡ length order = length-map order (λ k. old k) in let n : length order ≡ size c = is.0 in omega arith;
 }
 
 -- a hash form's elements in a picked order are fair
@@ -168,7 +165,9 @@ rehashed-fair c n picks few = record {
   alone = λ k. order_alone k (scattered (after_picks 1 picks) (numbers 0 (size c)));
   dies = λ k low z. let o = order_own k (scattered (after_picks 1 picks) (numbers 0 (size c))) in let t = same k in let y = times-numbers k 0 (size c) (omega arith) (omega arith) in absurd (omega arith);
   few =
-      let l : length (map (λ k. old k) (scattered (after_picks 1 picks) (numbers 0 (size c)))) ≡ length (scattered (after_picks 1 picks) (numbers 0 (size c))) = length-map (λ k. old k) (scattered (after_picks 1 picks) (numbers 0 (size c))) in
+      let l : length (map (λ k. old k) (scattered (after_picks 1 picks) (numbers 0 (size c))))
+      ≡ length (scattered (after_picks 1 picks) (numbers 0 (size c)))
+      = length-map (scattered (after_picks 1 picks) (numbers 0 (size c))) (λ k. old k) in
       let p : length (scattered (after_picks 1 picks) (numbers 0 (size c))) ≡ length (numbers 0 (size c)) = length-scattered (after_picks 1 picks) (numbers 0 (size c)) in
       let q : length (numbers 0 (size c)) ≡ size c = length-numbers 0 (size c) in
       omega arith;
@@ -187,9 +186,9 @@ overwrites-fair c from xs fits few = record {
   few =
       let a : length (olds 0 from ++ (overwritten from xs ++ olds (from + length xs) (size c - (from + length xs))))
       ≡ length (olds 0 from) + length (overwritten from xs ++ olds (from + length xs) (size c - (from + length xs))) =
-      length_append (olds 0 from) (overwritten from xs ++ olds (from + length xs) (size c - (from + length xs))) in
+      length-append (olds 0 from) (overwritten from xs ++ olds (from + length xs) (size c - (from + length xs))) in
       let b : length (overwritten from xs ++ olds (from + length xs) (size c - (from + length xs))) ≡ length (overwritten from xs) + length (olds (from + length xs) (size c - (from + length xs))) =
-      length_append (overwritten from xs) (olds (from + length xs) (size c - (from + length xs))) in
+      length-append (overwritten from xs) (olds (from + length xs) (size c - (from + length xs))) in
       let d : length (overwritten from xs) ≡ length xs = length-overwritten from xs in
       let e : length (olds 0 from) ≡ from = length_olds 0 from in
       let g : length (olds (from + length xs) (size c - (from + length xs))) ≡ (size c - (from + length xs)) = length_olds (from + length xs) (size c - (from + length xs)) in

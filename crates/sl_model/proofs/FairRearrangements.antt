@@ -1,10 +1,11 @@
 -- Retained elements, new keys and exchanges between two containers are fair.
-use Rattle.std.proofs.Common.{◌≡◌, ℕ, zero, suc, ◌+◌, ◌-◌, ◌<◌, ◌≤◌, ◌==◌, ◌&&◌, Bool, true, false, not, List, [], ◌∷◌, ◌++◌, length, map, take, drop}
-use Rattle.std.proofs.Common.{refl, ap, sym, ◌∙◌, arith, inr, ℤ, if◌then◌else◌}
+use Rattle.std.proofs.Common.{◌≡◌, ℕ, suc, ◌+◌, ◌-◌, ◌<◌, ◌≤◌, ◌==◌, ◌&&◌, Bool, true, false, not, List, [], ◌∷◌, ◌++◌, length, map, take, drop}
+use Rattle.std.proofs.Common.{refl, ap, sym, ◌∙◌, arith, inr, ℤ, if◌then◌else◌, length-append, take-append-drop}
 use Rattle.std.proofs.lemmas.Bool.Decides.{nat_tests}
+use Rattle.std.proofs.lemmas.List.{length-map}
 use Rattle.sl_base.specs.declared.limits.TheConstants.{ELEMENTS}
 use Rattle.sl_specs.specs.declared.class.Class.{Class}
-use Rattle.sl_model.specs.Containers.{Cell, Cont, size, keys}
+use Rattle.sl_model.specs.Containers.{Cont, size, keys}
 use Rattle.sl_model.specs.Edits.{Source, old, theirs, new, numbers, olds, theirs_from}
 use Rattle.sl_model.specs.Orders.{same, first_places_after, first_places, other_places, sorted_entries}
 use Rattle.sl_model.specs.Rearrangements.{retained, among, exchanged, received, given}
@@ -14,9 +15,10 @@ use Rattle.sl_model.specs.Forms.{is_hash}
 use Rattle.sl_model.specs.Schedule.{scattered, put_at, after_picks}
 use Rattle.sl_model.proofs.Places.{times, own_places, their_places, CountsFair, CountsFairSide}
 use Rattle.sl_model.proofs.Counts.{in_turn, InTurn, one_of, lower, higher, own-append, their-append, own-old, their-old, own-theirs}
-use Rattle.sl_model.proofs.Counts.{their-theirs, length-map, length-numbers, times-scattered, length-scattered, length-put, times-outside, times-numbers}
+use Rattle.sl_model.proofs.Counts.{their-theirs, length-numbers, times-scattered, length-scattered, length-put, times-outside, times-numbers}
 use Rattle.sl_model.proofs.Counts.{three_parts, sum_of, sum-sorted, sum-append, length-sorted}
-use Rattle.sl_model.proofs.FairChanges.{IsOrder, first_once, own_olds, their_olds, length_olds, length_append}
+use Rattle.sl_model.proofs.FairChanges.{IsOrder, first_once, own_olds, their_olds, length_olds}
+use Rattle.sl_model.proofs.Placing.{keys-length}
 
 -- ## Elements that alone stay
 
@@ -73,7 +75,7 @@ retained-fair c order picked few = record {
   none = λ k h. let o = own k in let t = picked.1 k in let z = times-outside k 0 (size c) (inr (omega arith)) in omega arith;
   alone = λ k. ap (times k) (their-old order);
   dies = λ k low z. goes k low (among-none k order (let o = own k in omega arith));
-  few = let l : length (map (λ k. old k) order) ≡ length order = length-map (λ k. old k) order in let m = picked.0 in omega arith;
+  few = let l : length (map (λ k. old k) order) ≡ length order = length-map order (λ k. old k) in let m = picked.0 in omega arith;
 }
   where
     own : (k : ℕ) → times k (own_places (map (λ k. old k) order)) ≡ times k order
@@ -89,20 +91,10 @@ retained-fair c order picked few = record {
 
 -- sources cut in two
 own_cut : (k n : ℕ) (xs : List Source) → times k (own_places (take n xs)) + times k (own_places (drop n xs)) ≡ times k (own_places xs)
-own_cut k n xs = sym (own-append k (take n xs) (drop n xs)) ∙ ap (λ l. times k (own_places l)) (take_drop n xs)
-  where
-    take_drop : (n : ℕ) (xs : List Source) → take n xs ++ drop n xs ≡ xs
-    take_drop zero xs = refl
-    take_drop (suc n) [] = refl
-    take_drop (suc n) (x ∷ xs) = ap (λ l. x ∷ l) (take_drop n xs)
+own_cut k n xs = sym (own-append k (take n xs) (drop n xs)) ∙ ap (λ l. times k (own_places l)) (take-append-drop n xs)
 
 their_cut : (k n : ℕ) (xs : List Source) → times k (their_places (take n xs)) + times k (their_places (drop n xs)) ≡ times k (their_places xs)
-their_cut k n xs = sym (their-append k (take n xs) (drop n xs)) ∙ ap (λ l. times k (their_places l)) (take_drop n xs)
-  where
-    take_drop : (n : ℕ) (xs : List Source) → take n xs ++ drop n xs ≡ xs
-    take_drop zero xs = refl
-    take_drop (suc n) [] = refl
-    take_drop (suc n) (x ∷ xs) = ap (λ l. x ∷ l) (take_drop n xs)
+their_cut k n xs = sym (their-append k (take n xs) (drop n xs)) ∙ ap (λ l. times k (their_places l)) (take-append-drop n xs)
 
 -- a new element put in takes no place
 own_put : (k i : ℕ) (a b : ℤ) (xs : List Source) → times k (own_places (put_at i (new a b) xs)) ≡ times k (own_places xs)
@@ -148,7 +140,7 @@ key_change-fair class c x picks few = record {
   dies = λ k low z. let o = own k in let y = times-numbers k 0 (size c) (omega arith) (omega arith) in absurd (omega arith);
   few =
       let l = length-put (key_place c x.0 picks) (new x.0 x.1) (map (λ k. old k) (key_order c picks)) in
-      let m : length (map (λ k. old k) (key_order c picks)) ≡ length (key_order c picks) = length-map (λ k. old k) (key_order c picks) in
+      let m : length (map (λ k. old k) (key_order c picks)) ≡ length (key_order c picks) = length-map (key_order c picks) (λ k. old k) in
       let n : length (key_order c picks) ≡ size c = (key_order-all c picks).0 in
       omega arith;
 }
@@ -164,7 +156,7 @@ key_change-fair class c x picks few = record {
 pub key_change-length : (class : Class) (c : Cont) (x : ℤ × ℤ) (picks : List ℕ) → length (key_change class c x picks).sources ≡ size c + 1
 key_change-length class c x picks =
     let l = length-put (key_place c x.0 picks) (new x.0 x.1) (map (λ k. old k) (key_order c picks)) in
-    let m : length (map (λ k. old k) (key_order c picks)) ≡ length (key_order c picks) = length-map (λ k. old k) (key_order c picks) in
+    let m : length (map (λ k. old k) (key_order c picks)) ≡ length (key_order c picks) = length-map (key_order c picks) (λ k. old k) in
     let n : length (key_order c picks) ≡ size c = (key_order-all c picks).0 in
     omega arith
 
@@ -176,8 +168,8 @@ own_theirs k i n = ap (times k) (own-theirs (numbers i n))
 their_theirs : (k i n : ℕ) → times k (their_places (theirs_from i n)) ≡ times k (numbers i n)
 their_theirs k i n = ap (times k) (their-theirs (numbers i n))
 
-length_theirs : (i n : ℕ) → length (theirs_from i n) ≡ n
-length_theirs i n = length-map (λ k. theirs k) (numbers i n) ∙ length-numbers i n
+pub length_theirs : (i n : ℕ) → length (theirs_from i n) ≡ n
+length_theirs i n = length-map (numbers i n) (λ k. theirs k) ∙ length-numbers i n
 
 -- what is among the first n numbers is below n
 counted_below : (k n : ℕ) → 0 < times k (numbers 0 n) → k < n
@@ -273,8 +265,8 @@ module _ (c d : Cont) (p from count : ℕ) (within : p ≤ size c) (fits : from 
         let y = times-numbers k 0 (size c) (omega arith) (omega arith) in absurd (omega arith);
     lives = λ k h. let t = given_their k in absurd (omega arith);
     few =
-        let a = length_append (olds 0 p) (theirs_from from count ++ olds p (size c - p)) in
-        let b = length_append (theirs_from from count) (olds p (size c - p)) in
+        let a = length-append (olds 0 p) (theirs_from from count ++ olds p (size c - p)) in
+        let b = length-append (theirs_from from count) (olds p (size c - p)) in
         let e = length_theirs from count in
         let f = length_olds 0 p in
         let g = length_olds p (size c - p) in
@@ -289,7 +281,7 @@ module _ (c d : Cont) (p from count : ℕ) (within : p ≤ size c) (fits : from 
     dies = λ k low z. let o = giver_all k in let y = times-numbers k 0 (size d) (omega arith) (omega arith) in absurd (omega arith);
     lives = λ k h. (refl, refl);
     few =
-        let a = length_append (olds 0 from) (olds (from + count) (size d - (from + count))) in
+        let a = length-append (olds 0 from) (olds (from + count) (size d - (from + count))) in
         let f = length_olds 0 from in
         let g = length_olds (from + count) (size d - (from + count)) in
         omega arith;
@@ -336,9 +328,6 @@ length_entries : (f : ℕ → Source) (i : ℕ) (xs : List ℤ) → length (entr
 length_entries f i [] = refl
 length_entries f i (x ∷ xs) = ap suc (length_entries f (i + 1) xs)
 
-length_keys : (c : Cont) → length (keys c) ≡ size c
-length_keys c = length-map (λ (x : Cell). x.key) c.cells
-
 module _ (c d : Cont) where
   -- what is merged
   abbrev both : List (ℤ × Source)
@@ -351,7 +340,7 @@ module _ (c d : Cont) where
       let e = sum-append (λ (x : ℤ × Source). times k (own_places (x.1 ∷ []))) (entries (λ k. old k) 0 (keys c)) (entries (λ k. theirs k) 0 (keys d)) in
       let f = old_own k 0 (keys c) in
       let g = theirs_own k 0 (keys d) in
-      let h : times k (numbers 0 (length (keys c))) ≡ times k (numbers 0 (size c)) = ap (λ n. times k (numbers 0 n)) (length_keys c) in
+      let h : times k (numbers 0 (length (keys c))) ≡ times k (numbers 0 (size c)) = ap (λ n. times k (numbers 0 n)) (keys-length c) in
       omega arith
 
   pub merged_their : (k : ℕ) → times k (their_places (merged c d).sources) ≡ times k (numbers 0 (size d))
@@ -361,7 +350,7 @@ module _ (c d : Cont) where
       let e = sum-append (λ (x : ℤ × Source). times k (their_places (x.1 ∷ []))) (entries (λ k. old k) 0 (keys c)) (entries (λ k. theirs k) 0 (keys d)) in
       let f = old_their k 0 (keys c) in
       let g = theirs_their k 0 (keys d) in
-      let h : times k (numbers 0 (length (keys d))) ≡ times k (numbers 0 (size d)) = ap (λ n. times k (numbers 0 n)) (length_keys d) in
+      let h : times k (numbers 0 (length (keys d))) ≡ times k (numbers 0 (size d)) = ap (λ n. times k (numbers 0 n)) (keys-length d) in
       omega arith
 
   -- the other list gives all its elements
@@ -386,13 +375,13 @@ module _ (c d : Cont) where
     lives = λ k h. (refl, refl);
     few =
         let a : length (map (λ (x : ℤ × Source). x.1) (sorted_entries both)) ≡ length (sorted_entries both) =
-        length-map (λ (x : ℤ × Source). x.1) (sorted_entries both) in
+        length-map (sorted_entries both) (λ (x : ℤ × Source). x.1) in
         let b = length-sorted both in
-        let e = length_append (entries (λ k. old k) 0 (keys c)) (entries (λ k. theirs k) 0 (keys d)) in
+        let e = length-append (entries (λ k. old k) 0 (keys c)) (entries (λ k. theirs k) 0 (keys d)) in
         let f = length_entries (λ k. old k) 0 (keys c) in
         let g = length_entries (λ k. theirs k) 0 (keys d) in
-        let h = length_keys c in
-        let i = length_keys d in
+        let h = keys-length c in
+        let i = keys-length d in
         omega arith;
   }
 
@@ -405,7 +394,7 @@ module _ (c d : Cont) where
         let y = times-numbers k 0 (size d) (omega arith) (omega arith) in absurd (omega arith);
     lives = λ k h. (refl, refl);
     few =
-        let a = length_append (olds 0 0) (olds (0 + size d) (size d - (0 + size d))) in
+        let a = length-append (olds 0 0) (olds (0 + size d) (size d - (0 + size d))) in
         let f = length_olds 0 0 in
         let g = length_olds (0 + size d) (size d - (0 + size d)) in
         omega arith;

@@ -5,11 +5,10 @@ use Rattle.std.proofs.Common.{length, map, refl, ap, sym, ◌∙◌, subst, arit
 use Rattle.std.specs.Prelude.{ℤ, pos, nat_lt, take, drop, replicate, reverse}
 use Rattle.std.specs.List.{slice_get}
 use Rattle.std.proofs.lemmas.Bool.{ltb-false}
-use Rattle.std.proofs.lemmas.List.{length-reverse, length-replicate}
+use Rattle.std.proofs.lemmas.List.{length-reverse, length-replicate, length-map}
 use Rattle.std.proofs.lemmas.Option.{slice_get-get_or}
 use Rattle.sl_base.specs.declared.failures.TheConstants.{NO_ROOM, NOT_SORTED}
 use Rattle.sl_base.specs.declared.form.Form.TheVariants as f
-use Rattle.sl_base.specs.declared.limits.TheConstants.{ELEMENTS}
 use Rattle.sl_specs.specs.declared.call.Call.{Call}
 use Rattle.sl_specs.specs.declared.call.Call.TheVariants as c
 use Rattle.sl_specs.specs.declared.class.Class.TheVariants as classes
@@ -30,17 +29,17 @@ use Rattle.sl_model.specs.Operands.{all_sorts, are_of, a_writer, a_sequence, is_
 use Rattle.sl_model.specs.Operands.{is_set_operation, output_count}
 use Rattle.sl_model.specs.Needs.{fails_if, one_range_fails, is_range, valid_keys, places_fail, output_place_fails}
 use Rattle.sl_model.specs.Needs.{output_fails, failures, all_failures, first_failure}
-use Rattle.sl_model.specs.Actions.{changes, exception, never, too_many}
+use Rattle.sl_model.specs.Actions.{changes, never, too_many}
 use Rattle.sl_model.specs.WritingAlgorithms.{rewrites, output, outputs, output_stops}
 use Rattle.sl_model.specs.Rows.{of_first, algorithm_row, row_of_operator}
 use Rattle.sl_model.specs.Good.{IsSound}
 use Rattle.sl_model.proofs.After.{cont_of_there}
 use Rattle.sl_model.proofs.Called.{HasObject}
 use Rattle.sl_model.proofs.Placing.{HasPlace, how_many-low}
-use Rattle.sl_model.proofs.Counts.{length-map, length-sorted}
+use Rattle.sl_model.proofs.Counts.{length-sorted}
 use Rattle.sl_model.proofs.FairChanges.{overwrites-fair}
 use Rattle.sl_model.proofs.FineEffects.{IsThere, IsFine}
-use Rattle.sl_model.proofs.FineRows.{RowIsFine}
+use Rattle.sl_model.proofs.FineRows.{RowIsFine, no_fails, not_too_many}
 use Rattle.sl_model.proofs.Tells.{AllOf, all_parts}
 use Rattle.sl_model.proofs.AlgorithmsTell.{no_failure, none_left, none_right, place_there, container_there}
 use Rattle.sl_model.proofs.AlgorithmsTell.{IsRange, first_range, along_range, range_keys-low}
@@ -68,8 +67,8 @@ over_range s picks xs sound there r low = written_over s picks s.object (index s
 
 -- numbers in order are as many
 sorted-length : (xs : List ℤ) → length (sorted xs) ≡ length xs
-sorted-length xs = length-map (λ (x : ℤ × ℕ). x.0) (sorted_entries (map (λ x. (x, 0)) xs))
-    ∙ (length-sorted (map (λ x. (x, 0)) xs) ∙ length-map (λ x. (x, 0)) xs)
+sorted-length xs = length-map (sorted_entries (map (λ x. (x, 0)) xs)) (λ (x : ℤ × ℕ). x.0)
+    ∙ (length-sorted (map (λ x. (x, 0)) xs) ∙ length-map xs (λ x. (x, 0)))
 
 -- the first of each group are no more
 firsts_after-low : (before : ℤ) (xs : List ℤ) → length (firsts_after before xs) ≤ length xs
@@ -99,7 +98,7 @@ shortened-low : (kept : List ℤ) (n : ℕ) (picks : List ℕ) → length kept �
     → length (kept ++ map (λ p. pos p) (picked (n - length kept) picks)) ≤ n
 shortened-low kept n picks low =
     let a = length-append kept (map (λ p. pos p) (picked (n - length kept) picks)) in
-    let b = length-map (λ p. pos p) (picked (n - length kept) picks) in
+    let b = length-map (picked (n - length kept) picks) (λ p. pos p) in
     let d = picked-length (n - length kept) picks in
     omega arith
 
@@ -123,11 +122,6 @@ shortened-fine s kept sound there r low =
 
 -- ## An output that is written through
 
--- a test at which nothing fails
-not_failing : (b : Bool) (kind a : ℕ) → fails_if b kind a ≡ [] → b ≡ false
-not_failing true kind a e = absurd (cc)
-not_failing false kind a e = refl
-
 -- keys are written from where an iterator stands on, where its need doesn't fail
 from_place : (r : TableRow) (s : Situation) (xs : List ℤ) → IsSound s.memory → output_count r.call s ≡ Some (length xs)
     → output_place_fails r s (length s.values) (place_of s (length s.values)) ≡ []
@@ -143,7 +137,7 @@ from_place r s xs sound count e = by_place (place_of s (length s.values)) refl e
         let told : places_fail r s (length s.values) p (Some (length xs)) ≡ [] =
         subst (λ (o : Option ℕ). places_fail r s (length s.values) p o ≡ []) count h in
         let room : nat_lt (size (cont_at s.memory p.0) - p.1) (length xs) ≡ false =
-        not_failing (nat_lt (size (cont_at s.memory p.0) - p.1) (length xs)) NO_ROOM (length s.values)
+        no_fails (nat_lt (size (cont_at s.memory p.0) - p.1) (length xs)) NO_ROOM (length s.values)
         (none_left (fails_if (nat_lt (size (cont_at s.memory p.0) - p.1) (length xs)) NO_ROOM (length s.values)) _ told) in
         let fits : length xs ≤ size (cont_at s.memory p.0) - p.1 = ltb-false (size (cont_at s.memory p.0) - p.1) (length xs) room in
         let place = place_there s.memory (argument s (length s.values)) p at in
@@ -237,14 +231,6 @@ sequence_there m j h = by_cont (slice_get m.conts j) refl h
     by_cont : (o : Option Cont) → slice_get m.conts j ≡ o → is_sequence o ≡ true → o ≡ Some (cont_at m j)
     by_cont None e t = absurd (cc)
     by_cont (Some x) e t = ap (λ (y : Cont). Some y) (sym (cont_of_there m j x e))
-
--- what doesn't stop a call isn't too many
-not_too_many : (n : ℕ) → too_many n ≡ never → n ≤ ELEMENTS
-not_too_many n e = by_test (nat_lt ELEMENTS n) refl e
-  where
-    by_test : (b : Bool) → nat_lt ELEMENTS n ≡ b → (if b then exception else never) ≡ never → n ≤ ELEMENTS
-    by_test true t h = absurd (cc)
-    by_test false t h = ltb-false ELEMENTS n t
 
 -- an output that is an appender is fine, where it doesn't stop the call
 appender-fine : (s : Situation) (v : Value) (xs : List ℤ) → output s ≡ v → is_of s.memory a_sequence v ≡ true

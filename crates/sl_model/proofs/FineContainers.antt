@@ -3,7 +3,7 @@ use Rattle.std.proofs.Common.{◌≡◌, ◌≢◌, ℕ, zero, suc, ◌+◌, ◌
 use Rattle.std.proofs.Common.{length, replicate, reverse, refl, ap, sym, subst, ◌∙◌, arith, if◌then◌else◌}
 use Rattle.std.specs.Prelude.{ℤ, pos, nat_lt, take, drop, min, slice_index_or, filter}
 use Rattle.std.specs.List.{slice_get}
-use Rattle.std.proofs.lemmas.Bool.{eqb-true, eqb-false, ltb-false}
+use Rattle.std.proofs.lemmas.Bool.{eqb-true, eqb-false}
 use Rattle.sl_base.specs.declared.form.Form.{Form}
 use Rattle.sl_base.specs.declared.form.Form.TheVariants as f
 use Rattle.sl_base.specs.declared.limits.TheConstants.{ELEMENTS}
@@ -15,15 +15,15 @@ use Rattle.sl_model.specs.Containers.{Cell, Cont, Memory, size, cont_at, keys, i
 use Rattle.sl_model.specs.Edits.{numbers}
 use Rattle.sl_model.specs.Forms.{is_hash}
 use Rattle.sl_model.specs.Needs.{is_range, is_position_inside, fails_if, place_fails, element_fails, range_fails, first_failure}
-use Rattle.sl_model.specs.Operands.{Sort, an_iterator, a_container, is_of_form, is_of, are_of}
+use Rattle.sl_model.specs.Operands.{Sort, an_iterator, a_container, are_of}
 use Rattle.sl_model.specs.Orders.{same, first_of_key, how_many, sorted_places, first_places, other_places}
 use Rattle.sl_model.specs.Rearrangements.{arranged, exchanged, received, given, moved_order}
 use Rattle.sl_model.specs.Schedule.{pick, after_picks}
 use Rattle.sl_base.specs.declared.failures.TheConstants.{WRONG_CONTAINER, END_ITERATOR, EMPTY_CONTAINER, OVERLAP}
 use Rattle.sl_model.specs.Situation.{Situation, own, own_size, argument, place_of, index, index_in, container_of, container_of_value, their, their_size, int_of, count_of, item}
 use Rattle.sl_model.specs.Situation.{as_items, listed, range_keys, range_size}
-use Rattle.sl_model.specs.Values.{Value, nothing as no_result, number, iterator, pair, two, scalar_at, container_at, element_at}
-use Rattle.sl_model.specs.Actions.{keeps, edits, changes, trades, inserts, never, exception, too_many}
+use Rattle.sl_model.specs.Values.{Value, nothing as no_result}
+use Rattle.sl_model.specs.Actions.{keeps, edits, changes, trades, inserts, never, too_many}
 use Rattle.sl_model.specs.AccessActions.{untouched, resized, rehashed, reserved, swap}
 use Rattle.sl_model.specs.Effects.{insertion, picks_with, room_with}
 use Rattle.sl_model.specs.KeyActions.{new_keys, place_or, key_index, key_count}
@@ -32,19 +32,19 @@ use Rattle.sl_model.specs.MakeActions.{filled, copied, refilled, copy_items, cop
 use Rattle.sl_model.specs.SequenceActions.{puts, drops}
 use Rattle.sl_model.specs.Good.{IsSound}
 use Rattle.sl_model.proofs.Called.{own_there}
-use Rattle.std.proofs.lemmas.List.{reverse-append, length-reverse}
+use Rattle.std.proofs.lemmas.List.{reverse-append, length-reverse, length-map}
 use Rattle.sl_model.proofs.Counts.{times-append}
-use Rattle.sl_model.proofs.Counts.{moved_length, times-sorted_places, length-sorted_places, times-moved, length-scattered, length-map, length-numbers}
+use Rattle.sl_model.proofs.Counts.{moved_length, times-sorted_places, length-sorted_places, times-moved, length-scattered, length-numbers}
 use Rattle.sl_model.proofs.FairChanges.{BuriesGone, edit-fair, IsOrder, arranged-fair, rehashed-fair}
 use Rattle.sl_model.proofs.FairRearrangements.{first_places-picked, other_places-picked, ArePicked, retained-fair, exchanged-fair, received-fair, given-fair}
 use Rattle.sl_model.proofs.FairRearrangements.{merged-fair, gives-fair}
 use Rattle.sl_model.proofs.FineEffects.{IsThere, IsFine, keys_in}
-use Rattle.sl_model.proofs.FineRows.{buries, class_buries, LineIsFine}
+use Rattle.sl_model.proofs.FineRows.{buries, class_buries, LineIsFine, no_fails, not_too_many}
 use Rattle.sl_model.proofs.Places.{times}
 use Rattle.sl_model.proofs.Placing.{keys-length, how_many-low}
 use Rattle.sl_model.proofs.Tells.{AllOf, all_parts}
 use Rattle.sl_model.proofs.AlgorithmsTell.{no_failure, none_left, none_right, place_there}
-use Rattle.sl_model.proofs.OutputsTell.{first_holds as both_left, second_holds as both_right}
+use Rattle.sl_model.proofs.OperandForms.{cont_there, first_of_form, second_of_form}
 
 -- no container has too many elements
 pub any_small : (m : Memory) (j : ℕ) → IsSound m → size (cont_at m j) ≤ ELEMENTS
@@ -69,19 +69,6 @@ any_small m j sound = by_cont (slice_get m.conts j) refl
         get_there [] j x d h = absurd (cc)
         get_there (y ∷ xs) zero x d h = cc
         get_there (y ∷ xs) (suc j) x d h = get_there xs j x d h
-
--- a number that is no exception isn't too great
-pub not_too_many : (n : ℕ) → too_many n ≡ never → n ≤ ELEMENTS
-not_too_many n h = by_test (nat_lt ELEMENTS n) refl h
-  where
-    by_test : (b : Bool) → nat_lt ELEMENTS n ≡ b → (if b then exception else never) ≡ never → n ≤ ELEMENTS
-    by_test true t e = absurd (cc)
-    by_test false t e = ltb-false ELEMENTS n t
-
--- a test that fails isn't true
-pub no_fails : (b : Bool) (kind a : ℕ) → fails_if b kind a ≡ [] → b ≡ false
-no_fails true kind a h = absurd (cc)
-no_fails false kind a h = refl
 
 -- ## Edits of the object
 
@@ -151,7 +138,7 @@ refilled-fine class s xs b there few =
 
 -- the elements of a container are as many as it has
 items-length : (c : Cont) → length (items c) ≡ size c
-items-length c = length-map (λ (x : Cell). (x.key, x.value)) c.cells
+items-length c = length-map c.cells (λ (x : Cell). (x.key, x.value))
 
 -- ## New containers
 
@@ -271,33 +258,15 @@ insert_keys-fine class s xs there few =
 
 -- ## Operands that are containers
 
--- a container of a form that is there
-there_of_form : (m : Memory) (form : Form) (j : ℕ) → is_of_form form (slice_get m.conts j) ≡ true → IsThere m j
-there_of_form m form j h = own_there form (record { memory = m; object = j; values = []; picks = []; site = 0 }) h
-
 -- the first operand is a container
 first_container : (m : Memory) (form : Form) (sorts : List Sort) (vs : List Value) → are_of m (a_container form ∷ sorts) vs ≡ true
     → IsThere m (container_of_value m (slice_index_or vs 0 no_result))
-first_container m form sorts [] h = absurd (cc)
-first_container m form sorts (v ∷ vs) h = by_value v (both_left (is_of m (a_container form) v) (are_of m sorts vs) h)
-  where
-    by_value : (v : Value) → is_of m (a_container form) v ≡ true → IsThere m (container_of_value m v)
-    by_value no_result h = absurd (cc)
-    by_value (number z) h = absurd (cc)
-    by_value (iterator x) h = absurd (cc)
-    by_value (pair x b) h = absurd (cc)
-    by_value (two x y) h = absurd (cc)
-    by_value (scalar_at l) h = absurd (cc)
-    by_value (container_at j) h = there_of_form m form j h
-    by_value (element_at i k p) h = absurd (cc)
+first_container m form sorts vs h = cont_there m form (container_of_value m (slice_index_or vs 0 no_result)) (first_of_form m form sorts vs h)
 
 -- the second operand behind an iterator is one
 second_container : (m : Memory) (form : Form) (sorts : List Sort) (vs : List Value) → are_of m (an_iterator ∷ a_container form ∷ sorts) vs ≡ true
     → IsThere m (container_of_value m (slice_index_or vs 1 no_result))
-second_container m form sorts [] h = absurd (cc)
-second_container m form sorts (v ∷ []) h = absurd (let q = both_right (is_of m an_iterator v) (are_of m (a_container form ∷ sorts) []) h in cc)
-second_container m form sorts (v ∷ w ∷ vs) h =
-    first_container m form sorts (w ∷ vs) (both_right (is_of m an_iterator v) (are_of m (a_container form ∷ sorts) (w ∷ vs)) h)
+second_container m form sorts vs h = cont_there m form (container_of_value m (slice_index_or vs 1 no_result)) (second_of_form m form sorts vs h)
 
 -- two numbers that aren't one
 not_same : (a b : ℕ) → (a == b) ≡ false → b ≢ a
@@ -433,7 +402,7 @@ copied_few s a sound = let l = items-length (their s a) in let m = any_small s.m
 
 -- ints as elements are as many
 as_items-length : (xs : List ℤ) → length (as_items xs) ≡ length xs
-as_items-length xs = length-map item xs
+as_items-length xs = length-map xs item
 
 listed-length : (vs : List Value) → length (listed vs) ≡ length vs
 listed-length [] = refl

@@ -2,6 +2,7 @@
 use Rattle.std.proofs.Common.{◌≡◌, ◌≢◌, ℕ, suc, ◌+◌, ◌-◌, ◌<◌, ◌≤◌, Bool, true, false, List, [], ◌∷◌, Option, Some, None, length, map, refl}
 use Rattle.std.proofs.Common.{ap, sym, ◌∙◌, arith, ◌⊎◌, inl, inr, ℤ, if◌then◌else◌}
 use Rattle.std.specs.List.{slice_get}
+use Rattle.std.proofs.lemmas.List.{length-map}
 use Rattle.sl_base.specs.declared.form.Form.{Form}
 use Rattle.sl_base.specs.declared.limits.TheConstants.{ELEMENTS}
 use Rattle.sl_specs.specs.declared.class.Class.{Class}
@@ -17,7 +18,6 @@ use Rattle.sl_model.specs.Numbers.{converted}
 use Rattle.sl_model.specs.Orders.{has}
 use Rattle.sl_model.specs.Forms.{holds_equal_keys}
 use Rattle.sl_model.specs.KeyActions.{count_new, new_keys}
-use Rattle.sl_model.proofs.Counts.{length-map}
 use Rattle.sl_model.specs.Good.{Stands, IsSound}
 use Rattle.sl_model.proofs.After.{Leaves, get-after-own, cont_at-after-own, cont_of_there, size-changed, change-leaves}
 use Rattle.sl_model.proofs.AfterTwo.{trade-leaves}
@@ -266,7 +266,7 @@ does-leaves form class s (makes_by_keys n' room xs) sound h =
     let z : size (cont_at (made form room [] s.memory) s.object) ≡ 0 = ap (λ (d : Cont). size d) is ∙ fresh-size form room [] s.memory in
     let n : new_keys (cont_at (made form room [] s.memory) s.object) (keys_in xs) ≤ length (keys_in xs) =
     new_keys-most (cont_at (made form room [] s.memory) s.object) (keys_in xs) in
-    let l : length (keys_in xs) ≡ length xs = length-map (λ (x : ℤ × ℤ). x.0) xs in
+    let l : length (keys_in xs) ≡ length xs = length-map xs (λ (x : ℤ × ℤ). x.0) in
     let rest = insert_all-leaves class s.site s.object xs (record { memory = made form room [] s.memory; picks = after_picks n' s.picks })
     first.sound (at ∙ ap (λ (x : Cont). Some x) (sym is)) (let g : length xs ≤ ELEMENTS = h.1 in omega arith) in
     leaves-then s.memory (made form room [] s.memory) (does form class s (makes_by_keys n' room xs)).memory s.site first rest.0 rest.1

@@ -1,7 +1,9 @@
 -- What each row has to be: where it is called, its needs hold and nothing stops it, its effect is fine.
-use Rattle.std.proofs.Common.{◌≡◌, Bool, true, false, Some, None}
+use Rattle.std.proofs.Common.{◌≡◌, Bool, true, false, Some, None, ℕ, ◌≤◌, nat_lt, [], if◌then◌else◌}
 use Rattle.std.proofs.Common.{refl, arith}
 use Rattle.std.proofs.lemmas.Bool.Decides.{nat_tests}
+use Rattle.std.proofs.lemmas.Bool.{ltb-false}
+use Rattle.sl_base.specs.declared.limits.TheConstants.{ELEMENTS}
 use Rattle.sl_base.specs.declared.form.Form.{Form}
 use Rattle.sl_specs.specs.declared.call.Call.{Call}
 use Rattle.sl_specs.specs.declared.call.Call.TheVariants as c
@@ -11,8 +13,8 @@ use Rattle.sl_specs.specs.Rows.{Line, row_of as row_of_line}
 use Rattle.sl_model.specs.Classes.{Edit}
 use Rattle.sl_model.specs.Containers.{Cont}
 use Rattle.sl_model.specs.Situation.{Situation}
-use Rattle.sl_model.specs.Needs.{first_failure}
-use Rattle.sl_model.specs.Actions.{never}
+use Rattle.sl_model.specs.Needs.{first_failure, fails_if}
+use Rattle.sl_model.specs.Actions.{never, too_many, exception}
 use Rattle.sl_model.specs.Rows.{Row, member_row}
 use Rattle.sl_model.specs.Good.{IsSound}
 use Rattle.sl_model.proofs.Called.{IsCalled}
@@ -65,3 +67,16 @@ class_buries classes.Swap h d e = absurd (cc)
 abbrev pub LineIsFine : Line → Type 0
 LineIsFine x = (form : Form) (class : Class) → (erases x.call ≡ true → buries class ≡ true)
     → RowIsFine (member_row form (row_of_line (Some form) x class))
+
+-- a test at which nothing fails
+pub no_fails : (b : Bool) (kind a : ℕ) → fails_if b kind a ≡ [] → b ≡ false
+no_fails true kind a h = absurd (cc)
+no_fails false kind a h = refl
+
+-- a number that is no exception isn't too great
+pub not_too_many : (n : ℕ) → too_many n ≡ never → n ≤ ELEMENTS
+not_too_many n h = by_test (nat_lt ELEMENTS n) refl h
+  where
+    by_test : (b : Bool) → nat_lt ELEMENTS n ≡ b → (if b then exception else never) ≡ never → n ≤ ELEMENTS
+    by_test true t e = absurd (cc)
+    by_test false t e = ltb-false ELEMENTS n t

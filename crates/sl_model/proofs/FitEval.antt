@@ -1,5 +1,6 @@
 -- Each expression that has a type gives what is of its type, and what lies on the stacks stays of its type: no end is for want of a meaning.
 use Rattle.std.proofs.Common.{◌≡◌, ◌<◌, ℕ, ◌==◌, Bool, true, false, not, ◌&&◌, ◌||◌, List, ◌∷◌, Option, Some, None, length, refl, sym, ap}
+use Rattle.std.proofs.lemmas.Bool.{not-true}
 use Rattle.std.proofs.Common.{subst, inl, inr, option_map}
 use Rattle.std.specs.Prelude.{ℤ, pos, slice_get, slice_index}
 use Rattle.sl_base.specs.declared.place.Place.{Place}
@@ -33,7 +34,6 @@ use Rattle.sl_model.specs.WellTypedExpressions.{is_variable, type_of, type_of_le
 use Rattle.sl_model.proofs.Passing.{first_of_both, second_of_both}
 use Rattle.sl_model.proofs.TypedOperands.{typed_by, only_holds, only_rest, all_typed}
 use Rattle.sl_model.proofs.TypedCalls.{call_known}
-use Rattle.sl_model.proofs.TypedRows.{not_so}
 use Rattle.sl_model.proofs.TypedParts.{converted_number, negated_number, inverted_number, numbers_of_and, numbers_of_or}
 use Rattle.sl_model.proofs.TypedParts.{calculated_numbers, compared_numbers, stepped_number, moving_call, value_call, element_call, function_call}
 use Rattle.sl_model.proofs.TypedParts.{first_stands, second_stands}
@@ -313,7 +313,7 @@ module _ (w : World) (sig : Signature) (lib_keeps : KeepsGood sig.shape sig.make
         (given_value u m v (only_rest (not (is_moving hd.callee)) (only_value u) t) given))
         (fit_call L d (gifts_of sig ops) (types_of g ops) (λ m v. IsGiven m u v) (eval_all w ops s) (use_library w.lib hd)
         (at_all w sig lib_keeps own_keeps L ops d.used s i.1 h) (fit_all ops d s q i.1 all.0 h f)
-        (λ vs s j fits k. fit_library d hd (types_of g ops) vs s q (not_so (is_moving hd.callee) parts.0) parts.1 i.0.1 j.now j.used fits k))
+        (λ vs s j fits k. fit_library d hd (types_of g ops) vs s q (not-true (is_moving hd.callee) parts.0) parts.1 i.0.1 j.now j.used fits k))
     fit_eval (own_call n at ops) d s q i t h f =
         let typed = function_call g n at ops t in
         let all = function_known g.functions n (not (n == g.main)) (slice_get g.functions n) (types_of g ops) refl typed in

@@ -30,7 +30,8 @@ use Rattle.sl_model.specs.WellTypedTypes.{ExprType, scalar_type, element_type, i
 use Rattle.sl_model.specs.WellTypedTypes.{is_const}
 use Rattle.sl_model.specs.WellTypedStatements.{in_range}
 use Rattle.sl_model.proofs.Getting.{get_map, got_map, get_left, get_within}
-use Rattle.sl_model.proofs.Placing.{end_stands, place_stands}
+use Rattle.sl_model.proofs.Columns.{stamp_of_end}
+use Rattle.sl_model.proofs.Placing.{place_stands}
 use Rattle.sl_model.proofs.Fitting.{forms_of, StampFits, IsElement, IsGiven, FitsTypes}
 use Rattle.sl_model.proofs.Levels.{Level, Now, with_iterator, set_scalar-now, set_iterator-now}
 use Rattle.sl_model.proofs.Gifts.{KeepsGood, Gave, at_element, gave_as}
@@ -75,7 +76,7 @@ end_fits m j form sound e = by_cont (got_map (λ (x : Cont). x.form) m.conts j f
   where
     by_cont : (x : Cont) × (slice_get m.conts j ≡ Some x) × (x.form ≡ form) → StampFits m form (end_of m j)
     by_cont r = subst (λ (x : Cont). StampFits m form x.end) (sym (get_or_from_slice_get m.conts j r.0 (not_one m) r.1))
-        (standing_fits m j (size r.0) r.0.end r.0 form sound r.1 (end_stands r.0) r.2)
+        (standing_fits m j (size r.0) r.0.end r.0 form sound r.1 (stamp_of_end r.0) r.2)
 
 -- the form in the type of a container
 abbrev pub form_in : ExprType → Form

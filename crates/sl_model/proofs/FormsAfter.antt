@@ -11,13 +11,14 @@ use Rattle.sl_model.specs.Containers.{Cell, Cont, Memory, size, stamps, cont_at,
 use Rattle.sl_model.specs.Containers.{end_from}
 use Rattle.sl_model.specs.Edits.{Source, old, written, theirs, new, Change, mark_after, stayed, from_source, rebuilt, changed, next_of_two, after}
 use Rattle.sl_model.specs.Edits.{after_two}
-use Rattle.sl_model.proofs.After.{cont_of_there}
+use Rattle.sl_model.proofs.After.{cont_of_there, cont_of_none}
 use Rattle.sl_model.proofs.Ending.{map_take}
 use Rattle.sl_model.proofs.Fitting.{forms_of, StampFits, KeepsForms}
 use Rattle.sl_model.proofs.Getting.{get_left, get_take, map_set}
 use Rattle.sl_model.proofs.Making.{last_one, map_last, fresh_cont, fresh_stamps, fresh_stamps-between}
-use Rattle.sl_model.proofs.Moved.{cell-stamp, stamp-cell, end-stamp, element_or_end, blank, sources-got}
+use Rattle.sl_model.proofs.Moved.{stamp-cell, element_or_end, blank, sources-got}
 use Rattle.sl_model.proofs.Writing.{cont_with-same}
+use Rattle.sl_model.proofs.Columns.{stamp_of_end, stamp_there}
 
 -- ## Stamps that stood before
 
@@ -57,18 +58,13 @@ held-at m j k stamp low at = by_cont (slice_get m.conts j) refl
     missing : Cont
     missing = record { form = f.Vector; cells = []; end = m.fresh; room = 0 }
 
-    not_there : (xs : List Cont) (i : ℕ) (d : Cont) → slice_get xs i ≡ None → slice_index_or xs i d ≡ d
-    not_there [] i d h = refl
-    not_there (x ∷ xs) zero d h = absurd (cc)
-    not_there (x ∷ xs) (suc i) d h = not_there xs i d h
-
     end_alone : (i : ℕ) → slice_get (m.fresh ∷ []) i ≡ Some stamp → m.fresh ≡ stamp
     end_alone zero h = cc
     end_alone (suc i) h = absurd (cc)
 
     by_cont : (o : Option Cont) → slice_get m.conts j ≡ o → Stood m (cont_at m j).form stamp
     by_cont None e =
-        let q : cont_at m j ≡ missing = not_there m.conts j missing e in
+        let q : cont_at m j ≡ missing = cont_of_none m j e in
         let h : slice_get (stamps missing) k ≡ Some stamp = subst (λ (d : Cont). slice_get (stamps d) k ≡ Some stamp) q at in
         let r : m.fresh ≡ stamp = end_alone k h in
         absurd (omega arith)
@@ -119,7 +115,7 @@ module _ (ch : Change) (base next fresh : ℕ) (own other : Cont) (base_up : fre
         | Some x ↦ record x { stamp = mark_after ch.kill base k x.stamp; refer = mark_after ch.lose base k x.refer }
       ]).stamp ≡ s → Came s
       by_cell None e h = absurd (omega arith)
-      by_cell (Some x) e h = inl (k, cell-stamp own k x e ∙ ap (λ (n : ℕ). Some n) (used_mark k x.stamp s h low))
+      by_cell (Some x) e h = inl (k, stamp_there own k x e ∙ ap (λ (n : ℕ). Some n) (used_mark k x.stamp s h low))
 
   -- and of one that comes over
   over_came : (p k s : ℕ) → (elim (slice_get other.cells k) as (λ _. Cell) [ None ↦ blank (next + p) | Some x ↦ x ]).stamp ≡ s → s < fresh → Came s
@@ -127,7 +123,7 @@ module _ (ch : Change) (base next fresh : ℕ) (own other : Cont) (base_up : fre
     where
       by_cell : (o : Option Cell) → slice_get other.cells k ≡ o → (elim o as (λ _. Cell) [ None ↦ blank (next + p) | Some x ↦ x ]).stamp ≡ s → Came s
       by_cell None e h = absurd (omega arith)
-      by_cell (Some x) e h = inr (k, cell-stamp other k x e ∙ ap (λ (n : ℕ). Some n) h)
+      by_cell (Some x) e h = inr (k, stamp_there other k x e ∙ ap (λ (n : ℕ). Some n) h)
 
   -- the stamp of each element
   source_came : (p : ℕ) (x : Source) (s : ℕ) → (from_source ch base own other (blank (next + p)) x).stamp ≡ s → s < fresh → Came s
@@ -146,7 +142,7 @@ module _ (ch : Change) (base next fresh : ℕ) (own other : Cont) (base_up : fre
           let y = stamp-cell (rebuilt base next ch own other) k s at within in
           let x = sources-got ch base own other next ch.sources k y.0 y.1 in
           source_came k x.0 s (ap (λ (z : Cell). z.stamp) x.2 ∙ y.2) low
-      by_place (inr e) = inl (size own, end-stamp own ∙ ap (λ (n : ℕ). Some n) (used_mark (size own) own.end s e.1 low))
+      by_place (inr e) = inl (size own, stamp_of_end own ∙ ap (λ (n : ℕ). Some n) (used_mark (size own) own.end s e.1 low))
 
 -- where both are of one form, it stood in a container of that form
 rebuilt-held : (m : Memory) (ch : Change) (base next : ℕ) (own other : Cont) → m.fresh ≤ base → m.fresh ≤ next → own.form ≡ other.form

@@ -32,7 +32,7 @@ use Rattle.sl_model.proofs.Called.{HasObject, IsCalled, own_form}
 use Rattle.sl_model.proofs.FormsEffects.{TradesOneForm}
 use Rattle.sl_model.proofs.TableRows.{all_table, row-holds}
 use Rattle.sl_model.proofs.Tells.{AllOf, all_parts, all_rows_on}
-use Rattle.sl_model.proofs.TidyRows.{first_of_form, second_of_form, form_there}
+use Rattle.sl_model.proofs.OperandForms.{first_of_form, second_of_form, form_there}
 
 -- wherever a row is called, it exchanges elements between containers of one form alone
 abbrev pub RowTradesOneForm : Row → Type 0

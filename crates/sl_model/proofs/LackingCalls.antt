@@ -1,6 +1,7 @@
 -- A run over a library that lacks calls which another one has is the same, but where it meets a call that is lacking. Here: calls and whole runs, and
 -- so the run of a text that stays small.
-use Rattle.std.proofs.Common.{◌≡◌, ◌≢◌, ◌==◌, refl, subst, ℕ, zero, suc, List, [], Bool, true, false, not, ℤ, Option, Some, None, slice_get}
+use Rattle.std.proofs.Common.{◌≡◌, ◌≢◌, ◌==◌, refl, subst, ℕ, zero, suc, List, [], Bool, true, false, ℤ, Option, Some, None, slice_get}
+use Rattle.std.proofs.lemmas.Bool.{not-true}
 use Rattle.std.specs.Prelude.{if◌then◌else◌}
 use Rattle.sl_base.specs.declared.place.Place.{Place}
 use Rattle.sl_base.specs.declared.limits.TheConstants.{CALLS, WINDOW}
@@ -77,17 +78,12 @@ unless_above-lacks n (gives v m picks) = elim (holds_at_most n m) as (λ b. Lack
     [ true ↦ same_answer _ | false ↦ no_answer _ ]
 unless_above-lacks n unbuilt = same_answer _
 
--- what isn't true is false
-not_true : (b : Bool) → not b ≡ true → b ≡ false
-not_true true h = absurd cc
-not_true false h = refl
-
 -- the run of a text that stays small is the one over the library without the calls that leave more than 64 elements in a container
 pub small_is_same : (p : Typed) → stays_small p ≡ true
     → out_of (lib_within WINDOW) p [] [] decided_steps ≡ main_out p [] [] decided_steps
 unfolding stays_small
 small_is_same p h = lacking_runs (lib_within WINDOW) lib (λ callee a m picks. unless_above-lacks WINDOW (lib callee a m picks)) p [] [] decided_steps
-    (not_true (is_without_meaning (run_over (lib_within WINDOW) p [] [] decided_steps).end) h)
+    (not-true (is_without_meaning (run_over (lib_within WINDOW) p [] [] decided_steps).end) h)
 
 -- an end that has a meaning isn't one without
 meant : (x : End) (at : Place) → is_without_meaning x ≡ false → x ≢ NoMeaning at
@@ -97,4 +93,4 @@ meant x at h e = absurd cc
 pub small_has_meaning : (p : Typed) → stays_small p ≡ true → (at : Place) → (run p [] [] decided_steps).end ≢ NoMeaning at
 unfolding stays_small
 small_has_meaning p h at = meant (run p [] [] decided_steps).end at (subst (λ (x : Out). is_without_meaning (finished x).end ≡ false)
-    (small_is_same p h) (not_true (is_without_meaning (run_over (lib_within WINDOW) p [] [] decided_steps).end) h))
+    (small_is_same p h) (not-true (is_without_meaning (run_over (lib_within WINDOW) p [] [] decided_steps).end) h))

@@ -40,6 +40,7 @@ pub mod OutputsTell
 pub mod AlgorithmRowsTell
 -- ## Each row is fine: its effect leaves a sound memory sound, and no mark vanishes
 pub mod FineRows
+pub mod OperandForms
 pub mod FineContainers
 pub mod TableRows
 pub mod FineAlgorithms
@@ -102,7 +103,6 @@ pub mod TypedRows
 pub mod TableLetters
 pub mod RowIsThere
 pub mod RowMeant
-pub mod MovingFirst
 pub mod GivenIn
 pub mod ContainersGiveIn
 pub mod AlgorithmsGiveIn
@@ -119,6 +119,7 @@ pub mod ScopedScopes
 pub mod ScopedStatements
 pub mod ScopedTexts
 pub mod OperatorsFit
+pub mod MovingFirst
 pub mod CallsFit
 pub mod LibraryFits
 -- ## A well typed text never ends for want of a meaning

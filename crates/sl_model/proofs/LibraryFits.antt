@@ -27,13 +27,13 @@ use Rattle.sl_model.proofs.LibraryForms.{forms_with, made_by, row-forms}
 use Rattle.sl_model.proofs.RowIsThere.{RowIsCalled, typed_called, making_called, compares_done, reads_done, steps_done}
 use Rattle.sl_model.proofs.RowMeant.{row_meant}
 use Rattle.sl_model.proofs.MovingFirst.{moving_first}
-use Rattle.sl_model.proofs.AnswersFit.{IsDone, RowGives}
+use Rattle.sl_model.proofs.AnswersFit.{IsCarriedOut, RowGives}
 use Rattle.sl_model.proofs.OperatorsFit.{element-read, number-told, iterator-moved}
 use Rattle.sl_model.proofs.CallsFit.{call-given, moving-given}
 
 -- a row that is called in a sound memory, whose needs hold and which nothing stops, leaves a sound memory and keeps forms
 done : (callee : Callee) (r : Row) → row_of callee ≡ Some r → (s : Situation) → IsSound s.memory → IsCalled r s
-    → first_failure (r.fails s) ≡ None → r.action.stops s ≡ never → IsDone (made_by r) r s
+    → first_failure (r.fails s) ≡ None → r.action.stops s ≡ never → IsCarriedOut (made_by r) r s
 done callee r e s sound called none go = record {
   called = called;
   needs = none;
@@ -56,17 +56,17 @@ none_made g callee object us r e has = none_with r.object (ap row_makes (sym e) 
 -- a call of a row that is there has a meaning, where what the row gives is of the type
 meant : (more : List Form) (u : ExprType) (callee : Callee) (r : Row) (a : Args) (m : Memory) (picks : List ℕ) (j : ℕ) → row_of callee ≡ Some r
     → made_by r ≡ more → IsSound m → IsCalled r (situation a m picks j) → lib callee a m picks ≡ row_out r (situation a m picks j)
-    → (IsDone more r (situation a m picks j) → RowGives r (situation a m picks j) u) → IsMeant more m u (lib callee a m picks)
+    → (IsCarriedOut more r (situation a m picks j) → RowGives r (situation a m picks j) u) → IsMeant more m u (lib callee a m picks)
 meant more u callee r a m picks j e made sound called out given =
     subst (λ (o : LibOut). IsMeant more m u o) (sym out) (row_meant more u r (situation a m picks j) (λ none go.
-    let d : IsDone more r (situation a m picks j) =
-    subst (λ (forms : List Form). IsDone forms r (situation a m picks j)) made (done callee r e (situation a m picks j) sound called none go) in
+    let d : IsCarriedOut more r (situation a m picks j) =
+    subst (λ (forms : List Form). IsCarriedOut forms r (situation a m picks j)) made (done callee r e (situation a m picks j) sound called none go) in
     record { kept = d.kept; given = given d }))
 
 -- a typed call
 typed_meant : (g : Scope) (callee : Callee) (object : Option ℕ) (us : List ExprType) (a : Args) (m : Memory) (picks : List ℕ) (u : ExprType)
     → has_type (call_type g callee object us) ≡ true → ObjectFits m g object a.object → OperandsFit m us a.values
-    → ((r : Row) (s : Situation) → row_of callee ≡ Some r → AllFit s.memory us s.values → IsDone [] r s → RowGives r s u)
+    → ((r : Row) (s : Situation) → row_of callee ≡ Some r → AllFit s.memory us s.values → IsCarriedOut [] r s → RowGives r s u)
     → IsMeant [] m u (lib callee a m picks)
 typed_meant g callee object us a m picks u has there ops given = by_row (typed_called g callee object us a m picks has there ops.fit)
   where

@@ -7,7 +7,6 @@ use Rattle.sl_model.specs.Needs.{first_failure}
 use Rattle.sl_model.specs.Actions.{Effect}
 use Rattle.sl_model.specs.Rows.{Object, of_form, new_one, of_first, Row, row_of}
 use Rattle.sl_model.specs.Library.{form_of}
-use Rattle.sl_model.specs.Good.{IsSound}
 use Rattle.sl_model.specs.Shapes.{is_new_one}
 use Rattle.sl_model.proofs.Called.{IsCalled}
 use Rattle.sl_model.proofs.Fitting.{KeepsForms}
@@ -45,8 +44,3 @@ one-keeps r tells trades s called none = subst (λ (more : List Form). KeepsForm
 -- each row of what is called keeps forms
 pub row-forms : (callee : Callee) (r : Row) → row_of callee ≡ Some r → RowKeepsForms r
 row-forms callee r e = one-keeps r (row-tells callee r e) (row-trades callee r e)
-
--- so does each call in a sound memory
-pub lib-forms : (callee : Callee) (r : Row) → row_of callee ≡ Some r → (s : Situation) → IsCalled r s → IsSound s.memory
-    → first_failure (r.fails s) ≡ None → KeepsForms (made_by r) s.memory (memory_after r s)
-lib-forms callee r e s called sound none = row-forms callee r e s called none

@@ -29,6 +29,7 @@ use Rattle.sl_model.proofs.FineEffects.{does-leaves}
 use Rattle.sl_model.proofs.FineRows.{RowIsFine, erases, buries, LineIsFine}
 use Rattle.sl_model.proofs.FineContainers.{containers-fine, multis-fine}
 use Rattle.sl_model.proofs.FineAlgorithms.{algorithms-fine, appending-fine, operator-fine}
+use Rattle.sl_model.proofs.Passing.{first_of_both, second_of_both}
 
 -- what a library has to be: each call leaves a sound memory sound, and lets nothing vanish
 abbrev pub KeepsMemory : Lib → Type 0
@@ -55,20 +56,12 @@ container_lines-bury = refl
 multi_lines-bury : all_lines_bury multi_lines ≡ true
 multi_lines-bury = refl
 
--- both of two that hold together
-left_holds : (a b : Bool) → (a && b) ≡ true → a ≡ true
-left_holds true b h = refl
-left_holds false b h = absurd (cc)
-
-right_holds : (a b : Bool) → (a && b) ≡ true → b ≡ true
-right_holds true b h = h
-right_holds false b h = absurd (cc)
-
 -- the class of a form is one of these
 class_of_form : (form : Form) (xs : List (Form × Class)) (class : Class) → class_on form xs ≡ Some class → all_bury xs ≡ true → buries class ≡ true
 class_of_form form [] class e h = absurd (cc)
 class_of_form form (x ∷ xs) class e h =
-    by_form (same_form x.0 form) e (left_holds (buries x.1) (all_bury xs) h) (right_holds (buries x.1) (all_bury xs) h) (class_of_form form xs class)
+    by_form (same_form x.0 form) e (first_of_both (buries x.1) (all_bury xs) h) (second_of_both (buries x.1) (all_bury xs) h)
+    (class_of_form form xs class)
   where
     by_form : (b : Bool) → option_map (λ (y : Form × Class). y.1) (if b then Some x else find (λ (y : Form × Class). same_form y.0 form) xs) ≡ Some class
         → buries x.1 ≡ true → all_bury xs ≡ true → (class_on form xs ≡ Some class → all_bury xs ≡ true → buries class ≡ true) → buries class ≡ true
@@ -89,13 +82,13 @@ rows-fine : (form : Form) (lines : List Line) → all_lines_bury lines ≡ true 
     → AllOf (λ r. RowIsFine (member_row form r)) (rows_on form lines)
 rows-fine form [] b h = tt
 rows-fine form (x ∷ xs) b h =
-    by_class (class_on form x.classes) refl (rows-fine form xs (right_holds (line_buries x) (all_lines_bury xs) b) h.1)
+    by_class (class_on form x.classes) refl (rows-fine form xs (second_of_both (line_buries x) (all_lines_bury xs) b) h.1)
   where
     by_class : (o : Option Class) → class_on form x.classes ≡ o → AllOf (λ r. RowIsFine (member_row form r)) (rows_on form xs)
         → AllOf (λ r. RowIsFine (member_row form r)) (cons_option (option_map (row_of_line (Some form) x) o) (rows_on form xs))
     by_class None e rest = rest
     by_class (Some class) e rest =
-        (h.0 form class (λ t. line_class x form class (left_holds (line_buries x) (all_lines_bury xs) b) e t), rest)
+        (h.0 form class (λ t. line_class x form class (first_of_both (line_buries x) (all_lines_bury xs) b) e t), rest)
 
 -- they are rows on containers
 rows-meant : (appends : Bool) (form : Form) (lines : List Line) → AllOf (λ r. RowIsFine (member_row form r)) (rows_on form lines)

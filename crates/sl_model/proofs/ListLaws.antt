@@ -1,46 +1,36 @@
 -- Bytes hold one list, or are bad at one offset, and not both; and what begins a list is what some bytes more make one.
-use Rattle.std.proofs.Common.{◌≡◌, ℕ, zero, suc, ◌+◌, ◌≤◌, ◌<◌, nat_le, Bool, true, false, ◌&&◌, ◌||◌, List, [], ◌∷◌, ◌++◌, length, map, take, drop}
+use Rattle.std.proofs.Common.{◌≡◌, ℕ, zero, suc, ◌+◌, ◌≤◌, ◌<◌, nat_le, Bool, true, false, ◌&&◌, List, [], ◌∷◌, ◌++◌, length, map, take, drop}
 use Rattle.std.proofs.Common.{All, get_or, ℤ, nat_lt, if◌then◌else◌}
 use Rattle.std.proofs.Common.{Option, Some, None, is_some, refl, ap, sym, ◌∙◌, arith, ◌⊎◌, inl, inr, ⊎_elim, append-nil, append_assoc, length-append}
 use Rattle.std.proofs.Common.{take-take, take_all, take-append-drop, ap₂}
 use Rattle.std.specs.List.{list_all}
 use Rattle.std.proofs.lemmas.List.Elements.{All-nil, All-cons}
-use Rattle.std.proofs.lemmas.Bool.{cases_lt, cases_Bool, leb-true, le-leb, ltb-true}
+use Rattle.std.proofs.lemmas.Bool.{cases_lt, cases_Bool, leb-true, le-leb, ltb-true, and_from, or_cases, or_left, or_right}
+pub use Rattle.std.proofs.lemmas.Bool.{false_from_ne_true as not_true}
 use Rattle.sl_base.specs.declared.scalar.Scalar.TheVariants as t
 use Rattle.sl_model.specs.Covers.{IsInput, IsSchedule}
 use Rattle.sl_model.specs.Numbers.{fits}
 use Rattle.sl_model.specs.Lists.{natural_of, signed_of, passing, int_of, pick_of, LIST_NUMBERS, LIST_BYTES, words_of, ListOf}
 use Rattle.sl_model.specs.Lists.{is_list, begins_list, BadAt, at_byte, at_end}
-use Rattle.sl_model.proofs.ListWords.{Completes, and_left, and_right, and_both}
+use Rattle.sl_model.proofs.ListWords.{Completes}
 use Rattle.sl_model.proofs.ListParts.{parts_of, counted, told, Within, glue_none, carried, completed_parts}
-
-or_cases : (a b : Bool) → (a || b) ≡ true → (a ≡ true) ⊎ (b ≡ true)
-or_cases true b h = inl refl
-or_cases false b h = inr h
-
-or_left : (a b : Bool) → a ≡ true → (a || b) ≡ true
-or_left true b h = refl
-or_left false b h = absurd (cc)
-
-or_right : (a b : Bool) → b ≡ true → (a || b) ≡ true
-or_right true b h = refl
-or_right false b h = h
+use Rattle.sl_model.proofs.Passing.{first_of_both, second_of_both}
 
 -- a list, by its parts
 pub in_parts : {A : Type 0} (number : List ℕ → Option A) (bytes : List ℕ) → is_list number bytes ≡ true
     → (length bytes ≤ LIST_BYTES) × (counted (parts_of bytes) ≤ LIST_NUMBERS) × (told number (parts_of bytes) ≡ true)
 in_parts number bytes h =
     let r : (nat_le (counted (parts_of bytes)) LIST_NUMBERS && told number (parts_of bytes)) ≡ true
-    = and_right (nat_le (length bytes) LIST_BYTES) _ h in (
-      leb-true (length bytes) LIST_BYTES (and_left (nat_le (length bytes) LIST_BYTES) _ h),
-      leb-true (counted (parts_of bytes)) LIST_NUMBERS (and_left (nat_le (counted (parts_of bytes)) LIST_NUMBERS) _ r),
-      and_right (nat_le (counted (parts_of bytes)) LIST_NUMBERS) _ r,
+    = second_of_both (nat_le (length bytes) LIST_BYTES) _ h in (
+      leb-true (length bytes) LIST_BYTES (first_of_both (nat_le (length bytes) LIST_BYTES) _ h),
+      leb-true (counted (parts_of bytes)) LIST_NUMBERS (first_of_both (nat_le (counted (parts_of bytes)) LIST_NUMBERS) _ r),
+      second_of_both (nat_le (counted (parts_of bytes)) LIST_NUMBERS) _ r,
     )
 
 pub from_parts : {A : Type 0} (number : List ℕ → Option A) (bytes : List ℕ) → length bytes ≤ LIST_BYTES → counted (parts_of bytes) ≤ LIST_NUMBERS
     → told number (parts_of bytes) ≡ true → is_list number bytes ≡ true
-from_parts number bytes short few h = and_both (nat_le (length bytes) LIST_BYTES) _ (le-leb (length bytes) LIST_BYTES short)
-    (and_both (nat_le (counted (parts_of bytes)) LIST_NUMBERS) _ (le-leb (counted (parts_of bytes)) LIST_NUMBERS few) h)
+from_parts number bytes short few h = and_from (nat_le (length bytes) LIST_BYTES) _ (le-leb (length bytes) LIST_BYTES short)
+    (and_from (nat_le (counted (parts_of bytes)) LIST_NUMBERS) _ (le-leb (counted (parts_of bytes)) LIST_NUMBERS few) h)
 
 -- bytes that some more make a list begin one
 pub completed : {A : Type 0} (number : List ℕ → Option A) → Completes number → (bytes more : List ℕ) → is_list number (bytes ++ more) ≡ true
@@ -88,7 +78,7 @@ all_some number (w ∷ ws) (x ∷ xs) e =
     let first : number w ≡ Some x = cc in
     let others : map number ws ≡ map Some xs = cc in
     let r = all_some number ws xs others in
-    (and_both (is_some (number w)) _ (ap is_some first) r.0, ap suc r.1)
+    (and_from (is_some (number w)) _ (ap is_some first) r.0, ap suc r.1)
 
 -- bytes that hold the list of some numbers hold a list
 pub list_is : {A : Type 0} (number : List ℕ → Option A) (bytes : List ℕ) (numbers : List A) → ListOf number bytes numbers
@@ -127,9 +117,6 @@ list_of number bytes h =
     let r = in_parts number bytes h in
     let n = numbers_of number (words_of bytes) r.2 in
     (n.0, record { short = r.0; few = omega (arith, r.1, (all_some number (words_of bytes) n.0 n.1).1); each = n.1 })
-
-pub not_true : (b : Bool) → (b ≡ true → ⊥) → b ≡ false
-not_true b never = ⊎_elim (λ (h : b ≡ true). absurd (never h)) (λ (h : b ≡ false). h) (cases_Bool b)
 
 -- what begins a list behind a bad byte
 none_behind : {A : Type 0} (number : List ℕ → Option A) → Completes number → (bytes : List ℕ) (i j : ℕ) → i < j

@@ -3,9 +3,11 @@ use Rattle.std.proofs.Common.{◌≡◌, ℕ, ◌+◌, ◌≤◌, ◌<◌, Bool,
 use Rattle.std.proofs.Common.{refl, ap, ◌∙◌, subst, arith, ◌⊎◌, inl, inr, ⊎_elim, append-nil, append_assoc}
 use Rattle.std.specs.List.{list_all, slice_split, onto_first}
 use Rattle.std.proofs.lemmas.List.Splits.{length-slice_split}
+use Rattle.std.proofs.lemmas.Bool.{and_from}
 use Rattle.sl_base.specs.Bytes.{is_blank}
 use Rattle.sl_model.specs.Lists.{is_filled}
-use Rattle.sl_model.proofs.ListWords.{Completes, and_left, and_right, and_both}
+use Rattle.sl_model.proofs.ListWords.{Completes}
+use Rattle.sl_model.proofs.Passing.{first_of_both, second_of_both}
 
 -- the parts between blanks
 abbrev pub parts_of : List ℕ → List (List ℕ)
@@ -45,14 +47,16 @@ glue_first w b (part ∷ parts) h = ap (λ (x : List ℕ). x ∷ parts) (append_
 
 told_rest : {A : Type 0} (number : List ℕ → Option A) (w : List ℕ) (parts : List (List ℕ)) → told number (w ∷ parts) ≡ true → told number parts ≡ true
 told_rest number [] parts h = h
-told_rest number (b ∷ w) parts h = and_right (is_some (number (b ∷ w))) (told number parts) h
+told_rest number (b ∷ w) parts h = second_of_both (is_some (number (b ∷ w))) (told number parts) h
 
 -- one part more on both sides
 within_more : {A : Type 0} (number : List ℕ → Option A) (w : List ℕ) (parts others : List (List ℕ)) → told number (w ∷ others) ≡ true
     → Within number parts others → Within number (w ∷ parts) (w ∷ others)
 within_more number [] parts others h r = r
-within_more number (b ∷ w) parts others h r =
-    (and_both (is_some (number (b ∷ w))) (told number parts) (and_left (is_some (number (b ∷ w))) (told number others) h) r.0, omega (arith, r.1))
+within_more number (b ∷ w) parts others h r = (
+  and_from (is_some (number (b ∷ w))) (told number parts) (first_of_both (is_some (number (b ∷ w))) (told number others) h) r.0,
+  omega (arith, r.1),
+)
 
 completed_more : {A : Type 0} (number : List ℕ → Option A) (w : List ℕ) (parts longer whole : List (List ℕ)) → told number (w ∷ whole) ≡ true
     → Completed number parts longer whole → Completed number (w ∷ parts) (w ∷ longer) (w ∷ whole)
@@ -69,7 +73,7 @@ carried number {parts = parts} {longer = longer} {longer' = longer'} {whole' = w
 
 one_word : {A : Type 0} (number : List ℕ → Option A) (b : ℕ) (w : List ℕ) (whole : List (List ℕ)) → is_some (number (b ∷ w)) ≡ true
     → 0 < counted whole → Within number ((b ∷ w) ∷ []) whole
-one_word number b w whole h few = (and_both (is_some (number (b ∷ w))) true h refl, omega (arith, few))
+one_word number b w whole h few = (and_from (is_some (number (b ∷ w))) true h refl, omega (arith, few))
 
 -- at the end of the bytes
 at_their_end : {A : Type 0} (number : List ℕ → Option A) → Completes number → (w : List ℕ) (whole : List (List ℕ)) → 0 < length whole
@@ -81,7 +85,7 @@ at_their_end number completes (b ∷ w) (part ∷ parts) some h =
     (λ (a : is_some (number (b ∷ w)) ≡ true). inl (one_word number b (w ++ []) ((b ∷ (w ++ part)) ∷ parts)
     (ap (λ (x : List ℕ). is_some (number (b ∷ x))) (append-nil w) ∙ a) (omega arith)))
     (λ (a : is_some (number (b ∷ (w ++ 48 ∷ []))) ≡ true). inr (one_word number b (w ++ 48 ∷ []) ((b ∷ (w ++ part)) ∷ parts) a (omega arith)))
-    (completes b w part (and_left (is_some (number (b ∷ (w ++ part)))) (told number parts) h))
+    (completes b w part (first_of_both (is_some (number (b ∷ (w ++ part)))) (told number parts) h))
 
 -- the parts of bytes behind a first one, by whether that is a blank
 abbrev behind : Bool → ℕ → List ℕ → List (List ℕ)

@@ -12,6 +12,7 @@ use Rattle.sl_base.specs.Bytes.{is_digit}
 use Rattle.sl_base.specs.declared.scalar.Scalar.TheVariants as t
 use Rattle.sl_model.specs.Numbers.{fits}
 use Rattle.sl_model.specs.Lists.{natural_of, passing, int_of, pick_of}
+use Rattle.sl_model.proofs.Passing.{first_of_both}
 
 -- what some bytes more make a number is one, or a 0 makes it one
 abbrev pub Completes : {A : Type 0} → (List ℕ → Option A) → Type 0
@@ -21,18 +22,6 @@ Completes number = (b : ℕ) (w x : List ℕ) → is_some (number ((b ∷ w) ++ 
 -- a test holds of each smaller number
 abbrev Falls : (ℕ → Bool) → Type 0
 Falls test = (m n : ℕ) → m ≤ n → test n ≡ true → test m ≡ true
-
-pub and_left : (a b : Bool) → (a && b) ≡ true → a ≡ true
-and_left true b h = refl
-and_left false b h = h
-
-pub and_right : (a b : Bool) → (a && b) ≡ true → b ≡ true
-and_right true b h = h
-and_right false b h = absurd (cc)
-
-pub and_both : (a b : Bool) → a ≡ true → b ≡ true → (a && b) ≡ true
-and_both true b e h = h
-and_both false b e h = e
 
 and_true : (a : Bool) → a ≡ true → (a && true) ≡ true
 and_true true e = refl
@@ -56,7 +45,7 @@ passes test true n e h = some_if (test n) n h
 passes test false n e h = e
 
 front_digits : (w x : List ℕ) → list_all is_digit (w ++ x) ≡ true → list_all is_digit w ≡ true
-front_digits w x h = and_left (list_all is_digit w) (list_all is_digit x) (sym (list_all-append is_digit w x) ∙ h)
+front_digits w x h = first_of_both (list_all is_digit w) (list_all is_digit x) (sym (list_all-append is_digit w x) ∙ h)
 
 -- digits behind others make a number no smaller
 front_value : (w x : List ℕ) → digits_value 10 w ≤ digits_value 10 (w ++ x)
@@ -102,7 +91,7 @@ negative_falls : Falls (λ n. fits t.Int (neg_ℤ (pos n)))
 negative_falls zero n le h = refl
 negative_falls (suc m) zero le h = absurd (omega arith)
 negative_falls (suc m) (suc n) le h =
-    let r : n ≤ 2147483647 = leb-true n 2147483647 (and_left (leb n 2147483647) true h) in
+    let r : n ≤ 2147483647 = leb-true n 2147483647 (first_of_both (leb n 2147483647) true h) in
     and_true (leb m 2147483647) (le-leb m 2147483647 (omega arith))
 
 -- what number a word is, where it is known whether it begins with a `-`

@@ -12,7 +12,7 @@ use Rattle.sl_specs.specs.Table.{table}
 use Rattle.sl_syntax.specs.declared.typed.callee.Callee.TheVariants as callees
 use Rattle.sl_model.specs.Containers.{Memory}
 use Rattle.sl_model.specs.Situation.{Situation}
-use Rattle.sl_model.specs.Rows.{Object, of_form, new_one, Row, shape_of_return, is_constructor, algorithm_row, member_row, meaning_of}
+use Rattle.sl_model.specs.Rows.{Object, of_form, new_one, Row, shape_of_return, is_constructor, member_row, meaning_of}
 use Rattle.sl_model.specs.Library.{value_in}
 use Rattle.sl_model.specs.WellTypedTypes.{ExprType}
 use Rattle.sl_model.specs.WellTypedCalls.{result_type}
@@ -23,16 +23,13 @@ use Rattle.sl_model.proofs.LibraryGood.{row-tells}
 use Rattle.sl_model.proofs.Fitting.{IsGiven}
 use Rattle.sl_model.proofs.GivenIn.{is_output, AnswerIsIn, container_given, GivesIn, object_form, form_kept}
 use Rattle.sl_model.proofs.LibraryGives.{numbered-gives-in}
-use Rattle.sl_model.proofs.AnswersFit.{IsDone, RowGives, is_own, own_given}
-
--- nothing is given
-abbrev is_nothing : ReturnType → Bool
-is_nothing returns.Nothing = true
-is_nothing gives = false
+use Rattle.sl_model.proofs.TypedRows.{meaning_on}
+use Rattle.sl_model.proofs.AnswersFit.{IsCarriedOut, RowGives, is_own, own_given}
+use Rattle.sl_model.proofs.ScopedRows.{gives_nothing}
 
 -- a call that makes its object gives nothing, and another one gives what is of its object
 abbrev is_plain : Call → ReturnType → Bool
-is_plain call gives = if is_constructor call then is_nothing gives else is_own gives
+is_plain call gives = if is_constructor call then gives_nothing gives else is_own gives
 
 -- so it is with a row that has a form
 abbrev is_plain_member : TableRow → Bool
@@ -49,7 +46,7 @@ plain_row r form e plain =
     ap (λ (o : Option Form). elim o as (λ _. Bool) [ None ↦ true | Some form ↦ is_plain r.call r.gives ]) (sym e) ∙ plain
 
 -- where nothing is given, that is its type
-nothing_fits : (gives : ReturnType) (t : Memory) (b : Bool) (form : Form) (us : List ExprType) (r : Row) (s : Situation) → is_nothing gives ≡ true
+nothing_fits : (gives : ReturnType) (t : Memory) (b : Bool) (form : Form) (us : List ExprType) (r : Row) (s : Situation) → gives_nothing gives ≡ true
     → IsGiven t (result_type gives b form us) (value_in t (r.action.answer s))
 nothing_fits returns.Nothing t b form us r s e = tt
 nothing_fits (returns.Number ty) t b form us r s e = absurd (cc)
@@ -73,20 +70,16 @@ own_is_here returns.FirstArgument e = absurd (cc)
 own_is_here returns.Output e = absurd (cc)
 own_is_here returns.Appender e = refl
 
--- the meaning of a row with a form is that of a member
-pub member_meant : (r : TableRow) (form : Form) → r.form ≡ Some form → meaning_of false r ≡ member_row form r
-member_meant r form e = ap (λ (o : Option Form). elim o as (λ _. Row) [ None ↦ algorithm_row false r | Some form ↦ member_row form r ]) e
-
 -- what a call on a container gives is of the type of its result
 pub member-given : (n : ℕ) (r : TableRow) (form : Form) (b : Bool) (us : List ExprType) (s : Situation) → slice_get table n ≡ Some r
-    → r.form ≡ Some form → IsDone [] (meaning_of false r) s → RowGives (meaning_of false r) s (result_type r.gives b form us)
+    → r.form ≡ Some form → IsCarriedOut [] (meaning_of false r) s → RowGives (meaning_of false r) s (result_type r.gives b form us)
 member-given n r form b us s there e done = by_call (is_constructor r.call) refl (plain_row r form e (passes_at is_plain_member table n r plain_table there))
   where
     row : Row
     row = meaning_of false r
 
     meant : meaning_of false r ≡ member_row form r
-    meant = member_meant r form e
+    meant = meaning_on false r form e
 
     told : Tells (meaning_of false r) s
     told = row-tells (callees.Row n) (meaning_of false r) (ap (option_map (meaning_of false)) there) s done.called done.needs
@@ -94,7 +87,7 @@ member-given n r form b us s there e done = by_call (is_constructor r.call) refl
     gives : GivesIn (is_output r.gives) (meaning_of false r) s
     gives = numbered-gives-in false n r there s done.called done.needs done.goes
 
-    by_call : (made : Bool) → is_constructor r.call ≡ made → (if made then is_nothing r.gives else is_own r.gives) ≡ true
+    by_call : (made : Bool) → is_constructor r.call ≡ made → (if made then gives_nothing r.gives else is_own r.gives) ≡ true
         → RowGives (meaning_of false r) s (result_type r.gives b form us)
     by_call true t own = nothing_fits r.gives (memory_after (meaning_of false r) s) b form us (meaning_of false r) s own
     by_call false t own =

@@ -1,50 +1,33 @@
 -- Where the marks of elements stand after a change: at the places that the elements go to, in their container or in the other one.
-use Rattle.std.proofs.Common.{◌≡◌, ◌≢◌, ℕ, zero, suc, ◌+◌, ◌<◌, ◌≤◌, Bool, true, false, List, [], ◌∷◌, ◌++◌, Option, Some, None, length, map, refl}
+use Rattle.std.proofs.Common.{◌≡◌, ◌≢◌, ℕ, zero, suc, ◌+◌, ◌<◌, ◌≤◌, Bool, true, false, List, [], ◌∷◌, Option, Some, None, length, refl}
 use Rattle.std.proofs.Common.{ap, sym, ◌∙◌, arith, ◌⊎◌, inl, inr, ⊎_elim, pos, if◌then◌else◌}
 use Rattle.std.specs.List.{slice_get, slice_set}
 use Rattle.std.proofs.lemmas.Bool.{cases_eq, cases_lt, both_ways}
-use Rattle.std.proofs.lemmas.List.{length-map}
 use Rattle.sl_model.specs.Containers.{Cell, Cont, Memory, size, stamps, refers}
 use Rattle.sl_model.specs.Edits.{Source, old, written, theirs, new, Change, mark_after, stayed, from_source, from_sources, rebuilt, changed}
 use Rattle.sl_model.specs.Edits.{next_of_two, after, after_two}
 use Rattle.sl_model.specs.Origins.{ComesFrom, ComesOver, TakesNoneOver}
 use Rattle.sl_model.specs.Good.{IsAt, RefersTo, IsSound}
-use Rattle.sl_model.proofs.Getting.{get_left, get_behind, get_within, get_some, get_map, got_map, get_set_same, get_set_other}
+use Rattle.sl_model.proofs.Getting.{get_within, get_some, get_map, got_map, get_set_same, get_set_other}
 use Rattle.sl_model.proofs.Located.{at_stands, refers_stands}
 use Rattle.sl_model.proofs.After.{get-after-own, get-after-other}
+use Rattle.sl_model.proofs.Columns.{stamp_of_end, stamp_there, stamps-length}
 
 -- ## Elements and their marks
-
--- the stamp at the place of an element
-pub cell-stamp : (c : Cont) (k : ℕ) (x : Cell) → slice_get c.cells k ≡ Some x → slice_get (stamps c) k ≡ Some x.stamp
-cell-stamp c k x at =
-    let within : k < length c.cells = get_within c.cells k x at in
-    let l : length (map (λ (y : Cell). y.stamp) c.cells) ≡ length c.cells = length-map c.cells (λ (y : Cell). y.stamp) in
-    get_left (map (λ (y : Cell). y.stamp) c.cells) (c.end ∷ []) k (omega arith) ∙ get_map (λ (y : Cell). y.stamp) c.cells k x at
 
 -- the element at the place of a stamp
 pub stamp-cell : (c : Cont) (k s : ℕ) → slice_get (stamps c) k ≡ Some s → k < size c → (x : Cell) × (slice_get c.cells k ≡ Some x) × (x.stamp ≡ s)
 stamp-cell c k s at within =
     let r = get_some c.cells k within in
-    let e : Some r.0.stamp ≡ Some s = sym (cell-stamp c k r.0 r.1) ∙ at in
+    let e : Some r.0.stamp ≡ Some s = sym (stamp_there c k r.0 r.1) ∙ at in
     (r.0, r.1, (cc))
-
--- the stamp of the end
-pub end-stamp : (c : Cont) → slice_get (stamps c) (size c) ≡ Some c.end
-end-stamp c =
-    let l : length (map (λ (y : Cell). y.stamp) c.cells) ≡ length c.cells = length-map c.cells (λ (y : Cell). y.stamp) in
-    ap (slice_get (stamps c)) (omega arith) ∙ get_behind (map (λ (y : Cell). y.stamp) c.cells) (c.end ∷ []) 0
 
 -- a stamp stands at an element or at the end
 pub element_or_end : (c : Cont) (k s : ℕ) → slice_get (stamps c) k ≡ Some s → (k < size c) ⊎ ((k ≡ size c) × (c.end ≡ s))
 element_or_end c k s at = by_place (cases_lt k (size c))
   where
     count : length (stamps c) ≡ size c + 1
-    count = by_cells c.cells
-      where
-        by_cells : (xs : List Cell) → length (map (λ (x : Cell). x.stamp) xs ++ c.end ∷ []) ≡ length xs + 1
-        by_cells [] = refl
-        by_cells (y ∷ xs) = let e = by_cells xs in omega arith
+    count = stamps-length c
 
     by_place : (k < size c) ⊎ (size c ≤ k) → (k < size c) ⊎ ((k ≡ size c) × (c.end ≡ s))
     by_place (inl low) = inl low
@@ -52,7 +35,7 @@ element_or_end c k s at = by_place (cases_lt k (size c))
         let w : k < length (stamps c) = get_within (stamps c) k s at in
         let l : length (stamps c) ≡ size c + 1 = count in
         let e : size c ≡ k = omega arith in
-        let q : Some c.end ≡ Some s = sym (end-stamp c) ∙ (ap (slice_get (stamps c)) e ∙ at) in
+        let q : Some c.end ≡ Some s = sym (stamp_of_end c) ∙ (ap (slice_get (stamps c)) e ∙ at) in
         inr (sym e, (cc))
 
 -- what stands in the container that is there, stands in it
@@ -150,7 +133,7 @@ module _ (ch : Change) (base next : ℕ) (own other : Cont) where
   iterator-stays h k s from within lives at =
       let y = stamp-cell own k s at within in
       let z = from_own h k y.0 from y.1 in
-      cell-stamp later h z.0 z.1 ∙ ap (λ n. Some n) (z.2 ∙ (kept-mark ch.kill base k y.0.stamp lives ∙ y.2))
+      stamp_there later h z.0 z.1 ∙ ap (λ n. Some n) (z.2 ∙ (kept-mark ch.kill base k y.0.stamp lives ∙ y.2))
 
   -- so does a reference
   pub reference-stays : (h k r : ℕ) → ComesFrom ch h k → ch.lose k ≡ false → slice_get (refers own) k ≡ Some r
@@ -164,9 +147,9 @@ module _ (ch : Change) (base next : ℕ) (own other : Cont) where
   pub end-stays : (s : ℕ) → ch.kill (size own) ≡ false → slice_get (stamps own) (size own) ≡ Some s
       → slice_get (stamps later) (size later) ≡ Some s
   end-stays s lives at =
-      let e : Some own.end ≡ Some s = sym (end-stamp own) ∙ at in
+      let e : Some own.end ≡ Some s = sym (stamp_of_end own) ∙ at in
       let q : own.end ≡ s = cc in
-      end-stamp later ∙ ap (λ n. Some n) (kept-mark ch.kill base (size own) own.end lives ∙ q)
+      stamp_of_end later ∙ ap (λ n. Some n) (kept-mark ch.kill base (size own) own.end lives ∙ q)
 
   -- the element that comes over is the one that it was
   from_other : (h k : ℕ) (y : Cell) → ComesOver ch h k → slice_get other.cells k ≡ Some y → slice_get later.cells h ≡ Some y
@@ -178,21 +161,13 @@ module _ (ch : Change) (base next : ℕ) (own other : Cont) where
   pub iterator-comes : (h k s : ℕ) → ComesOver ch h k → k < size other → slice_get (stamps other) k ≡ Some s → slice_get (stamps later) h ≡ Some s
   iterator-comes h k s from within at =
       let y = stamp-cell other k s at within in
-      cell-stamp later h y.0 (from_other h k y.0 from y.1) ∙ ap (λ n. Some n) y.2
+      stamp_there later h y.0 (from_other h k y.0 from y.1) ∙ ap (λ n. Some n) y.2
 
   -- so does a reference
   pub reference-comes : (h k r : ℕ) → ComesOver ch h k → slice_get (refers other) k ≡ Some r → slice_get (refers later) h ≡ Some r
   reference-comes h k r from at =
       let y = refer-cell other k r at in
       get_map (λ (x : Cell). x.refer) later.cells h y.0 (from_other h k y.0 from y.1) ∙ ap (λ n. Some n) y.2
-
--- as many elements as sources
-pub later-size : (ch : Change) (base next : ℕ) (own other : Cont) → size (rebuilt base next ch own other) ≡ length ch.sources
-later-size ch base next own other = by_sources next ch.sources
-  where
-    by_sources : (n : ℕ) (xs : List Source) → length (from_sources ch base own other n xs) ≡ length xs
-    by_sources n [] = refl
-    by_sources n (x ∷ xs) = ap suc (by_sources (n + 1) xs)
 
 -- ## Marks that were used before
 
@@ -225,7 +200,7 @@ module _ (ch : Change) (fresh : ℕ) (c : Cont) (none : TakesNoneOver ch) where
               absurd (omega arith)
           by_cell (Some y) t =
               let m = used_mark ch.kill k y.stamp s (sym (stayed-marks ch fresh c (blank ((fresh + size c + 1) + p)) k y t).0 ∙ g) used in
-              (k, cell-stamp c k y t ∙ ap (λ n. Some n) m.0, m.1)
+              (k, stamp_there c k y t ∙ ap (λ n. Some n) m.0, m.1)
 
       by_source : (z : Source) → slice_get ch.sources p ≡ Some z → (from_source ch fresh c c (blank ((fresh + size c + 1) + p)) z).stamp ≡ s
           → (k : ℕ) × (slice_get (stamps c) k ≡ Some s) × (ch.kill k ≡ false)
@@ -276,7 +251,7 @@ module _ (ch : Change) (fresh : ℕ) (c : Cont) (none : TakesNoneOver ch) where
           used_stamp p x.0 s x.1 (ap (λ (z : Cell). z.stamp) x.2 ∙ y.2) used
       by_place (inr e) =
           let m = used_mark ch.kill (size c) c.end s e.1 used in
-          (size c, end-stamp c ∙ ap (λ n. Some n) m.0, m.1)
+          (size c, stamp_of_end c ∙ ap (λ n. Some n) m.0, m.1)
 
   -- so it is with a refer
   pub refer-stood : (p s : ℕ) → slice_get (refers (changed fresh ch c)) p ≡ Some s → s < fresh

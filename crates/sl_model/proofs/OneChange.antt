@@ -6,7 +6,7 @@ use Rattle.std.proofs.lemmas.Bool.{cases_eq, both_ways}
 use Rattle.sl_model.specs.Containers.{Grave, IsGrave}
 use Rattle.sl_model.specs.Edits.{Source, buried}
 use Rattle.sl_model.specs.Good.{Stands, AreKeptApart, NoneVanishFrom}
-use Rattle.sl_model.proofs.Getting.{get_set_same, get_set_other, get_within}
+use Rattle.sl_model.proofs.Getting.{get_set_same, get_set_other, get_within, get_behind}
 use Rattle.sl_model.proofs.Apart.{StandsSomewhere, renewed-apart, list_distinct, list_below}
 use Rattle.sl_model.proofs.Buried.{grave_cases, buried_stood, buried_has}
 use Rattle.sl_model.proofs.Columns.{marks_from, stays_at}
@@ -35,14 +35,7 @@ buried_grave renewed site own graves k s at dies =
 
 -- what was among the graves is so still
 pub still_grave : (front graves : List Grave) (s site : ℕ) → IsGrave graves s site → IsGrave (front ++ graves) s site
-still_grave front graves s site g = (length front + g.0, behind front graves g.0 ∙ g.1)
-  where
-    behind : {A : Type 0} (xs ys : List A) (i : ℕ) → slice_get (xs ++ ys) (length xs + i) ≡ slice_get ys i
-    behind [] ys i = ap (slice_get ys) (omega arith)
-    behind (x ∷ xs) ys i = ap (slice_get (x ∷ (xs ++ ys))) (next (length xs) i) ∙ behind xs ys i
-      where
-        next : (a b : ℕ) → suc a + b ≡ suc (a + b)
-        next a b = omega arith
+still_grave front graves s site g = (length front + g.0, get_behind front graves g.0 ∙ g.1)
 
 -- what is buried of a list died there
 pub buried_dies : (renewed : ℕ → Bool) (site : ℕ) (own : List ℕ) (s t : ℕ) → IsGrave (buried renewed site 0 own) s t → DiesIn renewed own s

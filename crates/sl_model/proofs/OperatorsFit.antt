@@ -19,14 +19,14 @@ use Rattle.sl_model.proofs.AlgorithmRowsTell.{operator-tells}
 use Rattle.sl_model.proofs.Fitting.{AllFit}
 use Rattle.sl_model.proofs.GivenIn.{GivesIn}
 use Rattle.sl_model.proofs.AlgorithmsGiveIn.{operator-gives-in}
-use Rattle.sl_model.proofs.AnswersFit.{IsDone, RowGives, number_given, element_given, operand_type_given, operand_fits}
+use Rattle.sl_model.proofs.AnswersFit.{IsCarriedOut, RowGives, number_given, element_given, operand_type_given, operand_fits}
 
 -- what a row gives that is of a type is of it under a condition that leaves one
 pub only_given : (b : Bool) (u : ExprType) (r : Row) (s : Situation) → has_type (only b u) ≡ true → RowGives r s u → RowGives r s (only b u)
 only_given true u r s has given = given
 only_given false u r s has given = absurd (cc)
 
-module _ (name : List ℕ) (o : Operator) (s : Situation) (done : IsDone [] (row_of_operator name o) s) where
+module _ (name : List ℕ) (o : Operator) (s : Situation) (done : IsCarriedOut [] (row_of_operator name o) s) where
   -- the row of the operator
   abbrev pub row : Row
   row = row_of_operator name o
@@ -59,7 +59,7 @@ module _ (name : List ℕ) (o : Operator) (s : Situation) (done : IsDone [] (row
 
 -- what an operator gives is of its type
 pub operator-given : (name : List ℕ) (o : Operator) (us : List ExprType) (s : Situation) → has_type (operator_type o us) ≡ true
-    → AllFit s.memory us s.values → IsDone [] (row_of_operator name o) s → RowGives (row_of_operator name o) s (operator_type o us)
+    → AllFit s.memory us s.values → IsCarriedOut [] (row_of_operator name o) s → RowGives (row_of_operator name o) s (operator_type o us)
 operator-given name operators.Dereference (iterator_type b x ∷ []) s has fit done =
     only_given (not (is_map x)) (element_type (not b && not (is_keyed x))) (row_of_operator name operators.Dereference) s has
     (element-read name operators.Dereference s done (not b && not (is_keyed x)) refl)
@@ -108,7 +108,7 @@ moving_shape o moves = absurd (cc)
 
 -- and one of the type of that
 pub moving_operator-given : (name : List ℕ) (o : Operator) (us : List ExprType) (s : Situation) → is_moving_operator o ≡ true
-    → has_type (operator_type o us) ≡ true → AllFit s.memory us s.values → IsDone [] (row_of_operator name o) s
+    → has_type (operator_type o us) ≡ true → AllFit s.memory us s.values → IsCarriedOut [] (row_of_operator name o) s
     → RowGives (row_of_operator name o) s (first_type us)
 moving_operator-given name o us s moves has fit done =
     iterator-moved name o s done us (moving_shape o moves) (moving_operator-begins o us moves has) fit

@@ -1,8 +1,8 @@
 -- What an effect of a call has to be, so that it leaves the containers of a memory orderly: their keys in order, and their elements ints.
 use Rattle.std.proofs.Common.{◌≡◌, ◌≢◌, ℕ, zero, suc, ◌+◌, ◌<◌, ◌≤◌, Bool, true, false, IsTrue, List, [], ◌∷◌, Option, Some, None, length, map}
-use Rattle.std.proofs.Common.{refl, ap, sym, ◌∙◌, ◌⊎◌, inl, inr, ⊎_elim, subst, ℤ, if◌then◌else◌, not}
+use Rattle.std.proofs.Common.{refl, ap, sym, ◌∙◌, ◌⊎◌, inl, inr, ⊎_elim, subst, ℤ, if◌then◌else◌}
 use Rattle.std.specs.List.{slice_get, slice_set}
-use Rattle.std.proofs.lemmas.Bool.{cases_eq, cases_lt}
+use Rattle.std.proofs.lemmas.Bool.{cases_eq, cases_lt, not-true}
 use Rattle.sl_base.specs.declared.form.Form.{Form}
 use Rattle.sl_base.specs.declared.scalar.Scalar.TheVariants as t
 use Rattle.sl_specs.specs.declared.class.Class.{Class}
@@ -264,11 +264,7 @@ cont_with-orderly c k part z h = by_test (is_writable c.form part) refl (slice_g
   where
     by_part : (part : Part) (x : Cell) → is_writable c.form part ≡ true → slice_get c.cells k ≡ Some x
         → AreInOrder c.form (map (λ (y : Cell). y.key) (slice_set c.cells k (with_part part (converted t.Int z) x)))
-    by_part key_part x e at = any_order c.form _ (no_keys (is_keyed c.form) e)
-      where
-        no_keys : (b : Bool) → not b ≡ true → b ≡ false
-        no_keys true g = absurd (cc)
-        no_keys false g = refl
+    by_part key_part x e at = any_order c.form _ (not-true (is_keyed c.form) e)
     by_part value_part x e at = subst (AreInOrder c.form) (sym (value-keys c.cells k (converted t.Int z) x at)) h.order
 
     by_test : (b : Bool) → is_writable c.form part ≡ b → (o : Option Cell) → slice_get c.cells k ≡ o → IsOrderlyCont (if b

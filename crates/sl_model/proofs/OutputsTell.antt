@@ -1,5 +1,5 @@
 -- An algorithm that writes to an output gives the place behind what it wrote, or nothing where the output is an appender.
-use Rattle.std.proofs.Common.{◌≡◌, ℕ, ◌-◌, ◌<◌, ◌&&◌, Bool, true, false, List, [], ◌∷◌, ◌++◌, Option, Some, None, length, refl, sym, subst}
+use Rattle.std.proofs.Common.{◌≡◌, ℕ, ◌-◌, ◌<◌, true, false, List, [], ◌∷◌, ◌++◌, Option, Some, None, length, refl, sym, subst}
 use Rattle.std.proofs.Common.{arith}
 use Rattle.std.specs.Prelude.{ℤ, slice_index_or}
 use Rattle.sl_base.specs.declared.form.Form.{Form}
@@ -17,19 +17,11 @@ use Rattle.sl_model.proofs.Growing.{makes_one}
 use Rattle.sl_model.proofs.Placing.{IsPlaced}
 use Rattle.sl_model.proofs.Tells.{shape_of_answer}
 use Rattle.sl_model.proofs.AlgorithmsTell.{no_failure, none_left, none_right, place_there, container_there, overwrites-place}
-
--- both hold, so each does
-pub first_holds : (a b : Bool) → (a && b) ≡ true → a ≡ true
-first_holds true b e = refl
-first_holds false b e = absurd (cc)
-
-pub second_holds : (a b : Bool) → (a && b) ≡ true → b ≡ true
-second_holds true b e = e
-second_holds false b e = absurd (cc)
+use Rattle.sl_model.proofs.Passing.{first_of_both, second_of_both}
 
 -- the operands behind an iterator are of the sorts behind it
 behind : (m : Memory) (sorts : List Sort) (v : Value) (vs : List Value) → are_of m (an_iterator ∷ sorts) (v ∷ vs) ≡ true → are_of m sorts vs ≡ true
-behind m sorts v vs e = second_holds (is_of m an_iterator v) (are_of m sorts vs) e
+behind m sorts v vs e = second_of_both (is_of m an_iterator v) (are_of m sorts vs) e
 
 -- the last of three operands is an iterator that is written through
 pub writer_of_three : (m : Memory) (vs : List Value) → are_of m (an_iterator ∷ an_iterator ∷ a_writer ∷ []) vs ≡ true
@@ -37,10 +29,10 @@ pub writer_of_three : (m : Memory) (vs : List Value) → are_of m (an_iterator �
 writer_of_three m [] e = absurd (cc)
 writer_of_three m (a ∷ []) e = absurd (let p = behind m (an_iterator ∷ a_writer ∷ []) a [] e in cc)
 writer_of_three m (a ∷ b ∷ []) e = absurd (let p = behind m (a_writer ∷ []) b [] (behind m (an_iterator ∷ a_writer ∷ []) a (b ∷ []) e) in cc)
-writer_of_three m (a ∷ b ∷ v ∷ []) e = first_holds (is_of m a_writer v) true
+writer_of_three m (a ∷ b ∷ v ∷ []) e = first_of_both (is_of m a_writer v) true
     (behind m (a_writer ∷ []) b (v ∷ []) (behind m (an_iterator ∷ a_writer ∷ []) a (b ∷ v ∷ []) e))
 writer_of_three m (a ∷ b ∷ v ∷ w ∷ vs) e = absurd
-    (let p = second_holds (is_of m a_writer v) false
+    (let p = second_of_both (is_of m a_writer v) false
     (behind m (a_writer ∷ []) b (v ∷ w ∷ vs) (behind m (an_iterator ∷ a_writer ∷ []) a (b ∷ v ∷ w ∷ vs) e)) in cc)
 
 -- the last of five operands is an iterator that is written through
@@ -60,13 +52,13 @@ writer_of_five m (a ∷ b ∷ c ∷ d ∷ []) e = absurd
     (behind m (an_iterator ∷ a_writer ∷ []) c (d ∷ [])
     (behind m (an_iterator ∷ an_iterator ∷ a_writer ∷ []) b (c ∷ d ∷ [])
     (behind m (an_iterator ∷ an_iterator ∷ an_iterator ∷ a_writer ∷ []) a (b ∷ c ∷ d ∷ []) e))) in cc)
-writer_of_five m (a ∷ b ∷ c ∷ d ∷ v ∷ []) e = first_holds (is_of m a_writer v) true
+writer_of_five m (a ∷ b ∷ c ∷ d ∷ v ∷ []) e = first_of_both (is_of m a_writer v) true
     (behind m (a_writer ∷ []) d (v ∷ [])
     (behind m (an_iterator ∷ a_writer ∷ []) c (d ∷ v ∷ [])
     (behind m (an_iterator ∷ an_iterator ∷ a_writer ∷ []) b (c ∷ d ∷ v ∷ [])
     (behind m (an_iterator ∷ an_iterator ∷ an_iterator ∷ a_writer ∷ []) a (b ∷ c ∷ d ∷ v ∷ []) e))))
 writer_of_five m (a ∷ b ∷ c ∷ d ∷ v ∷ w ∷ vs) e = absurd
-    (let p = second_holds (is_of m a_writer v) false
+    (let p = second_of_both (is_of m a_writer v) false
     (behind m (a_writer ∷ []) d (v ∷ w ∷ vs)
     (behind m (an_iterator ∷ a_writer ∷ []) c (d ∷ v ∷ w ∷ vs)
     (behind m (an_iterator ∷ an_iterator ∷ a_writer ∷ []) b (c ∷ d ∷ v ∷ w ∷ vs)
@@ -78,10 +70,10 @@ pub sequence_of_three : (m : Memory) (vs : List Value) → are_of m (an_iterator
 sequence_of_three m [] e = absurd (cc)
 sequence_of_three m (a ∷ []) e = absurd (let p = behind m (an_iterator ∷ a_sequence ∷ []) a [] e in cc)
 sequence_of_three m (a ∷ b ∷ []) e = absurd (let p = behind m (a_sequence ∷ []) b [] (behind m (an_iterator ∷ a_sequence ∷ []) a (b ∷ []) e) in cc)
-sequence_of_three m (a ∷ b ∷ v ∷ []) e = first_holds (is_of m a_sequence v) true
+sequence_of_three m (a ∷ b ∷ v ∷ []) e = first_of_both (is_of m a_sequence v) true
     (behind m (a_sequence ∷ []) b (v ∷ []) (behind m (an_iterator ∷ a_sequence ∷ []) a (b ∷ v ∷ []) e))
 sequence_of_three m (a ∷ b ∷ v ∷ w ∷ vs) e = absurd
-    (let p = second_holds (is_of m a_sequence v) false
+    (let p = second_of_both (is_of m a_sequence v) false
     (behind m (a_sequence ∷ []) b (v ∷ w ∷ vs) (behind m (an_iterator ∷ a_sequence ∷ []) a (b ∷ v ∷ w ∷ vs) e)) in cc)
 
 -- the last of five operands is a sequence
@@ -101,13 +93,13 @@ sequence_of_five m (a ∷ b ∷ c ∷ d ∷ []) e = absurd
     (behind m (an_iterator ∷ a_sequence ∷ []) c (d ∷ [])
     (behind m (an_iterator ∷ an_iterator ∷ a_sequence ∷ []) b (c ∷ d ∷ [])
     (behind m (an_iterator ∷ an_iterator ∷ an_iterator ∷ a_sequence ∷ []) a (b ∷ c ∷ d ∷ []) e))) in cc)
-sequence_of_five m (a ∷ b ∷ c ∷ d ∷ v ∷ []) e = first_holds (is_of m a_sequence v) true
+sequence_of_five m (a ∷ b ∷ c ∷ d ∷ v ∷ []) e = first_of_both (is_of m a_sequence v) true
     (behind m (a_sequence ∷ []) d (v ∷ [])
     (behind m (an_iterator ∷ a_sequence ∷ []) c (d ∷ v ∷ [])
     (behind m (an_iterator ∷ an_iterator ∷ a_sequence ∷ []) b (c ∷ d ∷ v ∷ [])
     (behind m (an_iterator ∷ an_iterator ∷ an_iterator ∷ a_sequence ∷ []) a (b ∷ c ∷ d ∷ v ∷ []) e))))
 sequence_of_five m (a ∷ b ∷ c ∷ d ∷ v ∷ w ∷ vs) e = absurd
-    (let p = second_holds (is_of m a_sequence v) false
+    (let p = second_of_both (is_of m a_sequence v) false
     (behind m (a_sequence ∷ []) d (v ∷ w ∷ vs)
     (behind m (an_iterator ∷ a_sequence ∷ []) c (d ∷ v ∷ w ∷ vs)
     (behind m (an_iterator ∷ an_iterator ∷ a_sequence ∷ []) b (c ∷ d ∷ v ∷ w ∷ vs)

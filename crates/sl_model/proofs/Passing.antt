@@ -31,11 +31,6 @@ five_parts a b c d e h =
       second_of_both (a && b && c && d) e h,
     )
 
--- two answers that are both true
-pub both_true : (a b : Bool) → a ≡ true → b ≡ true → (a && b) ≡ true
-both_true true b h k = k
-both_true false b h k = absurd cc
-
 -- the first of two answers of which neither is true
 pub first_of_neither : (a b : Bool) → (a || b) ≡ false → a ≡ false
 first_of_neither true b h = absurd cc

@@ -1,8 +1,8 @@
 -- Which places a container has for iterators: one at each index up to its size, and their stamps were used. What a change, a new key
 -- and a search leave of them.
-use Rattle.std.proofs.Common.{◌≡◌, ℕ, zero, suc, ◌+◌, ◌-◌, ◌<◌, ◌≤◌, ◌%◌, Bool, true, false, List, [], ◌∷◌, ◌++◌, map, take, drop, length}
+use Rattle.std.proofs.Common.{◌≡◌, ℕ, suc, ◌+◌, ◌-◌, ◌<◌, ◌≤◌, ◌%◌, Bool, true, false, List, [], ◌∷◌, ◌++◌, map, take, drop, length}
 use Rattle.std.proofs.Common.{length-append}
-use Rattle.std.proofs.Common.{Some, option_map, refl, ap, sym, ◌∙◌, subst, arith, if◌then◌else◌, min}
+use Rattle.std.proofs.Common.{Some, option_map, ap, sym, ◌∙◌, subst, arith, if◌then◌else◌, min}
 use Rattle.std.specs.Prelude.{ℤ}
 use Rattle.std.specs.List.{slice_get, slice_set}
 use Rattle.std.proofs.Math.ListN.{length-set}
@@ -14,12 +14,14 @@ use Rattle.sl_base.specs.declared.form.Form.TheVariants as f
 use Rattle.sl_specs.specs.declared.class.Class.{Class}
 use Rattle.sl_model.specs.Classes.{Edit}
 use Rattle.sl_model.specs.Containers.{Cell, Cont, Memory, size, stamps, keys, cont_at, stamp_at}
-use Rattle.sl_model.specs.Edits.{Change, Source, old, numbers, olds, news, from_sources, changed, change_of, after}
-use Rattle.sl_model.specs.Schedule.{put_at, put_all, scattered, hash_place, pick}
+use Rattle.sl_model.specs.Edits.{Change, olds, news, changed, change_of, after}
+use Rattle.sl_model.specs.Schedule.{hash_place}
 use Rattle.sl_model.specs.Orders.{first_of_key, how_many, same}
 use Rattle.sl_model.specs.Actions.{Answer, nothing, gives_number, gives_place, gives_place_and, gives_places, gives_element}
 use Rattle.sl_model.specs.Good.{IsSound}
-use Rattle.sl_model.proofs.Getting.{get_some, get_behind, get_set_same}
+use Rattle.sl_model.proofs.Getting.{get_some, get_set_same}
+use Rattle.sl_model.proofs.FairChanges.{length_olds}
+use Rattle.sl_model.proofs.Columns.{stamp_of_end, rebuilt-size}
 
 -- a container has a place at an index
 pub record HasPlace (m : Memory) (j k : ℕ) : Type 0 where
@@ -43,14 +45,6 @@ stands_used m j k s sound low stands = sound.stamps_apart.used j k s (stamps (co
     there = slice_get-map stamps m.conts j
         ∙ ap (option_map stamps) (slice_get-get_or m.conts j (record { form = f.Vector; cells = []; end = m.fresh; room = 0 }) low)
 
--- the end of a container stands at its size
-pub end_stands : (c : Cont) → slice_get (stamps c) (size c) ≡ Some c.end
-end_stands c = ap (slice_get (stamps c)) (at_size (length-map c.cells (λ (x : Cell). x.stamp)))
-    ∙ get_behind (map (λ (x : Cell). x.stamp) c.cells) (c.end ∷ []) 0
-  where
-    at_size : length (map (λ (x : Cell). x.stamp) c.cells) ≡ size c → size c ≡ length (map (λ (x : Cell). x.stamp) c.cells) + 0
-    at_size e = omega arith
-
 -- a container holds a stamp at each index up to its size
 pub place_stands : (c : Cont) (k : ℕ) → k ≤ size c → (s : ℕ) × (slice_get (stamps c) k ≡ Some s)
 place_stands c k low = get_some (stamps c) k (within (length-append (map (λ (x : Cell). x.stamp) c.cells) (c.end ∷ []))
@@ -70,22 +64,7 @@ place_used m j k sound h = by_place (place_stands (cont_at m j) k h.within)
 
 -- the end of a container that is there was used
 pub end_used : (m : Memory) (j : ℕ) → IsSound m → j < length m.conts → (cont_at m j).end < m.fresh
-end_used m j sound low = stands_used m j (size (cont_at m j)) (cont_at m j).end sound low (end_stands (cont_at m j))
-
--- as many elements as sources
-from_sources-length : (ch : Change) (base : ℕ) (own other : Cont) (next : ℕ) (xs : List Source)
-    → length (from_sources ch base own other next xs) ≡ length xs
-from_sources-length ch base own other next [] = refl
-from_sources-length ch base own other next (x ∷ xs) = ap suc (from_sources-length ch base own other (next + 1) xs)
-
--- n numbers
-pub numbers-length : (i n : ℕ) → length (numbers i n) ≡ n
-numbers-length i zero = refl
-numbers-length i (suc n) = ap suc (numbers-length (i + 1) n)
-
--- n old elements
-pub olds-length : (i n : ℕ) → length (olds i n) ≡ n
-olds-length i n = length-map (numbers i n) (λ k. old k) ∙ numbers-length i n
+end_used m j sound low = stands_used m j (size (cont_at m j)) (cont_at m j).end sound low (stamp_of_end (cont_at m j))
 
 -- the place of an index up to the number of sources, after a change
 pub after-place : (ch : Change) (m : Memory) (j : ℕ) (c : Cont) (site k : ℕ) → j < length m.conts → k ≤ length ch.sources
@@ -96,7 +75,7 @@ after-place ch m j c site k low few = record {
 }
   where
     sizes : size (changed m.fresh ch c) ≡ length ch.sources
-    sizes = from_sources-length ch m.fresh c c (m.fresh + size c + 1) ch.sources
+    sizes = rebuilt-size ch m.fresh c c (m.fresh + size c + 1)
 
     same : cont_at (after ch m j c site) j ≡ changed m.fresh ch c
     same = get_or_from_slice_get (slice_set m.conts j (changed m.fresh ch c)) j (changed m.fresh ch c)
@@ -107,33 +86,12 @@ after-place ch m j c site k low few = record {
 pub edit-place : (class : Class) (m : Memory) (j : ℕ) (c : Cont) (e : Edit) (site k : ℕ) → j < length m.conts → k ≤ e.from
     → HasPlace (after (change_of class c e) m j c site) j k
 edit-place class m j c e site k low few = after-place (change_of class c e) m j c site k low
-    (at_least (length-append (olds 0 e.from) (news e.come ++ olds (e.from + e.gone) (size c - (e.from + e.gone)))) (olds-length 0 e.from))
+    (at_least (length-append (olds 0 e.from) (news e.come ++ olds (e.from + e.gone) (size c - (e.from + e.gone)))) (length_olds 0 e.from))
   where
     at_least : length (change_of class c e).sources
         ≡ length (olds 0 e.from) + length (news e.come ++ olds (e.from + e.gone) (size c - (e.from + e.gone)))
         → length (olds 0 e.from) ≡ e.from → k ≤ length (change_of class c e).sources
     at_least p q = omega arith
-
--- with one put in
-pub put_at-length : {A : Type 0} (k : ℕ) (x : A) (xs : List A) → length (put_at k x xs) ≡ length xs + 1
-put_at-length zero x xs = omega arith
-put_at-length (suc k) x [] = refl
-put_at-length (suc k) x (y ∷ ys) = let r = put_at-length k x ys in omega arith
-
--- these and those that were placed
-put_all-length : {A : Type 0} (placed : List A) (picks : List ℕ) (xs : List A) → length (put_all placed picks xs) ≡ length placed + length xs
-put_all-length placed picks [] = omega arith
-put_all-length placed picks (x ∷ xs) =
-    put_all-length (put_at (hash_place (length placed) (pick picks)) x placed) (drop 1 picks) xs
-    ∙ one_more (put_at-length (hash_place (length placed) (pick picks)) x placed)
-  where
-    one_more : length (put_at (hash_place (length placed) (pick picks)) x placed) ≡ length placed + 1
-        → length (put_at (hash_place (length placed) (pick picks)) x placed) + length xs ≡ length placed + suc (length xs)
-    one_more e = omega arith
-
--- as many in a hash order
-pub scattered-length : {A : Type 0} (picks : List ℕ) (xs : List A) → length (scattered picks xs) ≡ length xs
-scattered-length picks xs = let r = put_all-length [] picks xs in omega arith
 
 -- a place in a hash order
 pub hash_place-low : (n p : ℕ) → hash_place n p ≤ n

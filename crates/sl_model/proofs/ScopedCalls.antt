@@ -1,5 +1,5 @@
 -- A call of the library that has a type gives a value of the shape of its type, and makes a container exactly where a declaration makes one.
-use Rattle.std.proofs.Common.{◌≡◌, ℕ, Bool, true, false, not, ◌&&◌, List, [], ◌∷◌, map, Option, Some, None}
+use Rattle.std.proofs.Common.{◌≡◌, ℕ, Bool, true, false, not, ◌&&◌, List, [], ◌∷◌, map, Option, Some, None, ap}
 use Rattle.std.proofs.Common.{refl, subst, sym, ◌∙◌, option_map}
 use Rattle.std.specs.Prelude.{is_some, if◌then◌else◌}
 use Rattle.std.specs.List.{list_any}
@@ -7,10 +7,8 @@ use Rattle.std.proofs.lemmas.Bool.{not-true}
 use Rattle.sl_base.specs.declared.form.Form.{Form}
 use Rattle.sl_base.specs.declared.form.Form.TheVariants as f
 use Rattle.sl_base.specs.declared.scalar.Scalar.TheVariants as t
-use Rattle.sl_specs.specs.declared.call.Call.TheVariants as c
 use Rattle.sl_specs.specs.Forms.{same_object}
 use Rattle.sl_specs.specs.Rows.{Row}
-use Rattle.sl_specs.specs.Table.{same_call}
 use Rattle.sl_syntax.specs.declared.operator.Access.{Access}
 use Rattle.sl_syntax.specs.declared.typed.callee.Callee.{Callee}
 use Rattle.sl_syntax.specs.declared.typed.callee.Callee.TheVariants as callees
@@ -19,7 +17,7 @@ use Rattle.sl_syntax.specs.declared.typed.operator.Operator.TheVariants as opera
 use Rattle.sl_syntax.specs.Written.{is_map}
 use Rattle.sl_model.specs.Forms.{is_keyed, is_hash, is_random_access}
 use Rattle.sl_model.specs.Values.{Shape, a_number, a_stamp, an_element}
-use Rattle.sl_model.specs.Rows.{shape_of_return, meaning_of, shape_of_operator}
+use Rattle.sl_model.specs.Rows.{Row as Meaning, shape_of_return, meaning_of, shape_of_operator}
 use Rattle.sl_model.specs.Shapes.{is_new_one, shape_of_row, row_makes, lib_shape, lib_makes}
 use Rattle.sl_model.specs.WellTypedTypes.{ExprType, empty_type, scalar_type, element_type, iterator_type}
 use Rattle.sl_model.specs.WellTypedTypes.{container_type, Scope, variable_type, has_type, is_scalar}
@@ -32,13 +30,13 @@ use Rattle.sl_model.specs.WellTypedStatements.{is_making}
 use Rattle.sl_model.proofs.Passing.{first_of_both, second_of_both, three_parts}
 use Rattle.sl_model.proofs.TypedOperands.{only_holds, only_rest}
 use Rattle.sl_model.proofs.ScopedRows.{IsShaped, right_result, right_call, right_move, is_right, right_found, row_right, result_shaped, only_shaped}
-use Rattle.sl_model.proofs.ScopedRows.{no_form, meaning-by, algorithm_still, algorithm_moves, constructor_same, member_old, form_there}
+use Rattle.sl_model.proofs.ScopedRows.{algorithm_still, algorithm_moves, advance_alone}
 use Rattle.sl_model.proofs.ScopedRows.{nothing_shaped, advance_gives_nothing}
+use Rattle.sl_model.proofs.TypedRows.{no_object, one_object, meaning_on, meaning_alone, row_object}
 
 -- what is asked of the row of a member
 record MemberHolds (row : Row) (x : Form) (us : List ExprType) : Type 0 where
-  form : Form
-  there : row.form ≡ Some form
+  there : row.form ≡ Some x
   keeps : is_constructor row ≡ false
   fit : fits x row.letters us ≡ true
 
@@ -50,21 +48,19 @@ member_holds row access x us h =
     let three =
     first_of_both (same_object row.form (Some x) && not (is_constructor row) && may_be_called row.changes access) (fits x row.letters us) h in
     let two = first_of_both (same_object row.form (Some x) && not (is_constructor row)) (may_be_called row.changes access) three in
-    let form = form_there row.form x (first_of_both (same_object row.form (Some x)) (not (is_constructor row)) two) in
     record {
-      form = form.0;
-      there = form.1;
+      there = one_object row.form x (first_of_both (same_object row.form (Some x)) (not (is_constructor row)) two);
       keeps = not-true (is_constructor row) (second_of_both (same_object row.form (Some x)) (not (is_constructor row)) two);
       fit = second_of_both (same_object row.form (Some x) && not (is_constructor row) && may_be_called row.changes access) (fits x row.letters us) h;
     }
 
 -- the shape of what the row of a form gives is that of its return
 member_shape : (row : Row) (form : Form) → row.form ≡ Some form → (meaning_of false row).shape ≡ shape_of_return row.gives
-member_shape row form e = (meaning-by false row (Some form) e).0
+member_shape row form e = ap (λ (m : Meaning). m.shape) (meaning_on false row form e)
 
 -- so is that of an algorithm that moves nothing
 algorithm_shape_still : (row : Row) → row.form ≡ None → is_advance row ≡ false → (meaning_of false row).shape ≡ shape_of_return row.gives
-algorithm_shape_still row e still = (meaning-by false row None e).0 ∙ algorithm_still row.call row.gives still
+algorithm_shape_still row e still = ap (λ (m : Meaning). m.shape) (meaning_alone false row e) ∙ algorithm_still row.call row.gives still
 
 -- a call of a right row gives the shape of its return
 return_shaped : (row : Row) (b : Bool) (x : Form) (us : List ExprType) → is_right row ≡ true
@@ -81,7 +77,7 @@ member_shaped row (container_type access x) us right h = only_shaped
     (same_object row.form (Some x) && not (is_constructor row) && may_be_called row.changes access && fits x row.letters us)
     (result_type row.gives (is_const access) x us) (meaning_of false row).shape
     (λ all typed. let holds = member_holds row access x us all in
-    return_shaped row (is_const access) x us right (member_shape row holds.form holds.there) holds.fit typed) h
+    return_shaped row (is_const access) x us right (member_shape row x holds.there) holds.fit typed) h
 member_shaped row u us right h = absurd cc
 
 -- so has one of an algorithm
@@ -90,7 +86,7 @@ algorithm_shaped : (row : Row) (us : List ExprType) → is_right row ≡ true �
 algorithm_shaped row us right still h = only_shaped (is_algorithm row && fits f.Vector row.letters us) (result_type row.gives false f.Vector us)
     (meaning_of false row).shape
     (λ all typed. return_shaped row false f.Vector us right
-    (algorithm_shape_still row (no_form row.form (first_of_both (is_algorithm row) (fits f.Vector row.letters us) all)) still)
+    (algorithm_shape_still row (no_object row.form (first_of_both (is_algorithm row) (fits f.Vector row.letters us) all)) still)
     (second_of_both (is_algorithm row) (fits f.Vector row.letters us) all) typed) h
 
 -- so has one of a row that moves nothing
@@ -143,8 +139,8 @@ call_still g (callees.Hidden o) object us still h = absurd cc
 -- a row that moves its iterator gives one
 row_moves : (row : Row) (o : Option Form) → row.form ≡ o → right_call o row.call ≡ true → is_advance row ≡ true
     → (meaning_of false row).shape ≡ a_stamp
-row_moves row None e right moves = (meaning-by false row None e).0 ∙ algorithm_moves row.call row.gives moves
-row_moves row (Some form) e right moves = absurd (let still = not-true (same_call c.Advance row.call) right in cc)
+row_moves row o e right moves =
+    ap (λ (m : Meaning). m.shape) (meaning_alone false row (e ∙ advance_alone o row.call right moves)) ∙ algorithm_moves row.call row.gives moves
 
 -- so does one that is found
 found_moves : (found : Option Row) → right_found found ≡ true → is_moving_row found ≡ true
@@ -201,7 +197,7 @@ call_shaped g callee object us h = at (is_moving callee) refl
 
 -- an algorithm makes no container
 algorithm_makes_none : (appends : Bool) (row : Row) → is_algorithm row ≡ true → is_new_one (meaning_of appends row).object ≡ false
-algorithm_makes_none appends row h = (meaning-by appends row None (no_form row.form h)).1
+algorithm_makes_none appends row h = ap (λ (m : Meaning). is_new_one m.object) (meaning_alone appends row (no_object row.form h))
 
 -- a member that is called makes none
 member_makes_none : (row : Row) (u : ExprType) (us : List ExprType) → has_type (member_type row u us) ≡ true
@@ -210,7 +206,7 @@ member_makes_none row (container_type access x) us h =
     let holds = member_holds row access x us (only_holds
     (same_object row.form (Some x) && not (is_constructor row) && may_be_called row.changes access && fits x row.letters us)
     (result_type row.gives (is_const access) x us) h) in
-    (meaning-by false row (Some holds.form) holds.there).1 ∙ member_old holds.form row false (constructor_same row.call ∙ holds.keeps)
+    ap (λ (m : Meaning). is_new_one m.object) (meaning_on false row x holds.there) ∙ ap is_new_one (row_object x row false holds.keeps)
 member_makes_none row u us h = absurd cc
 
 -- a row that is called makes none
@@ -245,9 +241,9 @@ found_makes : (form : Form) (found : Option Row) (us : List ExprType) → constr
 found_makes form None us h = absurd cc
 found_makes form (Some row) us h =
     let two = first_of_both (same_object row.form (Some form) && is_constructor row) (fits form row.letters us) h in
-    let there = form_there row.form form (first_of_both (same_object row.form (Some form)) (is_constructor row) two) in
-    (meaning-by false row (Some there.0) there.1).1 ∙ member_old there.0 row true
-    (constructor_same row.call ∙ second_of_both (same_object row.form (Some form)) (is_constructor row) two)
+    ap (λ (m : Meaning). is_new_one m.object)
+    (meaning_on false row form (one_object row.form form (first_of_both (same_object row.form (Some form)) (is_constructor row) two)))
+    ∙ ap is_new_one (row_object form row true (second_of_both (same_object row.form (Some form)) (is_constructor row) two))
 
 -- a call that makes a container of a form makes one, and has no object
 pub making_makes : (form : Form) (callee : Callee) (object : Option ℕ) (us : List ExprType) → is_making form callee object us ≡ true

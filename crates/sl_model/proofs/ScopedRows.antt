@@ -1,8 +1,9 @@
 -- What each row of the table is as far as a typed call of it needs: which shape it gives, by the letters of its operands, and what makes a container.
 use Rattle.std.proofs.Common.{◌≡◌, ℕ, Bool, true, false, not, ◌&&◌, ◌||◌, List, [], ◌∷◌, take, drop, zero, suc, Option, Some, None}
-use Rattle.std.proofs.Common.{refl, subst}
-use Rattle.std.specs.Prelude.{slice_get, if◌then◌else◌}
+use Rattle.std.proofs.Common.{refl}
+use Rattle.std.specs.Prelude.{slice_get}
 use Rattle.std.specs.List.{list_all}
+use Rattle.std.proofs.lemmas.Bool.{not-true}
 use Rattle.sl_base.specs.declared.form.Form.{Form}
 use Rattle.sl_specs.specs.declared.call.Call.{Call}
 use Rattle.sl_specs.specs.declared.call.Call.TheVariants as c
@@ -10,15 +11,12 @@ use Rattle.sl_specs.specs.declared.letter.Letter.{Letter}
 use Rattle.sl_specs.specs.declared.letter.Letter.TheVariants as l
 use Rattle.sl_specs.specs.declared.return_type.ReturnType.{ReturnType}
 use Rattle.sl_specs.specs.declared.return_type.ReturnType.TheVariants as r
-use Rattle.sl_specs.specs.Forms.{same_object}
 use Rattle.sl_specs.specs.Rows.{Row}
 use Rattle.sl_specs.specs.Table.{table, same_call}
 use Rattle.sl_syntax.specs.Written.{is_map}
 use Rattle.sl_model.specs.Forms.{is_keyed, is_hash}
 use Rattle.sl_model.specs.Values.{Shape, a_number, a_stamp, a_pair, two_stamps, an_element}
-use Rattle.sl_model.specs.Rows.{shape_of_return, algorithm_shape, algorithm_row, member_row, meaning_of}
-use Rattle.sl_model.specs.Rows.{Row as Meaning, new_one, of_form, is_constructor as constructs_one}
-use Rattle.sl_model.specs.Shapes.{is_new_one}
+use Rattle.sl_model.specs.Rows.{shape_of_return, algorithm_shape}
 use Rattle.sl_model.specs.WellTypedTypes.{ExprType, empty_type, scalar_type, element_type, iterator_type, iterator_and_bool, two_iterators}
 use Rattle.sl_model.specs.WellTypedTypes.{has_type, only, is_iterator, is_iterator_that}
 use Rattle.sl_model.specs.WellTypedTypes.{is_writing_iterator, same_iterators}
@@ -63,7 +61,7 @@ right_call (Some form) call = not (same_call c.Advance call)
 right_call None call = true
 
 -- a row gives nothing
-abbrev gives_nothing : ReturnType → Bool
+abbrev pub gives_nothing : ReturnType → Bool
 gives_nothing r.Nothing = true
 gives_nothing gives = false
 
@@ -86,7 +84,7 @@ right_found None = true
 right_found (Some row) = is_right row
 
 -- what is found at a number is
-found_right : (n : ℕ) (found : Option Row) → slice_get table n ≡ found → right_found found ≡ true
+pub found_right : (n : ℕ) (found : Option Row) → slice_get table n ≡ found → right_found found ≡ true
 found_right n None e = refl
 found_right n (Some row) e = passes_at is_right table n row table_right e
 
@@ -118,7 +116,7 @@ first_of_range test (u ∷ []) h = absurd cc
 first_of_range test (u ∷ v ∷ us) h = any_iterator test u (first_of_both (is_iterator_that test u) (same_iterators u v) h)
 
 -- what fits letters that begin with an iterator begins with one
-first_is_iterator : (form : Form) (letters : List Letter) (us : List ExprType) → fits form letters us ≡ true → begins_with_iterator letters ≡ true
+pub first_is_iterator : (form : Form) (letters : List Letter) (us : List ExprType) → fits form letters us ≡ true → begins_with_iterator letters ≡ true
     → is_iterator (first_type us) ≡ true
 first_is_iterator form (l.IntRange ∷ rest) us h b =
     first_of_range (λ c x. not (is_map x)) us (first_of_both (fits_letter form l.IntRange (take 2 us)) (fits form rest (drop 2 us)) h)
@@ -149,7 +147,7 @@ output_is_iterator form l.Output (u ∷ v ∷ us) h b =
 output_is_iterator form letter us h b = absurd cc
 
 -- what fits letters that end with an output ends with an iterator
-last_is_iterator : (form : Form) (letters : List Letter) (us : List ExprType) → fits form letters us ≡ true → ends_with_output letters ≡ true
+pub last_is_iterator : (form : Form) (letters : List Letter) (us : List ExprType) → fits form letters us ≡ true → ends_with_output letters ≡ true
     → is_iterator (last_type us) ≡ true
 last_is_iterator form [] us h b = absurd cc
 last_is_iterator form (letter ∷ []) us h b = output_is_iterator form letter us h b
@@ -177,32 +175,6 @@ pub only_shaped : (b : Bool) (u : ExprType) (shape : Shape) → (b ≡ true → 
 only_shaped true u shape give h = give refl h
 only_shaped false u shape give h = absurd cc
 
--- an algorithm has no form
-pub no_form : (o : Option Form) → same_object o None ≡ true → o ≡ None
-no_form None h = refl
-no_form (Some x) h = absurd cc
-
--- what a row of a form, or of none, means
-abbrev meaning_by : Bool → Row → Option Form → Shape × Bool
-meaning_by appends row None = ((algorithm_row appends row).shape, is_new_one (algorithm_row appends row).object)
-meaning_by appends row (Some form) = ((member_row form row).shape, is_new_one (member_row form row).object)
-
--- two rows have one shape, and make a container or not alike
-abbrev AreAlike : Meaning → Shape × Bool → Type 0
-AreAlike m by = (m.shape ≡ by.0) × (is_new_one m.object ≡ by.1)
-
--- the shape and the object of what a row means go by its form
-pub meaning-by : (appends : Bool) (row : Row) (o : Option Form) → row.form ≡ o → AreAlike (meaning_of appends row) (meaning_by appends row o)
-meaning-by appends row o e = at row.form o e
-  where
-    at : (now o : Option Form) → now ≡ o
-        → AreAlike (elim now as (λ _. Meaning) [ None ↦ algorithm_row appends row | Some form ↦ member_row form row ]) (meaning_by appends row o)
-    at None None h = (refl, refl)
-    at None (Some x) h = absurd cc
-    at (Some x) None h = absurd cc
-    at (Some x) (Some y) h =
-        let same : x ≡ y = cc in subst (λ z. AreAlike (member_row x row) (meaning_by appends row (Some z))) same (refl, refl)
-
 -- the shape of what an algorithm gives that moves nothing
 pub algorithm_still : (call : Call) (gives : ReturnType) → same_call c.Advance call ≡ false → algorithm_shape false call gives ≡ shape_of_return gives
 algorithm_still c.Advance gives h = absurd cc
@@ -213,25 +185,10 @@ pub algorithm_moves : (call : Call) (gives : ReturnType) → same_call c.Advance
 algorithm_moves c.Advance gives h = refl
 algorithm_moves call gives h = absurd cc
 
--- whether a row of a container makes one is told by its call
-pub constructor_same : (call : Call) → constructs_one call ≡ same_call c.Constructor call
-constructor_same c.Constructor = refl
-constructor_same call = refl
-
--- a member that is no constructor has no new object
-pub member_old : (form : Form) (row : Row) (b : Bool) → constructs_one row.call ≡ b → is_new_one (member_row form row).object ≡ b
-member_old form row b e = at (constructs_one row.call) b e
-  where
-    at : (now b : Bool) → now ≡ b → is_new_one (if now then new_one form else of_form form) ≡ b
-    at true true h = refl
-    at true false h = absurd cc
-    at false true h = absurd cc
-    at false false h = refl
-
--- a form that is asked for is there
-pub form_there : (o : Option Form) (form : Form) → same_object o (Some form) ≡ true → (x : Form) × (o ≡ Some x)
-form_there None form h = absurd cc
-form_there (Some x) form h = (x, refl)
+-- a right row that moves its iterator has no form
+pub advance_alone : (o : Option Form) (call : Call) → right_call o call ≡ true → same_call c.Advance call ≡ true → o ≡ None
+advance_alone None call right moves = refl
+advance_alone (Some form) call right moves = absurd (let still = not-true (same_call c.Advance call) right in cc)
 
 -- what gives nothing may have any shape
 pub nothing_shaped : (gives : ReturnType) (b : Bool) (x : Form) (us : List ExprType) (shape : Shape) → gives_nothing gives ≡ true

@@ -3,6 +3,7 @@ use Rattle.std.proofs.Common.{◌≡◌, ℕ, ◌+◌, Bool, true, not, ◌&&◌
 use Rattle.std.specs.Prelude.{if◌then◌else◌}
 use Rattle.std.specs.List.{list_all}
 use Rattle.std.proofs.lemmas.List.Folds.{list_all-append}
+use Rattle.std.proofs.lemmas.Bool.{and_from}
 use Rattle.sl_base.specs.declared.scalar.Scalar.TheVariants as t
 use Rattle.sl_syntax.specs.declared.operator.Access.TheVariants as a
 use Rattle.sl_syntax.specs.declared.typed.element.Taken.{Taken}
@@ -20,7 +21,6 @@ use Rattle.sl_model.specs.WellTypedTypes.{with_container, with_iterator, is_cons
 use Rattle.sl_model.specs.WellTypedExpressions.{type_of, type_of_left}
 use Rattle.sl_model.specs.WellTypedStatements.{reference_to, behind, behind_first, may_go_over, in_range, with_parameter, with_parameters}
 use Rattle.sl_model.specs.WellTypedStatements.{no_variables}
-use Rattle.sl_model.proofs.Passing.{both_true}
 use Rattle.sl_model.proofs.ScopedGifts.{scope_counts, is_scalar_type, is_container_type, KnowsText}
 
 -- a list with one more is one longer
@@ -86,7 +86,7 @@ parameters_counts (k ∷ ks) g = parameters_counts ks (with_parameter k g) ∙ a
 one_more_passes : (test : ExprType → Bool) (us : List ExprType) (u : ExprType) → list_all test us ≡ true → test u ≡ true
     → list_all test (us ++ u ∷ []) ≡ true
 one_more_passes test us u h k =
-    list_all-append test us (u ∷ []) ∙ both_true (list_all test us) (test u && true) h (both_true (test u) true k refl)
+    list_all-append test us (u ∷ []) ∙ and_from (list_all test us) (test u && true) h (and_from (test u) true k refl)
 
 -- a scope with one scalar more knows the text
 scalar_known : (p : Typed) (u : ExprType) (g : Scope) → is_scalar_type u ≡ true → KnowsText p g → KnowsText p (with_scalar u g)

@@ -3,6 +3,7 @@
 use Rattle.std.proofs.Common.{◌≡◌, refl, sym, subst, ℕ, zero, suc, Bool, true, false, List, [], ◌∷◌, length, Option, Some, None}
 use Rattle.std.specs.Prelude.{ℤ, take, nat_le, slice_get, slice_set, if◌then◌else◌}
 use Rattle.std.specs.List.{list_all}
+use Rattle.std.proofs.lemmas.Bool.{and_from}
 use Rattle.std.proofs.lemmas.List.{length-set}
 use Rattle.sl_base.specs.declared.limits.TheConstants.{CALLS, WINDOW}
 use Rattle.sl_base.specs.declared.scalar.Scalar.TheVariants as t
@@ -15,7 +16,7 @@ use Rattle.sl_model.specs.Library.{lib}
 use Rattle.sl_model.specs.Eval.{Out}
 use Rattle.sl_model.specs.Run.{empty_state, first_place, main_out}
 use Rattle.sl_model.specs.Decided.{decided_steps, holds_at_most, unless_above, lib_within, stays_small}
-use Rattle.sl_model.proofs.Passing.{first_of_both, second_of_both, both_true, passes_at}
+use Rattle.sl_model.proofs.Passing.{first_of_both, second_of_both, passes_at}
 use Rattle.sl_model.proofs.Keeps.{InAnswer, InOut}
 use Rattle.sl_model.proofs.KeepsCalls.{in_call}
 use Rattle.sl_model.proofs.LackingCalls.{small_is_same}
@@ -28,15 +29,15 @@ IsSmall n m = holds_at_most n m ≡ true
 take_passes : {X : Type 0} (test : X → Bool) (n : ℕ) (xs : List X) → list_all test xs ≡ true → list_all test (take n xs) ≡ true
 take_passes test zero xs h = refl
 take_passes test (suc n) [] h = refl
-take_passes test (suc n) (x ∷ xs) h = both_true (test x) (list_all test (take n xs)) (first_of_both (test x) (list_all test xs) h)
+take_passes test (suc n) (x ∷ xs) h = and_from (test x) (list_all test (take n xs)) (first_of_both (test x) (list_all test xs) h)
     (take_passes test n xs (second_of_both (test x) (list_all test xs) h))
 
 -- a list that passes a test does with another item that passes it
 set_passes : {X : Type 0} (test : X → Bool) (xs : List X) (i : ℕ) (y : X) → test y ≡ true → list_all test xs ≡ true
     → list_all test (slice_set xs i y) ≡ true
 set_passes test [] i y k h = refl
-set_passes test (x ∷ xs) zero y k h = both_true (test y) (list_all test xs) k (second_of_both (test x) (list_all test xs) h)
-set_passes test (x ∷ xs) (suc i) y k h = both_true (test x) (list_all test (slice_set xs i y)) (first_of_both (test x) (list_all test xs) h)
+set_passes test (x ∷ xs) zero y k h = and_from (test y) (list_all test xs) k (second_of_both (test x) (list_all test xs) h)
+set_passes test (x ∷ xs) (suc i) y k h = and_from (test x) (list_all test (slice_set xs i y)) (first_of_both (test x) (list_all test xs) h)
     (set_passes test xs i y k (second_of_both (test x) (list_all test xs) h))
 
 -- a number that is written leaves as many elements

@@ -5,6 +5,7 @@ use Rattle.std.proofs.Common.{◌≡◌, ℕ, zero, suc, Bool, true, false, not,
 use Rattle.std.proofs.Common.{refl, ap, sym, subst, ◌∙◌, arith}
 use Rattle.std.specs.List.{slice_get, list_all}
 use Rattle.std.proofs.lemmas.List.{take_all}
+use Rattle.std.proofs.lemmas.Bool.{and_from}
 use denote.Enum.Bare.{true_same}
 use Rattle.sl_base.specs.contracts.form.Form.{the_type}
 use Rattle.sl_base.specs.declared.form.Form.{Form}
@@ -28,7 +29,7 @@ use Rattle.sl_model.proofs.Called.{one_form}
 use Rattle.sl_model.proofs.Fitting.{forms_of, StampFits, IsNumber, IsIteratorOf, IsContainerOf, Fits, AllFit}
 use Rattle.sl_model.proofs.Getting.{got_map}
 use Rattle.sl_model.proofs.Located.{at-locate}
-use Rattle.sl_model.proofs.Passing.{first_of_both, second_of_both, both_true}
+use Rattle.sl_model.proofs.Passing.{first_of_both, second_of_both}
 
 -- a number is of the sort of numbers
 pub number_of : (m : Memory) (v : Value) → IsNumber v → is_of m a_number v ≡ true
@@ -142,9 +143,9 @@ appended_fits m u v h fit = absurd cc
 pub more_of : (m : Memory) (sort : Sort) (sorts : List Sort) (v : Value) (vs : List Value) → is_of m sort v ≡ true → are_of m sorts vs ≡ true
     → are_of m (sort ∷ sorts) (v ∷ vs) ≡ true
 more_of m numbers sorts v vs h k = absurd cc
-more_of m perhaps_a_number [] v vs h k = both_true (is_of m perhaps_a_number v) (are_of m [] vs) h k
-more_of m perhaps_a_number (sort ∷ sorts) v vs h k = both_true (is_of m perhaps_a_number v) (are_of m (sort ∷ sorts) vs) h k
-more_of m sort sorts v vs h k = both_true (is_of m sort v) (are_of m sorts vs) h k
+more_of m perhaps_a_number [] v vs h k = and_from (is_of m perhaps_a_number v) (are_of m [] vs) h k
+more_of m perhaps_a_number (sort ∷ sorts) v vs h k = and_from (is_of m perhaps_a_number v) (are_of m (sort ∷ sorts) vs) h k
+more_of m sort sorts v vs h k = and_from (is_of m sort v) (are_of m sorts vs) h k
 
 -- what is of each type that passes a test is of a sort
 abbrev PassAsSort : Memory → (ExprType → Bool) → Sort → Type 0
@@ -184,7 +185,7 @@ ints_of m [] [] h fit = refl
 ints_of m [] (v ∷ vs) h fit = absurd fit
 ints_of m (u ∷ us) [] h fit = absurd fit
 ints_of m (u ∷ us) (v ∷ vs) h fit =
-    both_true (is_number v) (all_numbers vs)
+    and_from (is_number v) (all_numbers vs)
     (one_number v (scalar_fits m t.Int u v (first_of_both (is_scalar t.Int u) (list_all (is_scalar t.Int) us) h) fit.0))
     (ints_of m us vs (second_of_both (is_scalar t.Int u) (list_all (is_scalar t.Int) us) h) fit.1)
 

@@ -21,8 +21,8 @@ use Rattle.sl_model.proofs.AsInts.{converted-fits}
 use Rattle.sl_model.proofs.Called.{HasObject, own_form}
 use Rattle.sl_model.proofs.OrderlyEffects.{IsTidy}
 use Rattle.sl_model.proofs.Tells.{AllOf, all_parts}
-use Rattle.sl_model.proofs.TidyRows.{LineIsTidy, range-ints, listed-ints, repeated-ints, filled-tidy, copied-order, first_of_form, second_of_form}
-use Rattle.sl_model.proofs.TidyRows.{form_there, cont_there}
+use Rattle.sl_model.proofs.TidyRows.{LineIsTidy, range-ints, listed-ints, repeated-ints, filled-tidy, copied-order}
+use Rattle.sl_model.proofs.OperandForms.{first_of_form, second_of_form, form_there, cont_there}
 
 -- the object of a form without keys has none
 free_own : (form : Form) (s : Situation) → HasObject (of_form form) s → is_keyed form ≡ false → is_keyed (own s).form ≡ false

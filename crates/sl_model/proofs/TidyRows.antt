@@ -3,6 +3,7 @@ use Rattle.std.proofs.Common.{◌≡◌, ℕ, zero, suc, ◌&&◌, Bool, true, f
 use Rattle.std.proofs.Common.{subst, if◌then◌else◌, ℤ, option_map, replicate}
 use Rattle.std.specs.Prelude.{find, slice_index_or}
 use Rattle.std.specs.List.{slice_get}
+use Rattle.std.proofs.lemmas.Bool.{not-true}
 use Rattle.sl_base.specs.declared.form.Form.{Form}
 use Rattle.sl_base.specs.declared.form.Form.TheVariants as f
 use Rattle.sl_base.specs.declared.scalar.Scalar.TheVariants as t
@@ -13,25 +14,24 @@ use Rattle.sl_model.specs.Containers.{Cell, Cont, Memory, cont_at, keys, items}
 use Rattle.sl_model.specs.Forms.{is_keyed}
 use Rattle.sl_model.specs.Numbers.{converted, fits}
 use Rattle.sl_model.specs.Needs.{first_failure}
-use Rattle.sl_model.specs.Operands.{Sort, an_iterator, a_writer, a_container, is_of_form, is_of, are_of, is_sequence, stands_in_sequence}
+use Rattle.sl_model.specs.Operands.{Sort, a_writer, is_of, are_of, is_sequence, stands_in_sequence}
 use Rattle.sl_model.specs.Orderly.{may_precede, Each, AreInOrder, HoldsInts, IsOrderlyCont, IsOrderly}
 use Rattle.sl_model.specs.Schedule.{scattered, after_picks}
-use Rattle.sl_model.specs.Situation.{Situation, argument, place_in, place_of, container_of, container_of_value, their, index, number_in}
+use Rattle.sl_model.specs.Situation.{Situation, argument, place_in, place_of, container_of, their, index, number_in}
 use Rattle.sl_model.specs.Situation.{item, as_items, listed, range_keys}
 use Rattle.sl_model.specs.Values.{Value, nothing, number, iterator, pair, two, scalar_at, container_at, element_at}
 use Rattle.sl_model.specs.Actions.{never}
 use Rattle.sl_model.specs.MakeActions.{filled, copy_items}
 use Rattle.sl_model.specs.Rows.{Row, member_row}
 use Rattle.sl_model.specs.Library.{form_of}
-use Rattle.sl_model.proofs.After.{cont_of_there}
+use Rattle.sl_model.proofs.After.{cont_of_there, cont_of_none}
 use Rattle.sl_model.proofs.AlgorithmsTell.{container_there}
 use Rattle.sl_model.proofs.AsInts.{converted-fits, converted-same}
-use Rattle.sl_model.proofs.Called.{IsCalled, one_form, own_form, own_there}
-use Rattle.sl_model.proofs.FineEffects.{IsThere}
+use Rattle.sl_model.proofs.Called.{IsCalled, one_form}
 use Rattle.sl_model.proofs.KeysAfter.{any_order, hash-turns}
 use Rattle.sl_model.proofs.OrderlyEffects.{HasIntKey, IsTidy}
-use Rattle.sl_model.proofs.OutputsTell.{first_holds, second_holds}
 use Rattle.sl_model.proofs.Pairs.{each-map, each-weaker, each-take, each-drop, pairs-map, pairs-mapped, pairs-scattered}
+use Rattle.sl_model.proofs.Passing.{first_of_both, second_of_both}
 
 -- a row's effect is tidy wherever it is called in an orderly memory, its needs hold and nothing stops it
 abbrev pub RowIsTidy : Row → Type 0
@@ -55,18 +55,14 @@ pub free_form : (form : Form) (class : Class) (xs : List (Form × Class)) → cl
     → is_keyed form ≡ false
 free_form form class [] e h = absurd (cc)
 free_form form class (x ∷ xs) e h =
-    by_form (same_form x.0 form) refl e (first_holds (not (is_keyed x.0)) (all_free xs) h)
-    (second_holds (not (is_keyed x.0)) (all_free xs) h) (free_form form class xs)
+    by_form (same_form x.0 form) refl e (first_of_both (not (is_keyed x.0)) (all_free xs) h)
+    (second_of_both (not (is_keyed x.0)) (all_free xs) h) (free_form form class xs)
   where
-    no_keys : (b : Bool) → not b ≡ true → b ≡ false
-    no_keys true g = absurd (cc)
-    no_keys false g = refl
-
     by_form : (b : Bool) → same_form x.0 form ≡ b
         → option_map (λ (y : Form × Class). y.1) (if b then Some x else find (λ (y : Form × Class). same_form y.0 form) xs) ≡ Some class
         → not (is_keyed x.0) ≡ true → all_free xs ≡ true → (class_on form xs ≡ Some class → all_free xs ≡ true → is_keyed form ≡ false)
         → is_keyed form ≡ false
-    by_form true t e h k rest = subst (λ g. is_keyed g ≡ false) (one_form x.0 form t) (no_keys (is_keyed x.0) h)
+    by_form true t e h k rest = subst (λ g. is_keyed g ≡ false) (one_form x.0 form t) (not-true (is_keyed x.0) h)
     by_form false t e h k rest = rest e k
 
 -- ## Elements that are ints
@@ -75,16 +71,8 @@ free_form form class (x ∷ xs) e h =
 pub any_ints : (m : Memory) (j : ℕ) → IsOrderly m → Each HoldsInts (cont_at m j).cells
 any_ints m j orderly = by_cont (slice_get m.conts j) refl
   where
-    missing : Cont
-    missing = record { form = f.Vector; cells = []; end = m.fresh; room = 0 }
-
-    not_there : (xs : List Cont) (j : ℕ) (d : Cont) → slice_get xs j ≡ None → slice_index_or xs j d ≡ d
-    not_there [] j d h = refl
-    not_there (x ∷ xs) zero d h = absurd (cc)
-    not_there (x ∷ xs) (suc j) d h = not_there xs j d h
-
     by_cont : (o : Option Cont) → slice_get m.conts j ≡ o → Each HoldsInts (cont_at m j).cells
-    by_cont None e = subst (λ (c : Cont). Each HoldsInts c.cells) (sym (not_there m.conts j missing e)) tt
+    by_cont None e = subst (λ (c : Cont). Each HoldsInts c.cells) (sym (cont_of_none m j e)) tt
     by_cont (Some c) e = subst (λ (d : Cont). Each HoldsInts d.cells) (sym (cont_of_there m j c e)) (orderly j c e).ints
 
 -- the keys of a range
@@ -154,50 +142,13 @@ copied-order f.MultiMap c picks h e = copy-order f.MultiMap c h e
 
 -- ## Operands
 
--- the first operand is a container of a form
-pub first_of_form : (m : Memory) (form : Form) (sorts : List Sort) (vs : List Value) → are_of m (a_container form ∷ sorts) vs ≡ true
-    → is_of_form form (slice_get m.conts (container_of_value m (slice_index_or vs 0 nothing))) ≡ true
-first_of_form m form sorts [] h = absurd (cc)
-first_of_form m form sorts (v ∷ vs) h = by_value v (first_holds (is_of m (a_container form) v) (are_of m sorts vs) h)
-  where
-    by_value : (v : Value) → is_of m (a_container form) v ≡ true → is_of_form form (slice_get m.conts (container_of_value m v)) ≡ true
-    by_value nothing h = absurd (cc)
-    by_value (number z) h = absurd (cc)
-    by_value (iterator x) h = absurd (cc)
-    by_value (pair x b) h = absurd (cc)
-    by_value (two x y) h = absurd (cc)
-    by_value (scalar_at l) h = absurd (cc)
-    by_value (container_at j) h = h
-    by_value (element_at i k p) h = absurd (cc)
-
--- the second operand behind an iterator is one
-pub second_of_form : (m : Memory) (form : Form) (sorts : List Sort) (vs : List Value)
-    → are_of m (an_iterator ∷ a_container form ∷ sorts) vs ≡ true
-    → is_of_form form (slice_get m.conts (container_of_value m (slice_index_or vs 1 nothing))) ≡ true
-second_of_form m form sorts [] h = absurd (cc)
-second_of_form m form sorts (v ∷ []) h = absurd (let q = second_holds (is_of m an_iterator v) (are_of m (a_container form ∷ sorts) []) h in cc)
-second_of_form m form sorts (v ∷ w ∷ vs) h =
-    first_of_form m form sorts (w ∷ vs) (second_holds (is_of m an_iterator v) (are_of m (a_container form ∷ sorts) (w ∷ vs)) h)
-
--- the form of a container of a form
-pub form_there : (m : Memory) (form : Form) (j : ℕ) → is_of_form form (slice_get m.conts j) ≡ true → (cont_at m j).form ≡ form
-form_there m form j h = own_form form (record { memory = m; object = j; values = []; picks = []; site = 0 }) h
-
--- it is there
-pub cont_there : (m : Memory) (form : Form) (j : ℕ) → is_of_form form (slice_get m.conts j) ≡ true → IsThere m j
-cont_there m form j h = own_there form (record { memory = m; object = j; values = []; picks = []; site = 0 }) h
-
 -- a container that is a sequence has no keys
 pub sequence-free : (m : Memory) (j : ℕ) → is_sequence (slice_get m.conts j) ≡ true → is_keyed (cont_at m j).form ≡ false
 sequence-free m j h = by_cont (slice_get m.conts j) refl h
   where
-    no_keys : (b : Bool) → not b ≡ true → b ≡ false
-    no_keys true g = absurd (cc)
-    no_keys false g = refl
-
     by_cont : (o : Option Cont) → slice_get m.conts j ≡ o → is_sequence o ≡ true → is_keyed (cont_at m j).form ≡ false
     by_cont None e g = absurd (cc)
-    by_cont (Some c) e g = ap (λ (d : Cont). is_keyed d.form) (cont_of_there m j c e) ∙ no_keys (is_keyed c.form) g
+    by_cont (Some c) e g = ap (λ (d : Cont). is_keyed d.form) (cont_of_there m j c e) ∙ not-true (is_keyed c.form) g
 
 -- the container of an iterator that is written through and stands somewhere
 pub writer-free : (s : Situation) (a : ℕ) (p : ℕ × ℕ) → is_of s.memory a_writer (argument s a) ≡ true → place_of s a ≡ Some p
@@ -220,4 +171,4 @@ writer-free s a p w at =
 pub first_writer : (m : Memory) (sorts : List Sort) (vs : List Value) → are_of m (a_writer ∷ sorts) vs ≡ true
     → is_of m a_writer (slice_index_or vs 0 nothing) ≡ true
 first_writer m sorts [] h = absurd (cc)
-first_writer m sorts (v ∷ vs) h = first_holds (is_of m a_writer v) (are_of m sorts vs) h
+first_writer m sorts (v ∷ vs) h = first_of_both (is_of m a_writer v) (are_of m sorts vs) h

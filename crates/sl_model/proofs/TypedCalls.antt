@@ -22,11 +22,12 @@ use Rattle.sl_model.specs.WellTypedTypes.{is_iterator, is_iterator_of, is_writin
 use Rattle.sl_model.specs.WellTypedTypes.{is_container_of, is_changed_container}
 use Rattle.sl_model.specs.WellTypedCalls.{is_int_iterator, is_bidirectional}
 use Rattle.std.proofs.lemmas.List.{take_all}
+use Rattle.std.proofs.lemmas.Bool.{and_from}
 use Rattle.sl_model.specs.WellTypedCalls.{one, optional, range, elements, fits_letter, width, fits, operator_type, call_type, row_type, member_type}
 use Rattle.sl_model.specs.WellTypedCalls.{algorithm_type, appending_type, constructs, row_at}
 use Rattle.sl_model.specs.WellTypedCalls.{is_constructor, may_be_called, is_algorithm, is_output, appending, result_type, is_equality, is_random}
 use Rattle.sl_model.specs.WellTypedStatements.{is_making}
-use Rattle.sl_model.proofs.Passing.{first_of_both, second_of_both, both_true, first_of_neither, second_of_neither}
+use Rattle.sl_model.proofs.Passing.{first_of_both, second_of_both, first_of_neither, second_of_neither}
 use Rattle.sl_model.proofs.TypedOperands.{typed_by, only_holds, only_rest, all_typed, fitting_typed, second_iterator_typed}
 
 -- the second operand of an operator has a type where the first is an iterator and the call has one
@@ -34,7 +35,7 @@ two_typed : (b : Bool) (x : Form) (test : ExprType → Bool) → test no_type �
     → has_type (only (c && test u) w) ≡ true
     → all_typed (iterator_type b x ∷ u ∷ []) ≡ true
 two_typed b x test n c u w h =
-    both_true (has_type u) true (typed_by test n u (second_of_both c (test u) (only_holds (c && test u) w h))) refl
+    and_from (has_type u) true (typed_by test n u (second_of_both c (test u) (only_holds (c && test u) w h))) refl
 
 -- the first of two iterators of one type has a type
 pub first_iterator_typed : (u v : ExprType) → same_iterators u v ≡ true → has_type u ≡ true
@@ -47,7 +48,7 @@ compared_typed : (o : Comparison) (u v : ExprType) → has_type (operator_type (
 compared_typed o u v h =
     let same = first_of_both (same_iterators u v) (if is_equality o then true else is_random u)
     (only_holds (same_iterators u v && (if is_equality o then true else is_random u)) (scalar_type t.Bool) h) in
-    both_true (has_type u) (has_type v && true) (first_iterator_typed u v same) (both_true (has_type v) true (second_iterator_typed u v same) refl)
+    and_from (has_type u) (has_type v && true) (first_iterator_typed u v same) (and_from (has_type v) true (second_iterator_typed u v same) refl)
 
 -- the operands of an operator that has a type have types
 operator_operands_typed : (o : Operator) (us : List ExprType) → has_type (operator_type o us) ≡ true → all_typed us ≡ true

@@ -2,6 +2,7 @@
 use Rattle.std.proofs.Common.{◌≡◌, ℕ, ◌==◌, Bool, true, false, not, ◌&&◌, List, [], ◌∷◌, ◌++◌, length, Option, Some, None, refl, subst}
 use Rattle.std.proofs.Common.{arith}
 use Rattle.std.specs.Prelude.{slice_get}
+use Rattle.std.proofs.lemmas.Bool.{and_from}
 use Rattle.sl_base.specs.declared.scalar.Scalar.TheVariants as t
 use Rattle.sl_syntax.specs.declared.operator.Access.TheVariants as a
 use Rattle.sl_syntax.specs.declared.typed.head.Head.{Head}
@@ -17,7 +18,7 @@ use Rattle.sl_model.specs.WellTypedExpressions.{type_of, type_of_left, types_of}
 use Rattle.sl_model.specs.WellTypedNodes.{Node, a_call, an_own_call}
 use Rattle.sl_model.specs.WellTypedNodes.{nodes_in, nodes_in_left, nodes_in_operands}
 use Rattle.sl_model.specs.WellTypedOrder.{listed}
-use Rattle.sl_model.proofs.Passing.{first_of_both, second_of_both, both_true}
+use Rattle.sl_model.proofs.Passing.{first_of_both, second_of_both}
 use Rattle.sl_model.proofs.TypedOperands.{typed_by, only_holds, all_typed}
 use Rattle.sl_model.proofs.TypedCalls.{IsThere, Known, call_known}
 use Rattle.sl_model.proofs.TypedParts.{held_typed, converted_number, negated_number, inverted_number, numbers_of_and, numbers_of_or}
@@ -65,7 +66,7 @@ going_known (k ∷ ks) [] h = absurd cc
 going_known (k ∷ ks) (u ∷ us) h =
     let others = going_known ks us (second_of_both (goes_to k u) (go_to ks us) h) in
     let count = others.1 in (
-      both_true (has_type u) (all_typed us) (typed_by (goes_to k) (no_type_goes k) u (first_of_both (goes_to k u) (go_to ks us) h)) others.0,
+      and_from (has_type u) (all_typed us) (typed_by (goes_to k) (no_type_goes k) u (first_of_both (goes_to k u) (go_to ks us) h)) others.0,
       omega (arith, count),
     )
 

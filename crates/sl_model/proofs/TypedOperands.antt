@@ -2,6 +2,7 @@
 use Rattle.std.proofs.Common.{◌≡◌, Bool, true, false, not, ◌&&◌, List, [], ◌∷◌, ◌++◌, take, drop}
 use Rattle.std.proofs.Common.{refl, subst, take-append-drop}
 use Rattle.std.specs.List.{list_all}
+use Rattle.std.proofs.lemmas.Bool.{and_from}
 use Rattle.sl_base.specs.declared.form.Form.{Form}
 use Rattle.sl_base.specs.declared.scalar.Scalar.TheVariants as t
 use Rattle.sl_specs.specs.declared.letter.Letter.{Letter}
@@ -12,7 +13,7 @@ use Rattle.sl_model.specs.WellTypedTypes.{ExprType, no_type, iterator_type}
 use Rattle.sl_model.specs.WellTypedTypes.{has_type, only, is_scalar, is_iterator}
 use Rattle.sl_model.specs.WellTypedTypes.{is_iterator_of, is_writing_iterator, same_iterators, is_container_of, is_changed_container}
 use Rattle.sl_model.specs.WellTypedCalls.{one, optional, range, elements, is_int_iterator, is_bidirectional, is_random, fits_letter, width, fits}
-use Rattle.sl_model.proofs.Passing.{first_of_both, second_of_both, both_true}
+use Rattle.sl_model.proofs.Passing.{first_of_both, second_of_both}
 
 -- what passes a test that `no_type` doesn't pass has a type
 pub typed_by : (test : ExprType → Bool) → test no_type ≡ false → (u : ExprType) → test u ≡ true → has_type u ≡ true
@@ -42,7 +43,7 @@ second_iterator_typed u v h = absurd cc
 -- an operand that passes a test has a type
 one_typed : (test : ExprType → Bool) → test no_type ≡ false → (us : List ExprType) → one test us ≡ true → all_typed us ≡ true
 one_typed test n [] h = absurd cc
-one_typed test n (u ∷ []) h = both_true (has_type u) true (typed_by test n u h) refl
+one_typed test n (u ∷ []) h = and_from (has_type u) true (typed_by test n u h) refl
 one_typed test n (u ∷ v ∷ us) h = absurd cc
 
 -- so has one that may be missing
@@ -54,14 +55,14 @@ optional_typed test n (u ∷ us) h = one_typed test n (u ∷ us) h
 range_typed : (test : ExprType → Bool) → test no_type ≡ false → (us : List ExprType) → range test us ≡ true → all_typed us ≡ true
 range_typed test n [] h = absurd cc
 range_typed test n (u ∷ []) h = absurd cc
-range_typed test n (u ∷ v ∷ []) h = both_true (has_type u) (has_type v && true) (typed_by test n u (first_of_both (test u) (same_iterators u v) h))
-    (both_true (has_type v) true (second_iterator_typed u v (second_of_both (test u) (same_iterators u v) h)) refl)
+range_typed test n (u ∷ v ∷ []) h = and_from (has_type u) (has_type v && true) (typed_by test n u (first_of_both (test u) (same_iterators u v) h))
+    (and_from (has_type v) true (second_iterator_typed u v (second_of_both (test u) (same_iterators u v) h)) refl)
 range_typed test n (u ∷ v ∷ w ∷ us) h = absurd cc
 
 -- all that pass such a test have types
 all_passing_typed : (test : ExprType → Bool) → test no_type ≡ false → (us : List ExprType) → list_all test us ≡ true → all_typed us ≡ true
 all_passing_typed test n [] h = refl
-all_passing_typed test n (u ∷ us) h = both_true (has_type u) (all_typed us) (typed_by test n u (first_of_both (test u) (list_all test us) h))
+all_passing_typed test n (u ∷ us) h = and_from (has_type u) (all_typed us) (typed_by test n u (first_of_both (test u) (list_all test us) h))
     (all_passing_typed test n us (second_of_both (test u) (list_all test us) h))
 
 -- so have the elements of a list
@@ -97,7 +98,7 @@ letter_typed form l.OptionalDistance us h = optional_typed (is_scalar t.Diff) re
 -- two lists of which all have types
 joined_typed : (us vs : List ExprType) → all_typed us ≡ true → all_typed vs ≡ true → all_typed (us ++ vs) ≡ true
 joined_typed [] vs h k = k
-joined_typed (u ∷ us) vs h k = both_true (has_type u) (all_typed (us ++ vs)) (first_of_both (has_type u) (all_typed us) h)
+joined_typed (u ∷ us) vs h k = and_from (has_type u) (all_typed (us ++ vs)) (first_of_both (has_type u) (all_typed us) h)
     (joined_typed us vs (second_of_both (has_type u) (all_typed us) h) k)
 
 -- what letters stand for has types

@@ -2,6 +2,7 @@
 use Rattle.std.proofs.Common.{◌≡◌, ℕ, Bool, true, false, not, ◌&&◌, List, map, Option, Some, None, option_map, refl, ap, ◌∙◌}
 use Rattle.std.specs.Prelude.{is_some, if◌then◌else◌}
 use Rattle.std.specs.List.{slice_get, list_any}
+use Rattle.std.proofs.lemmas.Bool.{not-true}
 use Rattle.sl_base.specs.declared.form.Form.{Form}
 use Rattle.sl_base.specs.declared.form.Form.TheVariants as f
 use Rattle.sl_specs.specs.declared.call.Call.{Call}
@@ -30,11 +31,6 @@ pub no_object : (o : Option Form) → same_object o None ≡ true → o ≡ None
 no_object None h = refl
 no_object (Some x) h = absurd cc
 
--- what isn't so is false
-pub not_so : (b : Bool) → not b ≡ true → b ≡ false
-not_so true h = absurd cc
-not_so false h = refl
-
 -- a row of a form means what its call does on that form
 pub meaning_on : (appends : Bool) (r : TableRow) (form : Form) → r.form ≡ Some form → meaning_of appends r ≡ member_row form r
 meaning_on appends r form e =
@@ -56,7 +52,7 @@ makes_so c.Constructor = refl
 makes_so call = refl
 
 -- the object of a row on a form, by whether it makes a container
-row_object : (form : Form) (r : TableRow) (b : Bool) → is_constructor r ≡ b
+pub row_object : (form : Form) (r : TableRow) (b : Bool) → is_constructor r ≡ b
     → (member_row form r).object ≡ (if b then new_one form else of_form form)
 row_object form r b h = ap (λ (x : Bool). if x then new_one form else of_form form) (makes_so r.call ∙ h)
 
@@ -118,7 +114,7 @@ member_by_line g n x us line e h = by_variable (variable_type g.containers x) re
         (fits form line.letters us) whole in
         let two = first_of_both (same_object line.form (Some form) && not (is_constructor line)) (may_be_called line.changes access) three in
         let on = one_object line.form form (first_of_both (same_object line.form (Some form)) (not (is_constructor line)) two) in
-        let none = not_so (is_constructor line) (second_of_both (same_object line.form (Some form)) (not (is_constructor line)) two) in
+        let none = not-true (is_constructor line) (second_of_both (same_object line.form (Some form)) (not (is_constructor line)) two) in
         record {
           access = access;
           form = form;

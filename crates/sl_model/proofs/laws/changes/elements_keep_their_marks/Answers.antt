@@ -4,7 +4,8 @@ use Rattle.sl_model.specs.Containers.{Grave, IsGrave, size, stamps, refers}
 use Rattle.sl_model.specs.Edits.{buried, changed}
 use Rattle.sl_model.proofs.Buried.{killer_is, killer_before, buried_killer}
 use Rattle.sl_model.proofs.After.{get-after-own}
-use Rattle.sl_model.proofs.Moved.{in_cont, refer_in_cont, iterator-stays, reference-stays, end-stays, later-size, stamp-gone, refer-gone}
+use Rattle.sl_model.proofs.Moved.{in_cont, refer_in_cont, iterator-stays, reference-stays, end-stays, stamp-gone, refer-gone}
+use Rattle.sl_model.proofs.Columns.{rebuilt-size}
 use Rattle.sl_model.proofs.laws.changes.elements_keep_their_marks.Goals as goal
 
 -- a mark at a place that is invalidated is buried, with the site, whatever was dropped before
@@ -31,7 +32,7 @@ pub returns-clause-end : goal.returns-clause-end
 returns-clause-end t = λ ch m j c site there s lives at. record {
   cont = changed m.fresh ch c;
   there = get-after-own ch m j c site there;
-  stands = rw (← later-size ch m.fresh (m.fresh + size c + 1) c c)
+  stands = rw (← rebuilt-size ch m.fresh c c (m.fresh + size c + 1))
       (end-stays ch m.fresh (m.fresh + size c + 1) c c s lives (in_cont m j (size c) s c there at));
 }
 
