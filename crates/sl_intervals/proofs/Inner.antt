@@ -4,16 +4,8 @@ use Rattle.std.proofs.lemmas.Int.{ints}
 use Rattle.sl_base.specs.declared.scalar.Scalar.{Scalar}
 use Rattle.sl_intervals.specs.declared.interval.Interval.{Interval}
 use Rattle.sl_intervals.specs.Intervals.{Holds, IsEmpty, IsWithin, LiesIn, IsAtLeast, IsAtMost}
+use Rattle.sl_intervals.specs.Means.Inner.{IsInner}
 use Rattle.sl_intervals.proofs.Joined.{held_wider}
-
--- the ends of r are the inner ones of a and b
-pub record IsInner (a b r : Interval) : Type 0 where
-  pub low_first : a.low ≤ℤ r.low
-  pub low_second : b.low ≤ℤ r.low
-  pub low_least : (z : ℤ) → a.low ≤ℤ z → b.low ≤ℤ z → r.low ≤ℤ z
-  pub high_first : r.high ≤ℤ a.high
-  pub high_second : r.high ≤ℤ b.high
-  pub high_most : (z : ℤ) → z ≤ℤ a.high → z ≤ℤ b.high → z ≤ℤ r.high
 
 both_held : (a b r : Interval) (z : ℤ) → IsInner a b r → Holds a z → Holds b z → Holds r z
 both_held a b r z m p q =

@@ -3,6 +3,7 @@ ghost use Rattle.std.specs.Prelude.{◌≡◌, ◌⊎◌, ◌↔◌, ℤ};
 ghost use Rattle.std.specs.Int.{int_min, int_max};
 ghost use Rattle.sl_base.specs.declared.scalar.Scalar.{Scalar};
 ghost use Rattle.sl_intervals.specs.Intervals.{Holds, IsEmpty, IsFilled, LiesIn, IsAtLeast, IsAtMost};
+ghost use Rattle.sl_intervals.specs.Means.Inner.{IsInner};
 
 use crate::interval::{Interval, between};
 use crate::numbers::{greater, lesser};
@@ -27,6 +28,15 @@ pub fn join(a: Interval, b: Interval) -> Interval
     between(lesser(a.low, b.low), greater(a.high, b.high))
 }
 
+/// The numbers from the greater low end to the lesser high end.
+fn inner(a: Interval, b: Interval) -> Interval
+    ensures low { result.low ≡ int_max a.low b.low }
+    ensures high { result.high ≡ int_min a.high b.high }
+    ensures inner { IsInner a b result }
+{
+    between(greater(a.low, b.low), lesser(a.high, b.high))
+}
+
 /// The members that two intervals share.
 pub fn meet(a: Interval, b: Interval) -> Interval
     ensures low { result.low ≡ int_max a.low b.low }
@@ -36,5 +46,5 @@ pub fn meet(a: Interval, b: Interval) -> Interval
     ensures at_most { (z : ℤ) → (IsAtMost a z ⊎ IsAtMost b z) → IsAtMost result z }
     ensures within { (ty : Scalar) → (LiesIn ty a ⊎ LiesIn ty b) → LiesIn ty result }
 {
-    between(greater(a.low, b.low), lesser(a.high, b.high))
+    inner(a, b)
 }

@@ -22,10 +22,9 @@ fn products_of_low(a: Interval, b: Interval) -> Interval
     ensures low { result.low ≡ int_min (a.low *ℤ b.low) (a.low *ℤ b.high) }
     ensures high { result.high ≡ int_max (a.low *ℤ b.low) (a.low *ℤ b.high) }
 {
-    between(
-        lesser(a.low * b.low, a.low * b.high),
-        greater(a.low * b.low, a.low * b.high),
-    )
+    let first = a.low * b.low;
+    let second = a.low * b.high;
+    between(lesser(first, second), greater(first, second))
 }
 
 /// The products of the high end of the first, from the least to the greatest.
@@ -34,10 +33,9 @@ fn products_of_high(a: Interval, b: Interval) -> Interval
     ensures low { result.low ≡ int_min (a.high *ℤ b.low) (a.high *ℤ b.high) }
     ensures high { result.high ≡ int_max (a.high *ℤ b.low) (a.high *ℤ b.high) }
 {
-    between(
-        lesser(a.high * b.low, a.high * b.high),
-        greater(a.high * b.low, a.high * b.high),
-    )
+    let first = a.high * b.low;
+    let second = a.high * b.high;
+    between(lesser(first, second), greater(first, second))
 }
 
 /// The numbers from the lesser low end to the greater high end.

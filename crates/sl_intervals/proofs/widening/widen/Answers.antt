@@ -34,10 +34,13 @@ returns-clause-holds c = λ z h.
     c.widened_low.ensures.fallen in
     let r = widened_high_of c.args.ty c.args.constants.now c.args.old.high c.args.new.high c.widened_high.result c.widened_high.ensures.kept
     c.widened_high.ensures.grown in
-    let lo = l.under_old in let ln = l.under_new in let ro = r.over_old in let rn = r.over_new in
+    let e : c.widened_low.result ≡ c.between.result.low = omega (arith, ints) in
+    let f : c.widened_high.result ≡ c.between.result.high = omega (arith, ints) in
     ⊎_elim
-    (λ (p : Holds c.args.old z). held_wider c.args.old _ z (omega (arith, ints)) (omega (arith, ints)) p)
-    (λ (p : Holds c.args.new z). held_wider c.args.new _ z (omega (arith, ints)) (omega (arith, ints)) p)
+    (λ (p : Holds c.args.old z). held_wider c.args.old c.between.result z
+    (subst (λ (v : ℤ). v ≤ℤ c.args.old.low) e l.under_old) (subst (λ (v : ℤ). c.args.old.high ≤ℤ v) f r.over_old) p)
+    (λ (p : Holds c.args.new z). held_wider c.args.new c.between.result z
+    (subst (λ (v : ℤ). v ≤ℤ c.args.new.low) e l.under_new) (subst (λ (v : ℤ). c.args.new.high ≤ℤ v) f r.over_new) p)
     h
 
 pub returns-clause-at_least : goal.returns-clause-at_least

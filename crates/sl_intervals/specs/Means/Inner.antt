@@ -1,0 +1,12 @@
+-- The inner ends of two intervals.
+use Rattle.std.specs.Prelude.{ℤ, ◌≤ℤ◌}
+use Rattle.sl_intervals.specs.declared.interval.Interval.{Interval}
+
+-- the ends of r are the inner ones of a and b
+pub record IsInner (a b r : Interval) : Type 0 where
+  pub low_first : a.low ≤ℤ r.low
+  pub low_second : b.low ≤ℤ r.low
+  pub low_least : (z : ℤ) → a.low ≤ℤ z → b.low ≤ℤ z → r.low ≤ℤ z
+  pub high_first : r.high ≤ℤ a.high
+  pub high_second : r.high ≤ℤ b.high
+  pub high_most : (z : ℤ) → z ≤ℤ a.high → z ≤ℤ b.high → z ≤ℤ r.high
