@@ -103,7 +103,79 @@ set_output true call n s sorts none = appended_output s (output s) n (sequence_o
 
 -- each algorithm, whose output is an appender or isn't
 pub algorithms-give-in : (appends : Bool) → AllOf (AlgorithmGivesIn appends) algorithm_rows
-algorithms-give-in appends = ((λ s h none go. given_in refl tt (range_stands_in s h.object (first_range s _ _ none))), ((λ s h none go. given_in tt tt tt), ((λ s h none go. given_in tt tt tt), ((λ s h none go. given_in refl tt (range_stands_in s h.object (first_range s _ _ none))), ((λ s h none go. given_in refl tt (range_stands_in s h.object (first_range s _ _ none))), ((λ s h none go. given_in tt tt tt), ((λ s h none go. let t = set_output appends c.Merge (length (written_keys c.Merge s)) s h.operands none in given_in t.0 (t.1 _) t.2), ((λ s h none go. given_in tt tt tt), ((λ s h none go. let t = set_output appends c.SetUnion (length (written_keys c.SetUnion s)) s h.operands none in given_in t.0 (t.1 _) t.2), ((λ s h none go. let t = set_output appends c.SetIntersection (length (written_keys c.SetIntersection s)) s h.operands none in given_in t.0 (t.1 _) t.2), ((λ s h none go. let t = set_output appends c.SetDifference (length (written_keys c.SetDifference s)) s h.operands none in given_in t.0 (t.1 _) t.2), ((λ s h none go. let t = copy_output appends (length (written_keys c.Copy s)) s h.operands none in given_in t.0 (t.1 _) t.2), ((λ s h none go. given_in tt tt tt), ((λ s h none go. given_in tt tt tt), ((λ s h none go. given_in refl tt (range_stands_in s h.object (first_range s _ _ none))), ((λ s h none go. given_in refl tt (range_stands_in s h.object (first_range s _ _ none))), ((λ s h none go. given_in tt tt tt), ((λ s h none go. given_in tt tt tt), ((λ s h none go. given_in refl tt (moved_stands_in s (steps_of c.Advance s) h.object none)), ((λ s h none go. given_in refl tt (moved_stands_in s (steps_of c.Next s) h.object none)), ((λ s h none go. given_in refl tt (moved_stands_in s (steps_of c.Prev s) h.object none)), ((λ s h none go. given_in refl tt (range_stands_in s h.object (first_range s _ _ none))), ((λ s h none go. given_in refl tt (range_stands_in s h.object (first_range s _ _ none))), ((λ s h none go. given_in tt tt tt), tt))))))))))))))))))))))))
+algorithms-give-in appends = (
+  (λ s h none go. given_in refl tt (range_stands_in s h.object (first_range s _ _ none))),
+  (
+    (λ s h none go. given_in tt tt tt),
+    (
+      (λ s h none go. given_in tt tt tt),
+      (
+        (λ s h none go. given_in refl tt (range_stands_in s h.object (first_range s _ _ none))),
+        (
+          (λ s h none go. given_in refl tt (range_stands_in s h.object (first_range s _ _ none))),
+          (
+            (λ s h none go. given_in tt tt tt),
+            (
+              (λ s h none go. let t = set_output appends c.Merge (length (written_keys c.Merge s)) s h.operands none in given_in t.0 (t.1 _) t.2),
+              (
+                (λ s h none go. given_in tt tt tt),
+                (
+                  (λ s h none go. let t = set_output appends c.SetUnion (length (written_keys c.SetUnion s)) s h.operands none in given_in t.0 (t.1 _) t.2),
+                  (
+                    (λ s h none go. let t = set_output appends c.SetIntersection (length (written_keys c.SetIntersection s)) s h.operands none in given_in t.0 (t.1 _) t.2),
+                    (
+                      (λ s h none go. let t = set_output appends c.SetDifference (length (written_keys c.SetDifference s)) s h.operands none in given_in t.0 (t.1 _) t.2),
+                      (
+                        (λ s h none go. let t = copy_output appends (length (written_keys c.Copy s)) s h.operands none in given_in t.0 (t.1 _) t.2),
+                        (
+                          (λ s h none go. given_in tt tt tt),
+                          (
+                            (λ s h none go. given_in tt tt tt),
+                            (
+                              (λ s h none go. given_in refl tt (range_stands_in s h.object (first_range s _ _ none))),
+                              (
+                                (λ s h none go. given_in refl tt (range_stands_in s h.object (first_range s _ _ none))),
+                                (
+                                  (λ s h none go. given_in tt tt tt),
+                                  (
+                                    (λ s h none go. given_in tt tt tt),
+                                    (
+                                      (λ s h none go. given_in refl tt (moved_stands_in s (steps_of c.Advance s) h.object none)),
+                                      (
+                                        (λ s h none go. given_in refl tt (moved_stands_in s (steps_of c.Next s) h.object none)),
+                                        (
+                                          (λ s h none go. given_in refl tt (moved_stands_in s (steps_of c.Prev s) h.object none)),
+                                          (
+                                            (λ s h none go. given_in refl tt (range_stands_in s h.object (first_range s _ _ none))),
+                                            (
+                                              (λ s h none go. given_in refl tt (range_stands_in s h.object (first_range s _ _ none))),
+                                              (
+                                                (λ s h none go. given_in tt tt tt),
+                                                tt,
+                                              ),
+                                            ),
+                                          ),
+                                        ),
+                                      ),
+                                    ),
+                                  ),
+                                ),
+                              ),
+                            ),
+                          ),
+                        ),
+                      ),
+                    ),
+                  ),
+                ),
+              ),
+            ),
+          ),
+        ),
+      ),
+    ),
+  ),
+)
 
 -- what is read through an iterator is there
 read_there : (s : Situation) → HasObject of_first s → first_failure (dereference_fails s.memory (place_of s 1) 1) ≡ None

@@ -100,29 +100,239 @@ containers-give-in = all_parts LineGivesIn 7 container_lines makings (all_parts 
     (all_parts LineGivesIn 13 (drop 17 container_lines) edits (all_parts LineGivesIn 10 (drop 30 container_lines) others lists)))
   where
     makings : AllOf LineGivesIn (take 7 container_lines)
-    makings = ((λ form kills s h none go. given_in tt tt tt), ((λ form kills s h none go. given_in tt tt tt), ((λ form kills s h none go. given_in tt tt tt), ((λ form kills s h none go. given_in tt tt tt), ((λ form kills s h none go. given_in tt tt tt), ((λ form kills s h none go. given_in tt tt tt), ((λ form kills s h none go. given_in tt tt tt), tt)))))))
+    makings = (
+      (λ form kills s h none go. given_in tt tt tt),
+      (
+        (λ form kills s h none go. given_in tt tt tt),
+        (
+          (λ form kills s h none go. given_in tt tt tt),
+          (
+            (λ form kills s h none go. given_in tt tt tt),
+            (
+              (λ form kills s h none go. given_in tt tt tt),
+              (
+                (λ form kills s h none go. given_in tt tt tt),
+                (
+                  (λ form kills s h none go. given_in tt tt tt),
+                  tt,
+                ),
+              ),
+            ),
+          ),
+        ),
+      ),
+    )
 
     accesses : AllOf LineGivesIn (take 10 (drop 7 container_lines))
-    accesses = ((λ form kills s h none go. given_in refl tt tt), ((λ form kills s h none go. given_in refl tt tt), ((λ form kills s h none go. given_in tt tt tt), ((λ form kills s h none go. given_in tt tt tt), ((λ form kills s h none go. given_in refl (own_element form s 0 h.object (filled_one s (first_need _ [] none))) tt), ((λ form kills s h none go. given_in refl (own_element form s (own_size s - 1) h.object (let r = filled_one s (first_need _ [] none) in omega arith)) tt), ((λ form kills s h none go. given_in refl (own_element form s (count_of s 1) h.object (not_past (own_size s) (count_of s 1) go)) tt), ((λ form kills s h none go. given_in refl (own_element form s _ h.object (key_there s (int_of s 1) go)) tt), ((λ form kills s h none go. given_in refl (own_element form s (count_of s 1) h.object (not_out (own_size s) (count_of s 1) (first_need _ [] none))) tt), ((λ form kills s h none go. given_in refl (key_element kills s (int_of s 1, pos 0) s.picks (own_within form s h.object)) tt), tt))))))))))
+    accesses = (
+      (λ form kills s h none go. given_in refl tt tt),
+      (
+        (λ form kills s h none go. given_in refl tt tt),
+        (
+          (λ form kills s h none go. given_in tt tt tt),
+          (
+            (λ form kills s h none go. given_in tt tt tt),
+            (
+              (λ form kills s h none go. given_in refl (own_element form s 0 h.object (filled_one s (first_need _ [] none))) tt),
+              (
+                (λ form kills s h none go. given_in refl (own_element form s (own_size s - 1) h.object (let r = filled_one s (first_need _ [] none) in omega arith)) tt),
+                (
+                  (λ form kills s h none go. given_in refl (own_element form s (count_of s 1) h.object (not_past (own_size s) (count_of s 1) go)) tt),
+                  (
+                    (λ form kills s h none go. given_in refl (own_element form s _ h.object (key_there s (int_of s 1) go)) tt),
+                    (
+                      (λ form kills s h none go. given_in refl (own_element form s (count_of s 1) h.object (not_out (own_size s) (count_of s 1) (first_need _ [] none))) tt),
+                      (
+                        (λ form kills s h none go. given_in refl (key_element kills s (int_of s 1, pos 0) s.picks (own_within form s h.object)) tt),
+                        tt,
+                      ),
+                    ),
+                  ),
+                ),
+              ),
+            ),
+          ),
+        ),
+      ),
+    )
 
     edits : AllOf LineGivesIn (take 13 (drop 17 container_lines))
-    edits = ((λ form kills s h none go. given_in tt tt tt), ((λ form kills s h none go. given_in tt tt tt), ((λ form kills s h none go. given_in tt tt tt), ((λ form kills s h none go. given_in tt tt tt), ((λ form kills s h none go. given_in refl tt tt), ((λ form kills s h none go. given_in refl tt tt), ((λ form kills s h none go. given_in refl tt tt), ((λ form kills s h none go. let t = inserted-in s (int_of s 1) in given_in t.0 (t.1 _) tt), ((λ form kills s h none go. given_in tt tt tt), ((λ form kills s h none go. let t = inserted-in s (int_of s 1) in given_in t.0 (t.1 _) tt), ((λ form kills s h none go. given_in refl tt tt), ((λ form kills s h none go. given_in refl tt tt), ((λ form kills s h none go. given_in tt tt tt), tt)))))))))))))
+    edits = (
+      (λ form kills s h none go. given_in tt tt tt),
+      (
+        (λ form kills s h none go. given_in tt tt tt),
+        (
+          (λ form kills s h none go. given_in tt tt tt),
+          (
+            (λ form kills s h none go. given_in tt tt tt),
+            (
+              (λ form kills s h none go. given_in refl tt tt),
+              (
+                (λ form kills s h none go. given_in refl tt tt),
+                (
+                  (λ form kills s h none go. given_in refl tt tt),
+                  (
+                    (λ form kills s h none go. let t = inserted-in s (int_of s 1) in given_in t.0 (t.1 _) tt),
+                    (
+                      (λ form kills s h none go. given_in tt tt tt),
+                      (
+                        (λ form kills s h none go. let t = inserted-in s (int_of s 1) in given_in t.0 (t.1 _) tt),
+                        (
+                          (λ form kills s h none go. given_in refl tt tt),
+                          (
+                            (λ form kills s h none go. given_in refl tt tt),
+                            (
+                              (λ form kills s h none go. given_in tt tt tt),
+                              tt,
+                            ),
+                          ),
+                        ),
+                      ),
+                    ),
+                  ),
+                ),
+              ),
+            ),
+          ),
+        ),
+      ),
+    )
 
     others : AllOf LineGivesIn (take 10 (drop 30 container_lines))
-    others = ((λ form kills s h none go. given_in tt tt tt), ((λ form kills s h none go. given_in tt tt tt), ((λ form kills s h none go. given_in tt tt tt), ((λ form kills s h none go. given_in tt tt tt), ((λ form kills s h none go. given_in tt tt tt), ((λ form kills s h none go. given_in tt tt tt), ((λ form kills s h none go. given_in refl tt tt), ((λ form kills s h none go. given_in tt tt tt), ((λ form kills s h none go. given_in refl tt tt), ((λ form kills s h none go. given_in refl tt tt), tt))))))))))
+    others = (
+      (λ form kills s h none go. given_in tt tt tt),
+      (
+        (λ form kills s h none go. given_in tt tt tt),
+        (
+          (λ form kills s h none go. given_in tt tt tt),
+          (
+            (λ form kills s h none go. given_in tt tt tt),
+            (
+              (λ form kills s h none go. given_in tt tt tt),
+              (
+                (λ form kills s h none go. given_in tt tt tt),
+                (
+                  (λ form kills s h none go. given_in refl tt tt),
+                  (
+                    (λ form kills s h none go. given_in tt tt tt),
+                    (
+                      (λ form kills s h none go. given_in refl tt tt),
+                      (
+                        (λ form kills s h none go. given_in refl tt tt),
+                        tt,
+                      ),
+                    ),
+                  ),
+                ),
+              ),
+            ),
+          ),
+        ),
+      ),
+    )
 
     lists : AllOf LineGivesIn (drop 40 container_lines)
-    lists = ((λ form kills s h none go. given_in tt tt tt), ((λ form kills s h none go. given_in tt tt tt), ((λ form kills s h none go. given_in tt tt tt), ((λ form kills s h none go. given_in tt tt tt), ((λ form kills s h none go. given_in tt tt tt), ((λ form kills s h none go. given_in tt tt tt), ((λ form kills s h none go. given_in tt tt tt), ((λ form kills s h none go. given_in tt tt tt), tt))))))))
+    lists = (
+      (λ form kills s h none go. given_in tt tt tt),
+      (
+        (λ form kills s h none go. given_in tt tt tt),
+        (
+          (λ form kills s h none go. given_in tt tt tt),
+          (
+            (λ form kills s h none go. given_in tt tt tt),
+            (
+              (λ form kills s h none go. given_in tt tt tt),
+              (
+                (λ form kills s h none go. given_in tt tt tt),
+                (
+                  (λ form kills s h none go. given_in tt tt tt),
+                  (
+                    (λ form kills s h none go. given_in tt tt tt),
+                    tt,
+                  ),
+                ),
+              ),
+            ),
+          ),
+        ),
+      ),
+    )
 
 -- each call on a multiset or multimap
 pub multis-give-in : AllOf LineGivesIn multi_lines
 multis-give-in = all_parts LineGivesIn 9 multi_lines first (all_parts LineGivesIn 8 (drop 9 multi_lines) edits searches)
   where
     first : AllOf LineGivesIn (take 9 multi_lines)
-    first = ((λ form kills s h none go. given_in tt tt tt), ((λ form kills s h none go. given_in tt tt tt), ((λ form kills s h none go. given_in tt tt tt), ((λ form kills s h none go. given_in tt tt tt), ((λ form kills s h none go. given_in tt tt tt), ((λ form kills s h none go. given_in refl tt tt), ((λ form kills s h none go. given_in refl tt tt), ((λ form kills s h none go. given_in tt tt tt), ((λ form kills s h none go. given_in tt tt tt), tt)))))))))
+    first = (
+      (λ form kills s h none go. given_in tt tt tt),
+      (
+        (λ form kills s h none go. given_in tt tt tt),
+        (
+          (λ form kills s h none go. given_in tt tt tt),
+          (
+            (λ form kills s h none go. given_in tt tt tt),
+            (
+              (λ form kills s h none go. given_in tt tt tt),
+              (
+                (λ form kills s h none go. given_in refl tt tt),
+                (
+                  (λ form kills s h none go. given_in refl tt tt),
+                  (
+                    (λ form kills s h none go. given_in tt tt tt),
+                    (
+                      (λ form kills s h none go. given_in tt tt tt),
+                      tt,
+                    ),
+                  ),
+                ),
+              ),
+            ),
+          ),
+        ),
+      ),
+    )
 
     edits : AllOf LineGivesIn (take 8 (drop 9 multi_lines))
-    edits = ((λ form kills s h none go. let t = inserted-in s (int_of s 1) in given_in t.0 (t.1 _) tt), ((λ form kills s h none go. given_in tt tt tt), ((λ form kills s h none go. let t = inserted-in s (int_of s 1) in given_in t.0 (t.1 _) tt), ((λ form kills s h none go. given_in refl tt tt), ((λ form kills s h none go. given_in refl tt tt), ((λ form kills s h none go. given_in tt tt tt), ((λ form kills s h none go. given_in tt tt tt), ((λ form kills s h none go. given_in tt tt tt), tt))))))))
+    edits = (
+      (λ form kills s h none go. let t = inserted-in s (int_of s 1) in given_in t.0 (t.1 _) tt),
+      (
+        (λ form kills s h none go. given_in tt tt tt),
+        (
+          (λ form kills s h none go. let t = inserted-in s (int_of s 1) in given_in t.0 (t.1 _) tt),
+          (
+            (λ form kills s h none go. given_in refl tt tt),
+            (
+              (λ form kills s h none go. given_in refl tt tt),
+              (
+                (λ form kills s h none go. given_in tt tt tt),
+                (
+                  (λ form kills s h none go. given_in tt tt tt),
+                  (
+                    (λ form kills s h none go. given_in tt tt tt),
+                    tt,
+                  ),
+                ),
+              ),
+            ),
+          ),
+        ),
+      ),
+    )
 
     searches : AllOf LineGivesIn (drop 17 multi_lines)
-    searches = ((λ form kills s h none go. given_in refl tt tt), ((λ form kills s h none go. given_in tt tt tt), ((λ form kills s h none go. given_in refl tt tt), ((λ form kills s h none go. given_in refl tt tt), ((λ form kills s h none go. given_in refl tt tt), tt)))))
+    searches = (
+      (λ form kills s h none go. given_in refl tt tt),
+      (
+        (λ form kills s h none go. given_in tt tt tt),
+        (
+          (λ form kills s h none go. given_in refl tt tt),
+          (
+            (λ form kills s h none go. given_in refl tt tt),
+            (
+              (λ form kills s h none go. given_in refl tt tt),
+              tt,
+            ),
+          ),
+        ),
+      ),
+    )

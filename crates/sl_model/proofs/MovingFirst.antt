@@ -1,5 +1,5 @@
 -- A typed call that moves an iterator variable begins with it, and has no object: it is `advance` or an operator.
-use Rattle.std.proofs.Common.{◌≡◌, ℕ, true, not, List, ◌∷◌, Option, Some, None, refl, ap, sym, subst, ◌∙◌}
+use Rattle.std.proofs.Common.{◌≡◌, ℕ, true, not, List, ◌∷◌, Option, Some, None, ap, sym, subst, ◌∙◌}
 use Rattle.std.specs.Prelude.{is_some}
 use Rattle.std.specs.List.{slice_get}
 use Rattle.sl_base.specs.declared.form.Form.TheVariants as f
@@ -8,9 +8,9 @@ use Rattle.sl_specs.specs.Table.{table}
 use Rattle.sl_syntax.specs.declared.typed.callee.Callee.{Callee}
 use Rattle.sl_syntax.specs.declared.typed.callee.Callee.TheVariants as callees
 use Rattle.sl_model.specs.WellTypedTypes.{ExprType, Scope, has_type, is_iterator}
-use Rattle.sl_model.specs.WellTypedCalls.{fits, row_at, appending_type, operator_type, call_type, is_moving_row, is_moving}
+use Rattle.sl_model.specs.WellTypedCalls.{fits, operator_type, call_type, is_moving_row, is_moving}
 use Rattle.sl_model.proofs.TypedOperands.{only_rest}
-use Rattle.sl_model.proofs.TypedRows.{IsMember, is_member, is_alone, none_given}
+use Rattle.sl_model.proofs.TypedRows.{IsMember, is_member, is_alone}
 use Rattle.sl_model.proofs.AlgorithmsFit.{advance_row, advancing_row, advance-begins}
 use Rattle.sl_model.proofs.OperatorsFit.{moving_operator-begins}
 
@@ -24,20 +24,6 @@ no_member_moves g n x us k call = never (sym call.on_form ∙ ap (λ (r : TableR
   where
     never : Some call.form ≡ None → ⊥
     never e = cc
-
--- a typed call of a row that moves a variable has no object
-moved_alone : (g : Scope) (n : ℕ) (object : Option ℕ) (us : List ExprType) → is_moving (callees.Row n) ≡ true
-    → has_type (call_type g (callees.Row n) object us) ≡ true → object ≡ None
-moved_alone g n None us k h = refl
-moved_alone g n (Some x) us k h = absurd (no_member_moves g n x us k (is_member g n x us h))
-
--- a typed call that moves a variable has no object
-pub moving_alone : (g : Scope) (callee : Callee) (object : Option ℕ) (us : List ExprType) → is_moving callee ≡ true
-    → has_type (call_type g callee object us) ≡ true → object ≡ None
-moving_alone g (callees.Row n) object us k h = moved_alone g n object us k h
-moving_alone g (callees.Appends n) object us k h = none_given object (appending_type (row_at n) us) h
-moving_alone g (callees.Operator o) object us k h = none_given object (operator_type o us) h
-moving_alone g (callees.Hidden o) object us k h = absurd cc
 
 -- a typed call of a row that moves a variable begins with an iterator
 moved_by_row : (g : Scope) (n : ℕ) (object : Option ℕ) (u : ExprType) (us : List ExprType) → is_moving (callees.Row n) ≡ true

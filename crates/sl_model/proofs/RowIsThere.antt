@@ -1,5 +1,5 @@
 -- A typed call of the library is carried out: its row is there, so is its object, and the operands are of the row's sorts.
-use Rattle.std.proofs.Common.{◌≡◌, ℕ, Bool, true, false, List, [], ◌∷◌, length, Option, Some, None, refl, ap, sym, subst, ◌∙◌}
+use Rattle.std.proofs.Common.{◌≡◌, ℕ, Bool, true, false, List, [], ◌∷◌, length, Option, Some, None, refl, ap, subst, ◌∙◌}
 use Rattle.std.specs.Prelude.{if◌then◌else◌, codes, slice_index_or}
 use Rattle.std.specs.List.{slice_get}
 use Rattle.sl_base.specs.declared.form.Form.{Form}
@@ -60,13 +60,6 @@ is_done callee row a m picks j e has sorts = record {
 pub done_called : (callee : Callee) (row : Row) (a : Args) (m : Memory) (picks : List ℕ) → IsDone callee row a m picks
     → RowIsCalled callee a m picks
 done_called callee row a m picks d = record { row = row; found = d.found; object = d.object; called = d.called; is_out = d.is_out }
-
--- a call is of one row alone
-pub one_row : (callee : Callee) (row other : Row) → row_of callee ≡ Some row → row_of callee ≡ Some other → row ≡ other
-one_row callee row other e h = by_same (sym e ∙ h)
-  where
-    by_same : Some row ≡ Some other → row ≡ other
-    by_same s = cc
 
 -- a call without an object in the text has none in the run
 pub object_none : (m : Memory) (g : Scope) (given : Option ℕ) → ObjectFits m g None given → given ≡ None
