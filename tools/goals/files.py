@@ -36,8 +36,8 @@ MODULES = {
         number reads prints evaluates assigns updates moves_to unset_scalar set_scalar set_iterator binds_reference makes no_first
         declares_first does_first block declares choice choice_else while for range_for break continue gives_back does Typed""".split(),
     "Rattle.sl_specs.specs.Table": ["table"],
-    "Rattle.sl_model.specs.Ends": ["Done", "Trapped", "OutOfSteps", "Language", "Thrown"],
-    "Rattle.sl_model.specs.Run": ["run"],
+    "Rattle.sl_model.specs.Runs.Ends": ["Done", "Trapped", "OutOfSteps", "Language", "Thrown"],
+    "Rattle.sl_model.specs.Runs.Run": ["run"],
     "Rattle.sl_model.proofs.Examples.Short": ["at", "head", "all", "finish", "trap"],
 }
 RESERVED = {word for words in MODULES.values() for word in words} | {"as", "in", "data", "open", "record", "use", "pub", "mod", "search"}

@@ -8,9 +8,9 @@ use Rattle.std.proofs.lemmas.Bool.{cases_eq, cases_lt}
 use Rattle.std.proofs.lemmas.Option.{get_or_from_slice_get, unwrap_or-slice_get}
 use Rattle.sl_base.specs.declared.form.Form.TheVariants as f
 use Rattle.sl_base.specs.declared.limits.TheConstants.{ELEMENTS}
-use Rattle.sl_model.specs.Containers.{Cont, Memory, size, cont_at, stamps, refers}
-use Rattle.sl_model.specs.Edits.{Source, Change, changed, used, after}
-use Rattle.sl_model.specs.Good.{AreKeptApart, IsSound, NoneVanishFrom, NoneVanishes}
+use Rattle.sl_model.specs.Memory.Containers.{Cont, Memory, size, cont_at, stamps, refers}
+use Rattle.sl_model.specs.Memory.Edits.{Source, Change, changed, used, after}
+use Rattle.sl_model.specs.Runs.Good.{AreKeptApart, IsSound, NoneVanishFrom, NoneVanishes}
 use Rattle.sl_model.proofs.Getting.{get_set_same, get_set_other, get_within, get_map, map_set}
 use Rattle.sl_model.proofs.Apart.{list_distinct, list_below}
 use Rattle.sl_model.proofs.Columns.{AllInside, marks_from, rebuilt-stamps, rebuilt-refers, rebuilt-size, stamps-length, refers-length}

@@ -8,10 +8,10 @@ use Rattle.std.proofs.lemmas.Bool.Decides.{nat_tests}
 use Rattle.std.proofs.lemmas.List.{length-map}
 use Rattle.sl_base.specs.declared.limits.TheConstants.{ELEMENTS}
 use Rattle.sl_specs.specs.declared.class.Class.{Class}
-use Rattle.sl_model.specs.Classes.{Edit, Fits, kills}
-use Rattle.sl_model.specs.Containers.{Cont, Memory, size, cont_at, stamps, killer}
-use Rattle.sl_model.specs.Edits.{Source, old, new, olds, news, change_of, shifted, buried, changed, after}
-use Rattle.sl_model.specs.Good.{IsAt, IsSound}
+use Rattle.sl_model.specs.Memory.Classes.{Edit, Fits, kills}
+use Rattle.sl_model.specs.Memory.Containers.{Cont, Memory, size, cont_at, stamps, killer}
+use Rattle.sl_model.specs.Memory.Edits.{Source, old, new, olds, news, change_of, shifted, buried, changed, after}
+use Rattle.sl_model.specs.Runs.Good.{IsAt, IsSound}
 use Rattle.sl_model.proofs.Getting.{get_left, get_behind, get_within}
 use Rattle.sl_model.proofs.Columns.{AllInside, TakesOwn, marks_from, rebuilt-stamps, stays_at, stamps-length}
 use Rattle.sl_model.proofs.Buried.{killer_is, killer_before, killer_behind, buried_stood, buried_killer}

@@ -4,9 +4,9 @@ use Rattle.std.proofs.Common.{inl, inr, ⊎_elim, subst}
 use Rattle.std.specs.List.{slice_get, slice_set}
 use Rattle.std.proofs.lemmas.Bool.{cases_eq, cases_lt}
 use Rattle.sl_base.specs.declared.limits.TheConstants.{ELEMENTS}
-use Rattle.sl_model.specs.Containers.{Cont, Memory, size, stamps, refers}
-use Rattle.sl_model.specs.Edits.{Source, old, written, theirs, new, Change, rebuilt, next_of_two, after_two}
-use Rattle.sl_model.specs.Good.{AreKeptApart, IsSound, NoneVanishFrom, NoneVanishes}
+use Rattle.sl_model.specs.Memory.Containers.{Cont, Memory, size, stamps, refers}
+use Rattle.sl_model.specs.Memory.Edits.{Source, old, written, theirs, new, Change, rebuilt, next_of_two, after_two}
+use Rattle.sl_model.specs.Runs.Good.{AreKeptApart, IsSound, NoneVanishFrom, NoneVanishes}
 use Rattle.sl_model.proofs.Getting.{get_set_other, get_within, get_map, map_set}
 use Rattle.sl_model.proofs.Apart.{list_distinct, list_below, lists_have_none}
 use Rattle.sl_model.proofs.Columns.{TakesTheirs, AllInside, marks_from, rebuilt-stamps, rebuilt-refers, rebuilt-size, stamps-length}

@@ -11,16 +11,16 @@ use Rattle.sl_specs.specs.Rows.{Row as TableRow}
 use Rattle.sl_specs.specs.AlgorithmRows.{algorithm, algorithm_rows}
 use Rattle.sl_syntax.specs.declared.typed.operator.Operator.{Operator}
 use Rattle.sl_syntax.specs.declared.typed.operator.Operator.TheVariants as operators
-use Rattle.sl_model.specs.Containers.{Memory}
-use Rattle.sl_model.specs.Edits.{after}
-use Rattle.sl_model.specs.Rearrangements.{overwrites}
-use Rattle.sl_model.specs.Orders.{firsts, others}
-use Rattle.sl_model.specs.Operands.{steps_of, written_keys}
-use Rattle.sl_model.specs.Situation.{Situation, own, place_of, index, int_of, range_keys, range_size}
-use Rattle.sl_model.specs.Needs.{first_failure}
-use Rattle.sl_model.specs.WritingAlgorithms.{output}
-use Rattle.sl_model.specs.Operators.{step_fails, steps_by}
-use Rattle.sl_model.specs.Rows.{of_first, algorithm_row, row_of_operator}
+use Rattle.sl_model.specs.Memory.Containers.{Memory}
+use Rattle.sl_model.specs.Memory.Edits.{after}
+use Rattle.sl_model.specs.Memory.Rearrangements.{overwrites}
+use Rattle.sl_model.specs.Memory.Orders.{firsts, others}
+use Rattle.sl_model.specs.LibraryCalls.Operands.{steps_of, written_keys}
+use Rattle.sl_model.specs.LibraryCalls.Situation.{Situation, own, place_of, index, int_of, range_keys, range_size}
+use Rattle.sl_model.specs.LibraryCalls.Needs.{first_failure}
+use Rattle.sl_model.specs.LibraryCalls.WritingAlgorithms.{output}
+use Rattle.sl_model.specs.LibraryCalls.Operators.{step_fails, steps_by}
+use Rattle.sl_model.specs.LibraryCalls.Rows.{of_first, algorithm_row, row_of_operator}
 use Rattle.sl_model.proofs.Called.{HasObject}
 use Rattle.sl_model.proofs.Placing.{HasPlace}
 use Rattle.sl_model.proofs.Tells.{tells, RowTells, AllOf}

@@ -16,16 +16,16 @@ use Rattle.sl_specs.specs.MultiLines.{multi_lines}
 use Rattle.sl_specs.specs.AlgorithmRows.{algorithm, algorithm_rows}
 use Rattle.sl_specs.specs.Table.{table}
 use Rattle.sl_syntax.specs.declared.typed.callee.Callee.TheVariants as callees
-use Rattle.sl_model.specs.Containers.{Memory}
-use Rattle.sl_model.specs.Values.{Shape, a_number, a_stamp}
-use Rattle.sl_model.specs.Situation.{Situation}
-use Rattle.sl_model.specs.Actions.{Answer}
-use Rattle.sl_model.specs.Library.{value_in}
-use Rattle.sl_model.specs.Good.{IsSound}
-use Rattle.sl_model.specs.Rows.{Object, of_first, Row, algorithm_shape, algorithm_row, meaning_of}
-use Rattle.sl_model.specs.WellTypedTypes.{ExprType}
-use Rattle.sl_model.specs.WellTypedTypes.{has_type, is_iterator}
-use Rattle.sl_model.specs.WellTypedCalls.{fits, first_type, last_type, result_type, is_advance}
+use Rattle.sl_model.specs.Memory.Containers.{Memory}
+use Rattle.sl_model.specs.LibraryCalls.Values.{Shape, a_number, a_stamp}
+use Rattle.sl_model.specs.LibraryCalls.Situation.{Situation}
+use Rattle.sl_model.specs.LibraryCalls.Actions.{Answer}
+use Rattle.sl_model.specs.LibraryCalls.Library.{value_in}
+use Rattle.sl_model.specs.Runs.Good.{IsSound}
+use Rattle.sl_model.specs.LibraryCalls.Rows.{Object, of_first, Row, algorithm_shape, algorithm_row, meaning_of}
+use Rattle.sl_model.specs.Typing.WellTypedTypes.{ExprType}
+use Rattle.sl_model.specs.Typing.WellTypedTypes.{has_type, is_iterator}
+use Rattle.sl_model.specs.Typing.WellTypedCalls.{fits, first_type, last_type, result_type, is_advance}
 use Rattle.sl_model.proofs.Placing.{IsPlaced}
 use Rattle.sl_model.proofs.Tells.{AllOf, all_at, all_rows_on, shape_of_answer, memory_after, Tells}
 use Rattle.sl_model.proofs.TableRows.{all_table}

@@ -13,14 +13,14 @@ use Rattle.sl_specs.specs.Rows.{Row as TableRow}
 use Rattle.sl_specs.specs.AlgorithmRows.{algorithm_rows}
 use Rattle.sl_syntax.specs.declared.typed.operator.Operator.{Operator}
 use Rattle.sl_syntax.specs.declared.typed.operator.Operator.TheVariants as operators
-use Rattle.sl_model.specs.Containers.{Memory, cont_at, size}
-use Rattle.sl_model.specs.Values.{Value, nothing, number, iterator, pair, two, scalar_at, container_at, element_at}
-use Rattle.sl_model.specs.Operands.{a_writer, a_sequence, is_of, are_of, all_sorts, steps_of, written_keys}
-use Rattle.sl_model.specs.Situation.{Situation, place_of, index, container_of}
-use Rattle.sl_model.specs.Needs.{dereference_fails, movable_fails, failures, all_failures, first_failure}
-use Rattle.sl_model.specs.WritingAlgorithms.{output, after_output}
-use Rattle.sl_model.specs.Operators.{step_fails, steps_by}
-use Rattle.sl_model.specs.Rows.{of_first, algorithm_row, row_of_operator}
+use Rattle.sl_model.specs.Memory.Containers.{Memory, cont_at, size}
+use Rattle.sl_model.specs.LibraryCalls.Values.{Value, nothing, number, iterator, pair, two, scalar_at, container_at, element_at}
+use Rattle.sl_model.specs.LibraryCalls.Operands.{a_writer, a_sequence, is_of, are_of, all_sorts, steps_of, written_keys}
+use Rattle.sl_model.specs.LibraryCalls.Situation.{Situation, place_of, index, container_of}
+use Rattle.sl_model.specs.LibraryCalls.Needs.{dereference_fails, movable_fails, failures, all_failures, first_failure}
+use Rattle.sl_model.specs.LibraryCalls.WritingAlgorithms.{output, after_output}
+use Rattle.sl_model.specs.LibraryCalls.Operators.{step_fails, steps_by}
+use Rattle.sl_model.specs.LibraryCalls.Rows.{of_first, algorithm_row, row_of_operator}
 use Rattle.sl_model.proofs.Called.{HasObject}
 use Rattle.sl_model.proofs.Tells.{AllOf}
 use Rattle.sl_model.proofs.AlgorithmsTell.{IsRange, no_failure, none_left, none_right, first_range, first_place, movable}

@@ -7,18 +7,18 @@ use Rattle.std.proofs.lemmas.Bool.{eqb-true, leb-true}
 use Rattle.std.proofs.lemmas.Option.{get_or_from_slice_get}
 use Rattle.sl_base.specs.declared.form.Form.TheVariants as f
 use Rattle.sl_base.specs.declared.failures.TheConstants.{WRONG_CONTAINER}
-use Rattle.sl_model.specs.Containers.{Cont, Memory, size, keys, stamps, cont_at}
-use Rattle.sl_model.specs.Forms.{step_of}
-use Rattle.sl_model.specs.Edits.{olds, after}
-use Rattle.sl_model.specs.Rearrangements.{overwritten, overwrites}
-use Rattle.sl_model.specs.Orders.{how_many, best_place, least_place, greatest_place, index_of_key}
-use Rattle.sl_model.specs.Values.{Value, nothing, number, iterator, pair, two, scalar_at, container_at, element_at}
-use Rattle.sl_model.specs.Situation.{Situation, own, own_size, argument, index_in, place_in, place_of, index, container_of_value, their}
-use Rattle.sl_model.specs.Situation.{range_keys, range_size}
-use Rattle.sl_model.specs.Needs.{fails_if, invalid_fails, one_container_fails, one_range_fails, movable_fails, is_before, first_failure}
-use Rattle.sl_model.specs.KeyActions.{place_or}
-use Rattle.sl_model.specs.SearchAlgorithms.{stepped}
-use Rattle.sl_model.specs.Rows.{of_first}
+use Rattle.sl_model.specs.Memory.Containers.{Cont, Memory, size, keys, stamps, cont_at}
+use Rattle.sl_model.specs.Memory.Forms.{step_of}
+use Rattle.sl_model.specs.Memory.Edits.{olds, after}
+use Rattle.sl_model.specs.Memory.Rearrangements.{overwritten, overwrites}
+use Rattle.sl_model.specs.Memory.Orders.{how_many, best_place, least_place, greatest_place, index_of_key}
+use Rattle.sl_model.specs.LibraryCalls.Values.{Value, nothing, number, iterator, pair, two, scalar_at, container_at, element_at}
+use Rattle.sl_model.specs.LibraryCalls.Situation.{Situation, own, own_size, argument, index_in, place_in, place_of, index, container_of_value, their}
+use Rattle.sl_model.specs.LibraryCalls.Situation.{range_keys, range_size}
+use Rattle.sl_model.specs.LibraryCalls.Needs.{fails_if, invalid_fails, one_container_fails, one_range_fails, movable_fails, is_before, first_failure}
+use Rattle.sl_model.specs.LibraryCalls.KeyActions.{place_or}
+use Rattle.sl_model.specs.LibraryCalls.SearchAlgorithms.{stepped}
+use Rattle.sl_model.specs.LibraryCalls.Rows.{of_first}
 use Rattle.sl_model.proofs.Getting.{get_within}
 use Rattle.sl_model.proofs.Located.{at-locate}
 use Rattle.sl_model.proofs.Columns.{stamps-length}

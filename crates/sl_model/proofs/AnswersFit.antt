@@ -5,18 +5,18 @@ use Rattle.std.specs.List.{slice_get}
 use Rattle.sl_base.specs.declared.form.Form.{Form}
 use Rattle.sl_specs.specs.declared.return_type.ReturnType.{ReturnType}
 use Rattle.sl_specs.specs.declared.return_type.ReturnType.TheVariants as returns
-use Rattle.sl_model.specs.Containers.{Memory}
-use Rattle.sl_model.specs.Values.{Value, nothing as no_result, number, iterator, pair, two, scalar_at, container_at, element_at}
-use Rattle.sl_model.specs.Values.{a_number, a_stamp, a_pair, two_stamps, an_element}
-use Rattle.sl_model.specs.Situation.{Situation, argument, place_of}
-use Rattle.sl_model.specs.Needs.{first_failure}
-use Rattle.sl_model.specs.Actions.{Answer, nothing, gives_number, gives_place, gives_place_and, gives_places, gives_element, never}
-use Rattle.sl_model.specs.Rows.{of_first, Row, shape_of_return}
-use Rattle.sl_model.specs.Library.{value_in}
-use Rattle.sl_model.specs.Good.{IsSound}
-use Rattle.sl_model.specs.WellTypedTypes.{ExprType, no_type, empty_type, scalar_type, element_type, iterator_type, iterator_and_bool, two_iterators}
-use Rattle.sl_model.specs.WellTypedTypes.{container_type, handed_type, int_reference, entry_reference, is_iterator}
-use Rattle.sl_model.specs.WellTypedCalls.{first_type, last_type, result_type}
+use Rattle.sl_model.specs.Memory.Containers.{Memory}
+use Rattle.sl_model.specs.LibraryCalls.Values.{Value, nothing as no_result, number, iterator, pair, two, scalar_at, container_at, element_at}
+use Rattle.sl_model.specs.LibraryCalls.Values.{a_number, a_stamp, a_pair, two_stamps, an_element}
+use Rattle.sl_model.specs.LibraryCalls.Situation.{Situation, argument, place_of}
+use Rattle.sl_model.specs.LibraryCalls.Needs.{first_failure}
+use Rattle.sl_model.specs.LibraryCalls.Actions.{Answer, nothing, gives_number, gives_place, gives_place_and, gives_places, gives_element, never}
+use Rattle.sl_model.specs.LibraryCalls.Rows.{of_first, Row, shape_of_return}
+use Rattle.sl_model.specs.LibraryCalls.Library.{value_in}
+use Rattle.sl_model.specs.Runs.Good.{IsSound}
+use Rattle.sl_model.specs.Typing.WellTypedTypes.{ExprType, no_type, empty_type, scalar_type, element_type, iterator_type, iterator_and_bool, two_iterators}
+use Rattle.sl_model.specs.Typing.WellTypedTypes.{container_type, handed_type, int_reference, entry_reference, is_iterator}
+use Rattle.sl_model.specs.Typing.WellTypedCalls.{first_type, last_type, result_type}
 use Rattle.sl_model.proofs.Called.{IsCalled}
 use Rattle.sl_model.proofs.Placing.{IsPlaced}
 use Rattle.sl_model.proofs.Tells.{shape_of_answer, memory_after}

@@ -1,8 +1,8 @@
 -- Numbers at places of lists that are kept apart: what an operation has to be so that they stay so, and what stands once.
 use Rattle.std.proofs.Common.{◌≡◌, ◌≢◌, ℕ, ◌<◌, ◌≤◌, List, Some, arith, ◌⊎◌, inl, inr}
 use Rattle.std.specs.List.{slice_get}
-use Rattle.sl_model.specs.Containers.{Grave, IsGrave}
-use Rattle.sl_model.specs.Good.{Stands, AreKeptApart}
+use Rattle.sl_model.specs.Memory.Containers.{Grave, IsGrave}
+use Rattle.sl_model.specs.Runs.Good.{Stands, AreKeptApart}
 
 -- a number stands somewhere in these lists
 abbrev pub StandsSomewhere : List (List ℕ) → ℕ → Type 0

@@ -3,9 +3,9 @@ use Rattle.std.proofs.Common.{◌≡◌, ◌&&◌, Bool, true, false, IsTrue, Li
 use Rattle.std.proofs.lemmas.Int.{ints}
 use Rattle.sl_base.specs.declared.form.Form.{Form}
 use Rattle.sl_base.specs.declared.form.Form.TheVariants as f
-use Rattle.sl_model.specs.Forms.{is_hash, is_keyed}
-use Rattle.sl_model.specs.Orders.{is_ascending}
-use Rattle.sl_model.specs.Orderly.{EachPair, AreInOrder}
+use Rattle.sl_model.specs.Memory.Forms.{is_hash, is_keyed}
+use Rattle.sl_model.specs.Memory.Orders.{is_ascending}
+use Rattle.sl_model.specs.Memory.Orderly.{EachPair, AreInOrder}
 
 -- both hold
 both : (a b : Bool) → IsTrue a → IsTrue b → IsTrue (a && b)

@@ -3,8 +3,8 @@ use Rattle.std.proofs.Common.{◌≡◌, ℕ, zero, suc, ◌+◌, ◌==◌, Bool
 use Rattle.std.proofs.Common.{◌⊎◌, inl, inr, ⊎_elim}
 use Rattle.std.specs.List.{slice_get}
 use Rattle.std.proofs.lemmas.Bool.{eqb-true, eqb-false}
-use Rattle.sl_model.specs.Containers.{Grave, IsGrave, Memory, killer_of, killer, Dropped}
-use Rattle.sl_model.specs.Edits.{buried}
+use Rattle.sl_model.specs.Memory.Containers.{Grave, IsGrave, Memory, killer_of, killer, Dropped}
+use Rattle.sl_model.specs.Memory.Edits.{buried}
 
 -- the site beside a stamp is beside it among these
 pub killer_is : (s : ℕ) (gs : List Grave) (site : ℕ) → killer_of s gs ≡ Some site → IsGrave gs s site

@@ -9,12 +9,12 @@ use Rattle.sl_base.specs.declared.form.Form.TheVariants as f
 use Rattle.sl_base.specs.contracts.form.Form.{the_type}
 use denote.Enum.Bare.{same_true}
 use Rattle.sl_specs.specs.Forms.{same_form}
-use Rattle.sl_model.specs.Containers.{Cont, Memory}
-use Rattle.sl_model.specs.Values.{Args, LibOut, unbuilt}
-use Rattle.sl_model.specs.Operands.{is_of_form, are_of}
-use Rattle.sl_model.specs.Situation.{Situation, own, container_of}
-use Rattle.sl_model.specs.Rows.{Object, of_form, new_one, of_first, Row}
-use Rattle.sl_model.specs.Library.{object_in, row_out, on_object, called_row}
+use Rattle.sl_model.specs.Memory.Containers.{Cont, Memory}
+use Rattle.sl_model.specs.LibraryCalls.Values.{Args, LibOut, unbuilt}
+use Rattle.sl_model.specs.LibraryCalls.Operands.{is_of_form, are_of}
+use Rattle.sl_model.specs.LibraryCalls.Situation.{Situation, own, container_of}
+use Rattle.sl_model.specs.LibraryCalls.Rows.{Object, of_form, new_one, of_first, Row}
+use Rattle.sl_model.specs.LibraryCalls.Library.{object_in, row_out, on_object, called_row}
 use Rattle.sl_model.proofs.Getting.{get_within}
 
 -- two forms that are one

@@ -8,13 +8,13 @@ use Rattle.sl_specs.specs.Rows.{Row as TableRow}
 use Rattle.sl_specs.specs.Table.{table}
 use Rattle.sl_syntax.specs.declared.typed.callee.Callee.{Callee}
 use Rattle.sl_syntax.specs.declared.typed.callee.Callee.TheVariants as callees
-use Rattle.sl_model.specs.Situation.{Situation}
-use Rattle.sl_model.specs.Operators.{operator_name}
-use Rattle.sl_model.specs.Rows.{Row, meaning_of, row_of_operator, row_of}
-use Rattle.sl_model.specs.WellTypedTypes.{ExprType, empty_type, container_type, Scope, variable_type, has_type, is_const}
-use Rattle.sl_model.specs.WellTypedCalls.{is_output, appending, first_type, result_type, row_at, is_constructor, may_be_called, member_type}
-use Rattle.sl_model.specs.WellTypedCalls.{is_algorithm, algorithm_type, row_type, appending_type, fits, operator_type, call_type}
-use Rattle.sl_model.specs.WellTypedCalls.{is_moving_row, is_moving}
+use Rattle.sl_model.specs.LibraryCalls.Situation.{Situation}
+use Rattle.sl_model.specs.LibraryCalls.Operators.{operator_name}
+use Rattle.sl_model.specs.LibraryCalls.Rows.{Row, meaning_of, row_of_operator, row_of}
+use Rattle.sl_model.specs.Typing.WellTypedTypes.{ExprType, empty_type, container_type, Scope, variable_type, has_type, is_const}
+use Rattle.sl_model.specs.Typing.WellTypedCalls.{is_output, appending, first_type, result_type, row_at, is_constructor, may_be_called, member_type}
+use Rattle.sl_model.specs.Typing.WellTypedCalls.{is_algorithm, algorithm_type, row_type, appending_type, fits, operator_type, call_type}
+use Rattle.sl_model.specs.Typing.WellTypedCalls.{is_moving_row, is_moving}
 use Rattle.sl_model.proofs.Passing.{first_of_both, second_of_both}
 use Rattle.sl_model.proofs.TypedOperands.{only_holds, only_rest}
 use Rattle.sl_model.proofs.TypedRows.{one_object, no_object}

@@ -3,13 +3,13 @@ use Rattle.std.proofs.Common.{◌≡◌, ◌∙◌, ℕ, Bool, true, Option, Som
 use Rattle.sl_base.specs.declared.place.Place.{Place}
 use Rattle.sl_syntax.specs.Typed.{Expr, Effect, First, no_first, declares_first, does_first, Stmt, block, declares, choice, choice_else, while}
 use Rattle.sl_syntax.specs.Typed.{for, range_for, break, continue, gives_back, does, Stmts, no_more, followed}
-use Rattle.sl_model.specs.Facts.{Facts}
-use Rattle.sl_model.specs.FactOperands.{FactScope}
-use Rattle.sl_model.specs.FactSteps.{Given, Places, Heads, meet, covers, Step, Fork}
-use Rattle.sl_model.specs.FactScopes.{within, after_first, after_stmt, in_range_for}
-use Rattle.sl_model.specs.Carry.{Ways, Carry, goes_on, meet_ways, on_each_way, no_carry, step_carry, break_carry, continue_carry, return_carry}
-use Rattle.sl_model.specs.Carry.{then_ways, then_carry, leave, choice_carry, out_of_loop, loop_carry, leaves_elements, at_turn, range_carry, first_step}
-use Rattle.sl_model.specs.Carry.{last_step, result_step, carry, carry_all}
+use Rattle.sl_model.specs.Outlines.Facts.{Facts}
+use Rattle.sl_model.specs.Outlines.FactOperands.{FactScope}
+use Rattle.sl_model.specs.Outlines.FactSteps.{Given, Places, Heads, meet, covers, Step, Fork}
+use Rattle.sl_model.specs.Outlines.FactScopes.{within, after_first, after_stmt, in_range_for}
+use Rattle.sl_model.specs.Outlines.Carry.{Ways, Carry, goes_on, meet_ways, on_each_way, no_carry, step_carry, break_carry, continue_carry, return_carry}
+use Rattle.sl_model.specs.Outlines.Carry.{then_ways, then_carry, leave, choice_carry, out_of_loop, loop_carry, leaves_elements, at_turn, range_carry, first_step}
+use Rattle.sl_model.specs.Outlines.Carry.{last_step, result_step, carry, carry_all}
 use Rattle.sl_model.proofs.FactsIdle.{IsIdleStep, IsIdleFork, or_true, both_true, no_step_idle}
 use Rattle.sl_model.proofs.EffectsIdle.{evaluation_idle, effect_idle, declaration_idle, condition_idle}
 

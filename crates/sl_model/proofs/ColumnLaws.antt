@@ -1,7 +1,7 @@
 -- The marks after a change are kept apart: in one container, and in two that exchange elements.
 use Rattle.std.proofs.Common.{◌≡◌, ℕ, ◌+◌, ◌<◌, ◌≤◌, Bool, false, List, Some, length, arith, ◌⊎◌, inl, inr}
 use Rattle.std.specs.List.{slice_get}
-use Rattle.sl_model.specs.Edits.{Source, old, written, theirs, new}
+use Rattle.sl_model.specs.Memory.Edits.{Source, old, written, theirs, new}
 use Rattle.sl_model.proofs.Apart.{IsDistinct, AllBelow, HaveNone}
 use Rattle.sl_model.proofs.Columns.{TakesOwn, TakesTheirs, IsNew, AllInside, marks_from, Entry, stays_one, renewed_one, comes_one, new_one, entry_at}
 

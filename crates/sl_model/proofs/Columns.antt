@@ -4,8 +4,8 @@ use Rattle.std.proofs.Common.{◌≡◌, ℕ, zero, suc, ◌+◌, ◌<◌, Bool,
 use Rattle.std.proofs.Common.{arith, if◌then◌else◌, pos}
 use Rattle.std.specs.List.{slice_get}
 use Rattle.std.proofs.lemmas.List.{length-map}
-use Rattle.sl_model.specs.Containers.{Cell, Cont, size, stamps, refers}
-use Rattle.sl_model.specs.Edits.{Source, old, written, theirs, new, Change, mark_after, stayed, from_source, from_sources, rebuilt}
+use Rattle.sl_model.specs.Memory.Containers.{Cell, Cont, size, stamps, refers}
+use Rattle.sl_model.specs.Memory.Edits.{Source, old, written, theirs, new, Change, mark_after, stayed, from_source, from_sources, rebuilt}
 use Rattle.sl_model.proofs.Getting.{get_left, get_behind, get_within, get_some, get_map}
 
 -- a source takes place k of the container itself

@@ -9,16 +9,16 @@ use Rattle.sl_specs.specs.declared.class.Class.{Class}
 use Rattle.sl_specs.specs.Rows.{Line, row_of as row_of_line}
 use Rattle.sl_specs.specs.ContainerLines.{container_lines}
 use Rattle.sl_specs.specs.MultiLines.{multi_lines}
-use Rattle.sl_model.specs.Containers.{Memory, cont_at, size}
-use Rattle.sl_model.specs.Edits.{after}
-use Rattle.sl_model.specs.Forms.{holds_equal_keys}
-use Rattle.sl_model.specs.Schedule.{after_picks}
-use Rattle.sl_model.specs.Situation.{Situation, own, own_size, int_of, count_of}
-use Rattle.sl_model.specs.Needs.{fails_if}
-use Rattle.sl_model.specs.Actions.{gives_place, gives_place_and, never, exception_if}
-use Rattle.sl_model.specs.Effects.{Left, key_place, key_change, key_picks, known_key, insert_key}
-use Rattle.sl_model.specs.KeyActions.{key_index, is_missing, place_or, key_after, is_new, inserted}
-use Rattle.sl_model.specs.Rows.{of_form, member_row}
+use Rattle.sl_model.specs.Memory.Containers.{Memory, cont_at, size}
+use Rattle.sl_model.specs.Memory.Edits.{after}
+use Rattle.sl_model.specs.Memory.Forms.{holds_equal_keys}
+use Rattle.sl_model.specs.Memory.Schedule.{after_picks}
+use Rattle.sl_model.specs.LibraryCalls.Situation.{Situation, own, own_size, int_of, count_of}
+use Rattle.sl_model.specs.LibraryCalls.Needs.{fails_if}
+use Rattle.sl_model.specs.LibraryCalls.Actions.{gives_place, gives_place_and, never, exception_if}
+use Rattle.sl_model.specs.LibraryCalls.Effects.{Left, key_place, key_change, key_picks, known_key, insert_key}
+use Rattle.sl_model.specs.LibraryCalls.KeyActions.{key_index, is_missing, place_or, key_after, is_new, inserted}
+use Rattle.sl_model.specs.LibraryCalls.Rows.{of_form, member_row}
 use Rattle.sl_model.proofs.Called.{HasObject, own_within}
 use Rattle.sl_model.proofs.Placing.{HasPlace, after-place}
 use Rattle.sl_model.proofs.Tells.{AllOf, all_parts}

@@ -8,22 +8,22 @@ use Rattle.sl_base.specs.declared.form.Form.TheVariants as f
 use Rattle.sl_specs.specs.declared.class.Class.{Class}
 use Rattle.sl_specs.specs.ContainerLines.{container_lines}
 use Rattle.sl_specs.specs.MultiLines.{multi_lines}
-use Rattle.sl_model.specs.Containers.{Cont, Memory, size, keys}
-use Rattle.sl_model.specs.Classes.{Edit}
-use Rattle.sl_model.specs.Edits.{old, new, numbers, change_of, after}
-use Rattle.sl_model.specs.Forms.{is_hash, holds_equal_keys}
-use Rattle.sl_model.specs.Orders.{index_of_key}
-use Rattle.sl_model.specs.Schedule.{scattered, hash_place, after_picks, pick, pick_at}
-use Rattle.sl_model.specs.Situation.{Situation, own, own_size, their, their_size, container_of, index, range_size, int_of, count_of, item}
-use Rattle.sl_model.specs.Actions.{Effect, keeps, edits, changes, trades, inserts, gives_place, gives_place_and}
-use Rattle.sl_model.specs.Effects.{Left, is_full, ordered_place, key_order, key_place, key_change, key_picks, known_key, insert_key, does}
-use Rattle.sl_model.specs.MakeActions.{filled}
-use Rattle.sl_model.specs.AccessActions.{untouched, rehashed, reserved, swap}
-use Rattle.sl_model.specs.ListActions.{merged, merge, splices}
-use Rattle.sl_model.specs.Rearrangements.{arranged, exchanged, received, given, moved_order}
-use Rattle.sl_model.specs.KeyActions.{key_index, place_or, key_after, is_new, inserted, below, up_to}
-use Rattle.sl_model.specs.Rows.{of_form}
-use Rattle.sl_model.specs.Values.{Shape, a_stamp, a_pair}
+use Rattle.sl_model.specs.Memory.Containers.{Cont, Memory, size, keys}
+use Rattle.sl_model.specs.Memory.Classes.{Edit}
+use Rattle.sl_model.specs.Memory.Edits.{old, new, numbers, change_of, after}
+use Rattle.sl_model.specs.Memory.Forms.{is_hash, holds_equal_keys}
+use Rattle.sl_model.specs.Memory.Orders.{index_of_key}
+use Rattle.sl_model.specs.Memory.Schedule.{scattered, hash_place, after_picks, pick, pick_at}
+use Rattle.sl_model.specs.LibraryCalls.Situation.{Situation, own, own_size, their, their_size, container_of, index, range_size, int_of, count_of, item}
+use Rattle.sl_model.specs.LibraryCalls.Actions.{Effect, keeps, edits, changes, trades, inserts, gives_place, gives_place_and}
+use Rattle.sl_model.specs.LibraryCalls.Effects.{Left, is_full, ordered_place, key_order, key_place, key_change, key_picks, known_key, insert_key, does}
+use Rattle.sl_model.specs.LibraryCalls.MakeActions.{filled}
+use Rattle.sl_model.specs.LibraryCalls.AccessActions.{untouched, rehashed, reserved, swap}
+use Rattle.sl_model.specs.LibraryCalls.ListActions.{merged, merge, splices}
+use Rattle.sl_model.specs.Memory.Rearrangements.{arranged, exchanged, received, given, moved_order}
+use Rattle.sl_model.specs.LibraryCalls.KeyActions.{key_index, place_or, key_after, is_new, inserted, below, up_to}
+use Rattle.sl_model.specs.LibraryCalls.Rows.{of_form}
+use Rattle.sl_model.specs.LibraryCalls.Values.{Shape, a_stamp, a_pair}
 use Rattle.sl_model.proofs.Called.{HasObject, own_within, own_form}
 use Rattle.sl_model.proofs.Growing.{makes_one}
 use Rattle.sl_model.proofs.Placing.{HasPlace, IsPlaced, after-place, edit-place, hash_place-low}

@@ -4,10 +4,10 @@ use Rattle.std.proofs.Common.{refl, ap, sym, ◌∙◌, arith, ◌⊎◌, inl, i
 use Rattle.std.specs.Prelude.{int_lt, nat_le}
 use Rattle.std.proofs.lemmas.Bool.{cases_lt, cases_eq}
 use Rattle.std.proofs.lemmas.List.{length-map}
-use Rattle.sl_model.specs.Edits.{Source, old, written, theirs, new, numbers, news}
-use Rattle.sl_model.specs.Orders.{put_sorted, put_all_sorted, sorted_entries, with_places, sorted_places}
-use Rattle.sl_model.specs.Rearrangements.{overwritten, moved_order}
-use Rattle.sl_model.specs.Schedule.{put_at, put_all, scattered, hash_place, pick}
+use Rattle.sl_model.specs.Memory.Edits.{Source, old, written, theirs, new, numbers, news}
+use Rattle.sl_model.specs.Memory.Orders.{put_sorted, put_all_sorted, sorted_entries, with_places, sorted_places}
+use Rattle.sl_model.specs.Memory.Rearrangements.{overwritten, moved_order}
+use Rattle.sl_model.specs.Memory.Schedule.{put_at, put_all, scattered, hash_place, pick}
 use Rattle.sl_model.proofs.Places.{hit, hit-same, hit-is, times, own_places, their_places}
 
 -- among joined lists

@@ -9,19 +9,19 @@ use Rattle.sl_syntax.specs.Typed.{call, Left, scalar, reference, element}
 use Rattle.sl_syntax.specs.Typed.{Operands, none, with, Cond, read, not_read, test, always, Printed, text, endline, number as printed_number}
 use Rattle.sl_syntax.specs.Typed.{Effect, reads, prints, evaluates, assigns, updates, moves_to, Declaration, unset_scalar, set_scalar}
 use Rattle.sl_syntax.specs.Typed.{set_iterator, binds_reference, makes}
-use Rattle.sl_model.specs.FactOperands.{FactScope, fresh_iterator, fresh_scalar, iterator_of, is_number, end_of, table_row}
-use Rattle.sl_model.specs.FactRules.{bind_reference}
-use Rattle.sl_model.specs.Facts.{copy_iterator, forget_scalar}
-use Rattle.sl_model.specs.FactsOfContainers.{erase_tail, erase_at, erase_at_itself, insert_at}
-use Rattle.sl_model.specs.FactsOfElements.{element_rule}
+use Rattle.sl_model.specs.Outlines.FactOperands.{FactScope, fresh_iterator, fresh_scalar, iterator_of, is_number, end_of, table_row}
+use Rattle.sl_model.specs.Outlines.FactRules.{bind_reference}
+use Rattle.sl_model.specs.Outlines.Facts.{copy_iterator, forget_scalar}
+use Rattle.sl_model.specs.Outlines.FactsOfContainers.{erase_tail, erase_at, erase_at_itself, insert_at}
+use Rattle.sl_model.specs.Outlines.FactsOfElements.{element_rule}
 use Rattle.sl_specs.specs.declared.call.Call.TheVariants as c
 use Rattle.sl_specs.specs.Table.{same_call}
-use Rattle.sl_model.specs.FactSteps.{with_facts, Step, then_step, rule_step}
-use Rattle.sl_model.specs.FactsOfExpressions.{operands, write_use}
-use Rattle.sl_model.specs.FactScopes.{within, after_declaration}
-use Rattle.sl_model.specs.FactsOfEffects.{takes_position, takes_position_and_element, makes_rule, evaluation, forget_scalars, takes_value, tail_of, erases_tail, erases, whole_call, whole_expression}
-use Rattle.sl_model.specs.FactsOfEffects.{takes_iterator, takes_position_back, takes_back, moves_step, assigns_step, updates_step, prints_step}
-use Rattle.sl_model.specs.FactsOfEffects.{effect_rule, effect_step, declaration_rule, declaration_step, condition_rule, condition}
+use Rattle.sl_model.specs.Outlines.FactSteps.{with_facts, Step, then_step, rule_step}
+use Rattle.sl_model.specs.Outlines.FactsOfExpressions.{operands, write_use}
+use Rattle.sl_model.specs.Outlines.FactScopes.{within, after_declaration}
+use Rattle.sl_model.specs.Outlines.FactsOfEffects.{takes_position, takes_position_and_element, makes_rule, evaluation, forget_scalars, takes_value, tail_of, erases_tail, erases, whole_call, whole_expression}
+use Rattle.sl_model.specs.Outlines.FactsOfEffects.{takes_iterator, takes_position_back, takes_back, moves_step, assigns_step, updates_step, prints_step}
+use Rattle.sl_model.specs.Outlines.FactsOfEffects.{effect_rule, effect_step, declaration_rule, declaration_step, condition_rule, condition}
 use Rattle.sl_model.proofs.FactsIdle.{IsIdleStep, IsIdleFork, no_step_idle, changes_idle, rule_idle, then_idle, plain_idle, expression_idle}
 use Rattle.sl_model.proofs.FactsIdle.{left_idle, operands_idle, fresh_idle}
 

@@ -9,11 +9,11 @@ use Rattle.sl_model.specs.declared.end.End.TheVariants as e
 use Rattle.sl_model.specs.declared.finish.Finish.{Finish as FinishCode}
 use Rattle.sl_model.specs.declared.output.Output.{Output as OutputCode}
 use Rattle.sl_model.specs.declared.trap_info.TrapInfo.{TrapInfo}
-use Rattle.sl_model.specs.Covers.{named}
-use Rattle.sl_model.specs.Ends.{Trap, End, Done, Trapped, OutOfSteps, Language, Thrown, NoMeaning, Finish, Output}
-use Rattle.sl_model.specs.EndText.{end_text, end_line, trap_text, run_line, lost_line, with_line_end}
-use Rattle.sl_model.specs.Texts.{kind_text, place_text, who_text, sites_text}
-use Rattle.sl_model.specs.EndView.{IsTrap, IsEnd, IsFinish, output_of}
+use Rattle.sl_model.specs.Reports.Covers.{named}
+use Rattle.sl_model.specs.Runs.Ends.{Trap, End, Done, Trapped, OutOfSteps, Language, Thrown, NoMeaning, Finish, Output}
+use Rattle.sl_model.specs.Reports.EndText.{end_text, end_line, trap_text, run_line, lost_line, with_line_end}
+use Rattle.sl_model.specs.Reports.Texts.{kind_text, place_text, who_text, sites_text}
+use Rattle.sl_model.specs.Runs.EndView.{IsTrap, IsEnd, IsFinish, output_of}
 use Rattle.sl_model.proofs.Getting.{get_some}
 
 -- a value by its parts

@@ -3,8 +3,8 @@ use Rattle.std.proofs.Common.{◌≡◌, ℕ, zero, suc, ◌+◌, ◌-◌, ◌<�
 use Rattle.std.proofs.Common.{◌⊎◌, inl, inr, ⊎_elim, subst}
 use Rattle.std.specs.List.{slice_get}
 use Rattle.std.proofs.lemmas.Bool.{cases_lt}
-use Rattle.sl_model.specs.Containers.{Cont, Grave, IsGrave, Memory, stamps, refers, killer_of, killer, graves_at, joined, end_from}
-use Rattle.sl_model.specs.Good.{Stands, AreKeptApart, IsAt, IsSound, NoneVanishFrom, NoneVanishes}
+use Rattle.sl_model.specs.Memory.Containers.{Cont, Grave, IsGrave, Memory, stamps, refers, killer_of, killer, graves_at, joined, end_from}
+use Rattle.sl_model.specs.Runs.Good.{Stands, AreKeptApart, IsAt, IsSound, NoneVanishFrom, NoneVanishes}
 use Rattle.sl_model.proofs.Getting.{get_left, get_right, get_behind, get_take, get_drop, get_within}
 use Rattle.sl_model.proofs.Apart.{StandsSomewhere}
 use Rattle.sl_model.proofs.Located.{at_stands}

@@ -5,16 +5,16 @@ use Rattle.std.specs.List.{slice_get}
 use Rattle.std.proofs.lemmas.Bool.{eqb-true, eq-eqb}
 use Rattle.sl_base.specs.declared.form.Form.{Form}
 use Rattle.sl_specs.specs.declared.class.Class.{Class}
-use Rattle.sl_model.specs.Containers.{Cont, Dropped, size, stamps}
-use Rattle.sl_model.specs.Edits.{Source, old, written, theirs, new, Change, olds, theirs_from, buried}
-use Rattle.sl_model.specs.Origins.{ComesFrom, ComesOver}
-use Rattle.sl_model.specs.Rearrangements.{arranged, exchanged, received, given, moved_order}
-use Rattle.sl_model.specs.Situation.{Situation, own, own_size, index, container_of, their, their_size}
-use Rattle.sl_model.specs.Actions.{Effect, keeps, edits, changes, trades}
-use Rattle.sl_model.specs.AccessActions.{untouched, swap}
-use Rattle.sl_model.specs.ListActions.{merged, merge, splices}
-use Rattle.sl_model.specs.Good.{IsAt, RefersTo}
-use Rattle.sl_model.specs.Effects.{does}
+use Rattle.sl_model.specs.Memory.Containers.{Cont, Dropped, size, stamps}
+use Rattle.sl_model.specs.Memory.Edits.{Source, old, written, theirs, new, Change, olds, theirs_from, buried}
+use Rattle.sl_model.specs.Memory.Origins.{ComesFrom, ComesOver}
+use Rattle.sl_model.specs.Memory.Rearrangements.{arranged, exchanged, received, given, moved_order}
+use Rattle.sl_model.specs.LibraryCalls.Situation.{Situation, own, own_size, index, container_of, their, their_size}
+use Rattle.sl_model.specs.LibraryCalls.Actions.{Effect, keeps, edits, changes, trades}
+use Rattle.sl_model.specs.LibraryCalls.AccessActions.{untouched, swap}
+use Rattle.sl_model.specs.LibraryCalls.ListActions.{merged, merge, splices}
+use Rattle.sl_model.specs.Runs.Good.{IsAt, RefersTo}
+use Rattle.sl_model.specs.LibraryCalls.Effects.{does}
 use Rattle.sl_model.proofs.Getting.{get_left, get_behind}
 use Rattle.sl_model.proofs.Columns.{TakesOwn, TakesTheirs, stamp_of_end}
 use Rattle.sl_model.proofs.ColumnLaws.{IsTaken, IsTakenOver}

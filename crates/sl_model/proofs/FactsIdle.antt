@@ -9,16 +9,16 @@ use Rattle.sl_syntax.specs.declared.typed.step.Step.{Step as Direction}
 use Rattle.sl_syntax.specs.Typed.{Expr, literal, held, iterator, convert, negate, logical_not, logical_and, logical_or, arithmetic, comparison}
 use Rattle.sl_syntax.specs.Typed.{increment, move, call, own_call, first, second, container, handed_scalar, Left, scalar, reference, element}
 use Rattle.sl_syntax.specs.Typed.{Operands, none, with}
-use Rattle.sl_model.specs.Facts.{Facts}
-use Rattle.sl_model.specs.FactRules.{FactRule}
-use Rattle.sl_model.specs.FactOperands.{FactScope, container_count}
-use Rattle.sl_model.specs.FactsOfElements.{FactTest, call_test, comparison_test, element_rule, move_rule}
-use Rattle.sl_model.specs.FactsOfCalls.{call_rule}
-use Rattle.sl_model.specs.FactsOfIterators.{use_reference}
-use Rattle.sl_model.specs.FactSteps.{Given, Places, Heads, with_facts, needs_facts, meet, Step, Fork, no_step, changes, rule_step, then_step, test_fork, plain_fork, not_fork}
-use Rattle.sl_model.specs.FactSteps.{and_fork, or_fork, joined_step}
-use Rattle.sl_model.specs.FactsOfExpressions.{Reading, Use, read_use, write_use, use_rule, expression, left_side, stepped, operands}
-use Rattle.sl_model.specs.FactsOfExpressions.{fresh_step, forget_fresh, steps_value, function_step, call_fork, call_reading, plain, forked}
+use Rattle.sl_model.specs.Outlines.Facts.{Facts}
+use Rattle.sl_model.specs.Outlines.FactRules.{FactRule}
+use Rattle.sl_model.specs.Outlines.FactOperands.{FactScope, container_count}
+use Rattle.sl_model.specs.Outlines.FactsOfElements.{FactTest, call_test, comparison_test, element_rule, move_rule}
+use Rattle.sl_model.specs.Outlines.FactsOfCalls.{call_rule}
+use Rattle.sl_model.specs.Outlines.FactsOfIterators.{use_reference}
+use Rattle.sl_model.specs.Outlines.FactSteps.{Given, Places, Heads, with_facts, needs_facts, meet, Step, Fork, no_step, changes, rule_step, then_step, test_fork, plain_fork, not_fork}
+use Rattle.sl_model.specs.Outlines.FactSteps.{and_fork, or_fork, joined_step}
+use Rattle.sl_model.specs.Outlines.FactsOfExpressions.{Reading, Use, read_use, write_use, use_rule, expression, left_side, stepped, operands}
+use Rattle.sl_model.specs.Outlines.FactsOfExpressions.{fresh_step, forget_fresh, steps_value, function_step, call_fork, call_reading, plain, forked}
 
 -- a step needs and gives nothing there
 pub record IsIdleStep (a : Step) : Type 0 where

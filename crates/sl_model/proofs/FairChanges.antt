@@ -4,12 +4,12 @@ use Rattle.std.proofs.Common.{ap, ◌∙◌, arith, inr, ℤ}
 use Rattle.std.proofs.lemmas.List.{length-map}
 use Rattle.sl_base.specs.declared.limits.TheConstants.{ELEMENTS}
 use Rattle.sl_specs.specs.declared.class.Class.{Class}
-use Rattle.sl_model.specs.Classes.{Edit, Fits, kills, loses}
-use Rattle.sl_model.specs.Containers.{Cont, size}
-use Rattle.sl_model.specs.Edits.{old, new, numbers, olds, news, change_of}
-use Rattle.sl_model.specs.Rearrangements.{arranged, overwrites, overwritten}
-use Rattle.sl_model.specs.AccessActions.{rehashed}
-use Rattle.sl_model.specs.Schedule.{scattered, after_picks}
+use Rattle.sl_model.specs.Memory.Classes.{Edit, Fits, kills, loses}
+use Rattle.sl_model.specs.Memory.Containers.{Cont, size}
+use Rattle.sl_model.specs.Memory.Edits.{old, new, numbers, olds, news, change_of}
+use Rattle.sl_model.specs.Memory.Rearrangements.{arranged, overwrites, overwritten}
+use Rattle.sl_model.specs.LibraryCalls.AccessActions.{rehashed}
+use Rattle.sl_model.specs.Memory.Schedule.{scattered, after_picks}
 use Rattle.sl_model.proofs.Places.{times, own_places, their_places, CountsFair}
 use Rattle.sl_model.proofs.Counts.{in_turn, InTurn, one_of, lower, higher, own-append, their-append, own-old, their-old, own-news}
 use Rattle.sl_model.proofs.Counts.{their-news, own-overwritten, their-overwritten, length-numbers, length-overwritten, times-scattered}

@@ -18,21 +18,21 @@ use Rattle.sl_specs.specs.declared.return_type.ReturnType.TheVariants as g
 use Rattle.sl_specs.specs.Rows.{Row as TableRow}
 use Rattle.sl_specs.specs.AlgorithmRows.{algorithm, algorithm_rows}
 use Rattle.sl_syntax.specs.declared.typed.operator.Operator.{Operator}
-use Rattle.sl_model.specs.Containers.{Cont, Memory, size, cont_at}
-use Rattle.sl_model.specs.Rearrangements.{overwrites}
-use Rattle.sl_model.specs.Orders.{same, is_ascending, sorted, sorted_entries, firsts_after, firsts, others}
-use Rattle.sl_model.specs.Schedule.{picked}
-use Rattle.sl_model.specs.Values.{Value, nothing, number, iterator, pair, two, scalar_at, container_at, element_at}
-use Rattle.sl_model.specs.Situation.{Situation, argument, index_in, place_of, index, container_of_value, container_of, int_of}
-use Rattle.sl_model.specs.Situation.{range_keys, range_size}
-use Rattle.sl_model.specs.Operands.{all_sorts, are_of, a_writer, a_sequence, is_of, is_sequence, written_keys}
-use Rattle.sl_model.specs.Operands.{is_set_operation, output_count}
-use Rattle.sl_model.specs.Needs.{fails_if, one_range_fails, is_range, valid_keys, places_fail, output_place_fails}
-use Rattle.sl_model.specs.Needs.{output_fails, failures, all_failures, first_failure}
-use Rattle.sl_model.specs.Actions.{changes, never, too_many}
-use Rattle.sl_model.specs.WritingAlgorithms.{rewrites, output, outputs, output_stops}
-use Rattle.sl_model.specs.Rows.{of_first, algorithm_row, row_of_operator}
-use Rattle.sl_model.specs.Good.{IsSound}
+use Rattle.sl_model.specs.Memory.Containers.{Cont, Memory, size, cont_at}
+use Rattle.sl_model.specs.Memory.Rearrangements.{overwrites}
+use Rattle.sl_model.specs.Memory.Orders.{same, is_ascending, sorted, sorted_entries, firsts_after, firsts, others}
+use Rattle.sl_model.specs.Memory.Schedule.{picked}
+use Rattle.sl_model.specs.LibraryCalls.Values.{Value, nothing, number, iterator, pair, two, scalar_at, container_at, element_at}
+use Rattle.sl_model.specs.LibraryCalls.Situation.{Situation, argument, index_in, place_of, index, container_of_value, container_of, int_of}
+use Rattle.sl_model.specs.LibraryCalls.Situation.{range_keys, range_size}
+use Rattle.sl_model.specs.LibraryCalls.Operands.{all_sorts, are_of, a_writer, a_sequence, is_of, is_sequence, written_keys}
+use Rattle.sl_model.specs.LibraryCalls.Operands.{is_set_operation, output_count}
+use Rattle.sl_model.specs.LibraryCalls.Needs.{fails_if, one_range_fails, is_range, valid_keys, places_fail, output_place_fails}
+use Rattle.sl_model.specs.LibraryCalls.Needs.{output_fails, failures, all_failures, first_failure}
+use Rattle.sl_model.specs.LibraryCalls.Actions.{changes, never, too_many}
+use Rattle.sl_model.specs.LibraryCalls.WritingAlgorithms.{rewrites, output, outputs, output_stops}
+use Rattle.sl_model.specs.LibraryCalls.Rows.{of_first, algorithm_row, row_of_operator}
+use Rattle.sl_model.specs.Runs.Good.{IsSound}
 use Rattle.sl_model.proofs.After.{cont_of_there}
 use Rattle.sl_model.proofs.Called.{HasObject}
 use Rattle.sl_model.proofs.Placing.{HasPlace, how_many-low}

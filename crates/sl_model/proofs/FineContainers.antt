@@ -10,27 +10,27 @@ use Rattle.sl_base.specs.declared.limits.TheConstants.{ELEMENTS}
 use Rattle.sl_specs.specs.declared.class.Class.{Class}
 use Rattle.sl_specs.specs.ContainerLines.{container_lines}
 use Rattle.sl_specs.specs.MultiLines.{multi_lines}
-use Rattle.sl_model.specs.Classes.{Edit, Fits}
-use Rattle.sl_model.specs.Containers.{Cell, Cont, Memory, size, cont_at, keys, items}
-use Rattle.sl_model.specs.Edits.{numbers}
-use Rattle.sl_model.specs.Forms.{is_hash}
-use Rattle.sl_model.specs.Needs.{is_range, is_position_inside, fails_if, place_fails, element_fails, range_fails, first_failure}
-use Rattle.sl_model.specs.Operands.{Sort, an_iterator, a_container, are_of}
-use Rattle.sl_model.specs.Orders.{same, first_of_key, how_many, sorted_places, first_places, other_places}
-use Rattle.sl_model.specs.Rearrangements.{arranged, exchanged, received, given, moved_order}
-use Rattle.sl_model.specs.Schedule.{pick, after_picks}
+use Rattle.sl_model.specs.Memory.Classes.{Edit, Fits}
+use Rattle.sl_model.specs.Memory.Containers.{Cell, Cont, Memory, size, cont_at, keys, items}
+use Rattle.sl_model.specs.Memory.Edits.{numbers}
+use Rattle.sl_model.specs.Memory.Forms.{is_hash}
+use Rattle.sl_model.specs.LibraryCalls.Needs.{is_range, is_position_inside, fails_if, place_fails, element_fails, range_fails, first_failure}
+use Rattle.sl_model.specs.LibraryCalls.Operands.{Sort, an_iterator, a_container, are_of}
+use Rattle.sl_model.specs.Memory.Orders.{same, first_of_key, how_many, sorted_places, first_places, other_places}
+use Rattle.sl_model.specs.Memory.Rearrangements.{arranged, exchanged, received, given, moved_order}
+use Rattle.sl_model.specs.Memory.Schedule.{pick, after_picks}
 use Rattle.sl_base.specs.declared.failures.TheConstants.{WRONG_CONTAINER, END_ITERATOR, EMPTY_CONTAINER, OVERLAP}
-use Rattle.sl_model.specs.Situation.{Situation, own, own_size, argument, place_of, index, index_in, container_of, container_of_value, their, their_size, int_of, count_of, item}
-use Rattle.sl_model.specs.Situation.{as_items, listed, range_keys, range_size}
-use Rattle.sl_model.specs.Values.{Value, nothing as no_result}
-use Rattle.sl_model.specs.Actions.{keeps, edits, changes, trades, inserts, never, too_many}
-use Rattle.sl_model.specs.AccessActions.{untouched, resized, rehashed, reserved, swap}
-use Rattle.sl_model.specs.Effects.{insertion, picks_with, room_with}
-use Rattle.sl_model.specs.KeyActions.{new_keys, place_or, key_index, key_count}
-use Rattle.sl_model.specs.ListActions.{merged, merge, splices, too_many_theirs}
-use Rattle.sl_model.specs.MakeActions.{filled, copied, refilled, copy_items, copy_picks, copy_room}
-use Rattle.sl_model.specs.SequenceActions.{puts, drops}
-use Rattle.sl_model.specs.Good.{IsSound}
+use Rattle.sl_model.specs.LibraryCalls.Situation.{Situation, own, own_size, argument, place_of, index, index_in, container_of, container_of_value, their, their_size, int_of, count_of, item}
+use Rattle.sl_model.specs.LibraryCalls.Situation.{as_items, listed, range_keys, range_size}
+use Rattle.sl_model.specs.LibraryCalls.Values.{Value, nothing as no_result}
+use Rattle.sl_model.specs.LibraryCalls.Actions.{keeps, edits, changes, trades, inserts, never, too_many}
+use Rattle.sl_model.specs.LibraryCalls.AccessActions.{untouched, resized, rehashed, reserved, swap}
+use Rattle.sl_model.specs.LibraryCalls.Effects.{insertion, picks_with, room_with}
+use Rattle.sl_model.specs.LibraryCalls.KeyActions.{new_keys, place_or, key_index, key_count}
+use Rattle.sl_model.specs.LibraryCalls.ListActions.{merged, merge, splices, too_many_theirs}
+use Rattle.sl_model.specs.LibraryCalls.MakeActions.{filled, copied, refilled, copy_items, copy_picks, copy_room}
+use Rattle.sl_model.specs.LibraryCalls.SequenceActions.{puts, drops}
+use Rattle.sl_model.specs.Runs.Good.{IsSound}
 use Rattle.sl_model.proofs.Called.{own_there}
 use Rattle.std.proofs.lemmas.List.{reverse-append, length-reverse, length-map}
 use Rattle.sl_model.proofs.Counts.{times-append}

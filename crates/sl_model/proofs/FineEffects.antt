@@ -6,19 +6,19 @@ use Rattle.std.proofs.lemmas.List.{length-map}
 use Rattle.sl_base.specs.declared.form.Form.{Form}
 use Rattle.sl_base.specs.declared.limits.TheConstants.{ELEMENTS}
 use Rattle.sl_specs.specs.declared.class.Class.{Class}
-use Rattle.sl_model.specs.Classes.{Edit}
-use Rattle.sl_model.specs.Containers.{Cont, Grave, Memory, cont_at, size, stamps, refers, keys, made, IsGrave}
-use Rattle.sl_model.specs.Edits.{Change, change_of, changed, buried, after}
-use Rattle.sl_model.specs.Schedule.{after_picks}
-use Rattle.sl_model.specs.Situation.{Situation, own, item}
-use Rattle.sl_model.specs.Actions.{Effect, keeps, edits, changes, trades, inserts, appends, makes, makes_by_keys}
-use Rattle.sl_model.specs.Effects.{Left, insertion_class, insertion, append, append_all, known_key, key_change, key_picks, insert_key, insert_all, does}
+use Rattle.sl_model.specs.Memory.Classes.{Edit}
+use Rattle.sl_model.specs.Memory.Containers.{Cont, Grave, Memory, cont_at, size, stamps, refers, keys, made, IsGrave}
+use Rattle.sl_model.specs.Memory.Edits.{Change, change_of, changed, buried, after}
+use Rattle.sl_model.specs.Memory.Schedule.{after_picks}
+use Rattle.sl_model.specs.LibraryCalls.Situation.{Situation, own, item}
+use Rattle.sl_model.specs.LibraryCalls.Actions.{Effect, keeps, edits, changes, trades, inserts, appends, makes, makes_by_keys}
+use Rattle.sl_model.specs.LibraryCalls.Effects.{Left, insertion_class, insertion, append, append_all, known_key, key_change, key_picks, insert_key, insert_all, does}
 use Rattle.sl_base.specs.declared.scalar.Scalar.TheVariants as t
 use Rattle.sl_model.specs.Numbers.{converted}
-use Rattle.sl_model.specs.Orders.{has}
-use Rattle.sl_model.specs.Forms.{holds_equal_keys}
-use Rattle.sl_model.specs.KeyActions.{count_new, new_keys}
-use Rattle.sl_model.specs.Good.{Stands, IsSound}
+use Rattle.sl_model.specs.Memory.Orders.{has}
+use Rattle.sl_model.specs.Memory.Forms.{holds_equal_keys}
+use Rattle.sl_model.specs.LibraryCalls.KeyActions.{count_new, new_keys}
+use Rattle.sl_model.specs.Runs.Good.{Stands, IsSound}
 use Rattle.sl_model.proofs.After.{Leaves, get-after-own, cont_at-after-own, cont_of_there, size-changed, change-leaves}
 use Rattle.sl_model.proofs.AfterTwo.{trade-leaves}
 use Rattle.sl_model.proofs.Making.{made-leaves, made-there, fresh-size}

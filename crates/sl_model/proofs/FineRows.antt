@@ -10,13 +10,13 @@ use Rattle.sl_specs.specs.declared.call.Call.TheVariants as c
 use Rattle.sl_specs.specs.declared.class.Class.{Class}
 use Rattle.sl_specs.specs.declared.class.Class.TheVariants as classes
 use Rattle.sl_specs.specs.Rows.{Line, row_of as row_of_line}
-use Rattle.sl_model.specs.Classes.{Edit}
-use Rattle.sl_model.specs.Containers.{Cont}
-use Rattle.sl_model.specs.Situation.{Situation}
-use Rattle.sl_model.specs.Needs.{first_failure, fails_if}
-use Rattle.sl_model.specs.Actions.{never, too_many, exception}
-use Rattle.sl_model.specs.Rows.{Row, member_row}
-use Rattle.sl_model.specs.Good.{IsSound}
+use Rattle.sl_model.specs.Memory.Classes.{Edit}
+use Rattle.sl_model.specs.Memory.Containers.{Cont}
+use Rattle.sl_model.specs.LibraryCalls.Situation.{Situation}
+use Rattle.sl_model.specs.LibraryCalls.Needs.{first_failure, fails_if}
+use Rattle.sl_model.specs.LibraryCalls.Actions.{never, too_many, exception}
+use Rattle.sl_model.specs.LibraryCalls.Rows.{Row, member_row}
+use Rattle.sl_model.specs.Runs.Good.{IsSound}
 use Rattle.sl_model.proofs.Called.{IsCalled}
 use Rattle.sl_model.proofs.FairChanges.{BuriesGone}
 use Rattle.sl_model.proofs.FineEffects.{IsFine}

@@ -16,21 +16,21 @@ use Rattle.sl_syntax.specs.declared.typed.callee.Callee.{Callee}
 use Rattle.sl_syntax.specs.declared.typed.parameter.ParameterKind.{ParameterKind}
 use Rattle.sl_syntax.specs.declared.typed.parameter.ParameterKind.TheVariants as parameters
 use Rattle.sl_syntax.specs.Typed.{Function, Typed}
-use Rattle.sl_model.specs.Containers.{Memory}
-use Rattle.sl_model.specs.Values.{Value, nothing, number, iterator, scalar_at, container_at, Lib}
-use Rattle.sl_model.specs.Ends.{Language}
-use Rattle.sl_model.specs.State.{State, iterator_at}
-use Rattle.sl_model.specs.Binding.{no_frame, bind_one, bind_all, bound}
-use Rattle.sl_model.specs.Eval.{Out, Gives, Stops, World, Oracle, come_back}
-use Rattle.sl_model.specs.Exec.{Flow, Next, Broke, Continued, Returned, Over, exec}
-use Rattle.sl_model.specs.Calls.{fell, body_gives, of_function, parameters_in, world_of, call_of}
-use Rattle.sl_model.specs.Shapes.{Shape, Signature, signature_of, shape_of_result}
-use Rattle.sl_model.specs.Scoped.{Counts, no_counts, with_parameters as counts_with, InStmt, IsScoped}
-use Rattle.sl_model.specs.WellTypedTypes.{ExprType, scalar_type, element_type, iterator_type, container_type, handed_type, Scope, is_within}
-use Rattle.sl_model.specs.WellTypedTypes.{has_type, is_scalar}
-use Rattle.sl_model.specs.WellTypedExpressions.{goes_to, go_to, type_given}
-use Rattle.sl_model.specs.WellTypedStatements.{is_typed_stmt, with_parameter, with_parameters, no_variables, is_block, is_typed_function}
-use Rattle.sl_model.specs.WellTyped.{WellTyped}
+use Rattle.sl_model.specs.Memory.Containers.{Memory}
+use Rattle.sl_model.specs.LibraryCalls.Values.{Value, nothing, number, iterator, scalar_at, container_at, Lib}
+use Rattle.sl_model.specs.Runs.Ends.{Language}
+use Rattle.sl_model.specs.Runs.State.{State, iterator_at}
+use Rattle.sl_model.specs.Runs.Binding.{no_frame, bind_one, bind_all, bound}
+use Rattle.sl_model.specs.Runs.Eval.{Out, Gives, Stops, World, Oracle, come_back}
+use Rattle.sl_model.specs.Runs.Exec.{Flow, Next, Broke, Continued, Returned, Over, exec}
+use Rattle.sl_model.specs.Runs.Calls.{fell, body_gives, of_function, parameters_in, world_of, call_of}
+use Rattle.sl_model.specs.Typing.Shapes.{Shape, Signature, signature_of, shape_of_result}
+use Rattle.sl_model.specs.Typing.Scoped.{Counts, no_counts, with_parameters as counts_with, InStmt, IsScoped}
+use Rattle.sl_model.specs.Typing.WellTypedTypes.{ExprType, scalar_type, element_type, iterator_type, container_type, handed_type, Scope, is_within}
+use Rattle.sl_model.specs.Typing.WellTypedTypes.{has_type, is_scalar}
+use Rattle.sl_model.specs.Typing.WellTypedExpressions.{goes_to, go_to, type_given}
+use Rattle.sl_model.specs.Typing.WellTypedStatements.{is_typed_stmt, with_parameter, with_parameters, no_variables, is_block, is_typed_function}
+use Rattle.sl_model.specs.Typing.WellTyped.{WellTyped}
 use Rattle.sl_model.proofs.Passing.{first_of_both, second_of_both}
 use Rattle.sl_model.proofs.Called.{one_form}
 use Rattle.sl_model.proofs.TypedStatements.{functions_with_parameters, function_is_typed, main_is_there}

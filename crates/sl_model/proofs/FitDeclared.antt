@@ -5,13 +5,13 @@ use Rattle.sl_syntax.specs.declared.operator.Access.TheVariants as a
 use Rattle.sl_syntax.specs.declared.typed.head.Head.{Head}
 use Rattle.sl_syntax.specs.Typed.{Operands, element, Declaration, unset_scalar, set_scalar, set_iterator, binds_reference, makes, First, no_first}
 use Rattle.sl_syntax.specs.Typed.{declares_first, does_first}
-use Rattle.sl_model.specs.Containers.{Memory}
-use Rattle.sl_model.specs.State.{State, Pointer}
-use Rattle.sl_model.specs.WellTypedTypes.{ExprType, element_type, iterator_type, container_type, Scope, has_type, only}
-use Rattle.sl_model.specs.WellTypedTypes.{is_iterator}
-use Rattle.sl_model.specs.WellTypedCalls.{call_type}
-use Rattle.sl_model.specs.WellTypedExpressions.{only_element, is_arrow, is_variable, type_of, type_of_left, types_of}
-use Rattle.sl_model.specs.WellTypedStatements.{is_typed_declaration, reference_to, behind, is_typed_first, behind_first}
+use Rattle.sl_model.specs.Memory.Containers.{Memory}
+use Rattle.sl_model.specs.Runs.State.{State, Pointer}
+use Rattle.sl_model.specs.Typing.WellTypedTypes.{ExprType, element_type, iterator_type, container_type, Scope, has_type, only}
+use Rattle.sl_model.specs.Typing.WellTypedTypes.{is_iterator}
+use Rattle.sl_model.specs.Typing.WellTypedCalls.{call_type}
+use Rattle.sl_model.specs.Typing.WellTypedExpressions.{only_element, is_arrow, is_variable, type_of, type_of_left, types_of}
+use Rattle.sl_model.specs.Typing.WellTypedStatements.{is_typed_declaration, reference_to, behind, is_typed_first, behind_first}
 use Rattle.sl_model.proofs.Getting.{get_left, get_within}
 use Rattle.sl_model.proofs.Levels.{Level}
 use Rattle.sl_model.proofs.GoodEffects.{level_declared, level_begun}

@@ -18,22 +18,22 @@ use Rattle.sl_syntax.specs.declared.typed.parameter.ParameterKind.{ParameterKind
 use Rattle.sl_syntax.specs.Typed.{Expr, Left, Cond, read, not_read, test, always, Printed, text, endline, number as printed_number, Effect, reads}
 use Rattle.sl_syntax.specs.Typed.{prints, evaluates, assigns, updates, moves_to, Declaration, unset_scalar, set_scalar, set_iterator, binds_reference}
 use Rattle.sl_syntax.specs.Typed.{makes, element, First, no_first, declares_first, does_first}
-use Rattle.sl_model.specs.Containers.{Memory}
-use Rattle.sl_model.specs.Values.{Value, element_at, LibOut, trapped, thrown, faulted, gives, unbuilt}
-use Rattle.sl_model.specs.State.{Pointer, iterator_at, reference_to, State, cont_of, iter_of, set_iterator_at, new_scalar, new_iterator}
-use Rattle.sl_model.specs.State.{new_container}
-use Rattle.sl_model.specs.Eval.{Outs, AllGive, OneStops, World, eval, reach, eval_all, then_number, then_call, read_at, write_at, answered}
-use Rattle.sl_model.specs.Eval.{settle_call, site_of, use_library, name_place}
-use Rattle.sl_model.specs.Exec.{Next, Meaning, flow_of, on_number, on_stamp, tested, printed, print_all, wrote, is_name, affect, bound_to, binds_to}
-use Rattle.sl_model.specs.Exec.{declared, begun, ended}
-use Rattle.sl_model.specs.Shapes.{Shape, a_number, an_element, Gift, a_value, Signature, gift_of, gifts_of}
-use Rattle.sl_model.specs.Scoped.{InExpr, InLeft, InCond, InPrinted, InPrint, InEffect, InDeclaration, InFirst, InLast}
-use Rattle.sl_model.specs.WellTypedTypes.{ExprType, empty_type, iterator_type, Scope, variable_type, has_type, is_scalar, is_number, is_written}
-use Rattle.sl_model.specs.WellTypedTypes.{works_in}
-use Rattle.sl_model.specs.WellTypedTypes.{is_iterator, same_iterators, same_answer}
-use Rattle.sl_model.specs.WellTypedExpressions.{type_of, type_of_left, types_of}
-use Rattle.sl_model.specs.WellTypedStatements.{may_stand_alone, assigns_others, is_written_left, takes, is_typed_cond, is_typed_item, is_typed_effect}
-use Rattle.sl_model.specs.WellTypedStatements.{is_typed_last, is_making, is_typed_declaration, is_typed_first}
+use Rattle.sl_model.specs.Memory.Containers.{Memory}
+use Rattle.sl_model.specs.LibraryCalls.Values.{Value, element_at, LibOut, trapped, thrown, faulted, gives, unbuilt}
+use Rattle.sl_model.specs.Runs.State.{Pointer, iterator_at, reference_to, State, cont_of, iter_of, set_iterator_at, new_scalar, new_iterator}
+use Rattle.sl_model.specs.Runs.State.{new_container}
+use Rattle.sl_model.specs.Runs.Eval.{Outs, AllGive, OneStops, World, eval, reach, eval_all, then_number, then_call, read_at, write_at, answered}
+use Rattle.sl_model.specs.Runs.Eval.{settle_call, site_of, use_library, name_place}
+use Rattle.sl_model.specs.Runs.Exec.{Next, Meaning, flow_of, on_number, on_stamp, tested, printed, print_all, wrote, is_name, affect, bound_to, binds_to}
+use Rattle.sl_model.specs.Runs.Exec.{declared, begun, ended}
+use Rattle.sl_model.specs.Typing.Shapes.{Shape, a_number, an_element, Gift, a_value, Signature, gift_of, gifts_of}
+use Rattle.sl_model.specs.Typing.Scoped.{InExpr, InLeft, InCond, InPrinted, InPrint, InEffect, InDeclaration, InFirst, InLast}
+use Rattle.sl_model.specs.Typing.WellTypedTypes.{ExprType, empty_type, iterator_type, Scope, variable_type, has_type, is_scalar, is_number, is_written}
+use Rattle.sl_model.specs.Typing.WellTypedTypes.{works_in}
+use Rattle.sl_model.specs.Typing.WellTypedTypes.{is_iterator, same_iterators, same_answer}
+use Rattle.sl_model.specs.Typing.WellTypedExpressions.{type_of, type_of_left, types_of}
+use Rattle.sl_model.specs.Typing.WellTypedStatements.{may_stand_alone, assigns_others, is_written_left, takes, is_typed_cond, is_typed_item, is_typed_effect}
+use Rattle.sl_model.specs.Typing.WellTypedStatements.{is_typed_last, is_making, is_typed_declaration, is_typed_first}
 use Rattle.sl_model.proofs.Passing.{first_of_both, second_of_both}
 use Rattle.sl_model.proofs.Called.{one_form}
 use Rattle.sl_model.proofs.TypedOperands.{typed_by}

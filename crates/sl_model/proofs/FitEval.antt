@@ -17,20 +17,20 @@ use Rattle.sl_syntax.specs.declared.typed.step.Step.{Step}
 use Rattle.sl_syntax.specs.Typed.{Expr, literal, held, iterator as iterator_held, convert, negate, logical_not, logical_and, logical_or, arithmetic}
 use Rattle.sl_syntax.specs.Typed.{comparison, increment, move, call, own_call, first, second, container, handed_scalar, Left, scalar, reference}
 use Rattle.sl_syntax.specs.Typed.{element, Operands, none, with, Function}
-use Rattle.sl_model.specs.Containers.{Memory, Part, locate_refer}
-use Rattle.sl_model.specs.Values.{Value, number, iterator, container_at, element_at}
-use Rattle.sl_model.specs.State.{Pointer, iterator_at, reference_to, Frame, State, scalar_of, cont_of, iter_of, pointer_at, stamp_of, stamp_held}
-use Rattle.sl_model.specs.Eval.{by_one, Out, Gives, World, then_eval, then_number, then_call, branch, answered, read_at, write_at, use_library}
-use Rattle.sl_model.specs.Eval.{increased}
-use Rattle.sl_model.specs.Eval.{moved_to, chosen, part_used, found_use, used, eval, reach, eval_all, name_place, call_own, site_of}
-use Rattle.sl_model.specs.Good.{AreApart}
-use Rattle.sl_model.specs.Shapes.{a_number, Gift, a_value, Signature, gift_of, gifts_of, AllSuit, containers_in}
-use Rattle.sl_model.specs.Scoped.{InExpr, InLeft, InOperands, HasObject}
-use Rattle.sl_model.specs.WellTypedTypes.{ExprType, scalar_type, element_type, iterator_type, int_reference, entry_reference, Scope}
-use Rattle.sl_model.specs.WellTypedTypes.{variable_type, has_type, only, is_scalar, is_number, is_written, is_arithmetic, are_comparable, is_iterator}
-use Rattle.sl_model.specs.WellTypedCalls.{call_type, is_moving}
-use Rattle.sl_model.specs.WellTypedExpressions.{is_literal, only_value, only_element, type_of_use, go_to, type_given, function_type, is_arrow}
-use Rattle.sl_model.specs.WellTypedExpressions.{is_variable, type_of, type_of_left, types_of}
+use Rattle.sl_model.specs.Memory.Containers.{Memory, Part, locate_refer}
+use Rattle.sl_model.specs.LibraryCalls.Values.{Value, number, iterator, container_at, element_at}
+use Rattle.sl_model.specs.Runs.State.{Pointer, iterator_at, reference_to, Frame, State, scalar_of, cont_of, iter_of, pointer_at, stamp_of, stamp_held}
+use Rattle.sl_model.specs.Runs.Eval.{by_one, Out, Gives, World, then_eval, then_number, then_call, branch, answered, read_at, write_at, use_library}
+use Rattle.sl_model.specs.Runs.Eval.{increased}
+use Rattle.sl_model.specs.Runs.Eval.{moved_to, chosen, part_used, found_use, used, eval, reach, eval_all, name_place, call_own, site_of}
+use Rattle.sl_model.specs.Runs.Good.{AreApart}
+use Rattle.sl_model.specs.Typing.Shapes.{a_number, Gift, a_value, Signature, gift_of, gifts_of, AllSuit, containers_in}
+use Rattle.sl_model.specs.Typing.Scoped.{InExpr, InLeft, InOperands, HasObject}
+use Rattle.sl_model.specs.Typing.WellTypedTypes.{ExprType, scalar_type, element_type, iterator_type, int_reference, entry_reference, Scope}
+use Rattle.sl_model.specs.Typing.WellTypedTypes.{variable_type, has_type, only, is_scalar, is_number, is_written, is_arithmetic, are_comparable, is_iterator}
+use Rattle.sl_model.specs.Typing.WellTypedCalls.{call_type, is_moving}
+use Rattle.sl_model.specs.Typing.WellTypedExpressions.{is_literal, only_value, only_element, type_of_use, go_to, type_given, function_type, is_arrow}
+use Rattle.sl_model.specs.Typing.WellTypedExpressions.{is_variable, type_of, type_of_left, types_of}
 use Rattle.sl_model.proofs.Passing.{first_of_both, second_of_both}
 use Rattle.sl_model.proofs.TypedOperands.{typed_by, only_holds, only_rest, all_typed}
 use Rattle.sl_model.proofs.TypedCalls.{call_known}

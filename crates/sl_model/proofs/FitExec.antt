@@ -11,19 +11,19 @@ use Rattle.sl_syntax.specs.declared.typed.parameter.ParameterKind.{ParameterKind
 use Rattle.sl_syntax.specs.declared.typed.parameter.ParameterKind.TheVariants as parameters
 use Rattle.sl_syntax.specs.Typed.{Expr, Stmt, block, declares, choice, choice_else, while, for, range_for, break, continue, gives_back, does, Stmts}
 use Rattle.sl_syntax.specs.Typed.{no_more, followed}
-use Rattle.sl_model.specs.Containers.{Memory}
-use Rattle.sl_model.specs.Values.{Value, nothing}
-use Rattle.sl_model.specs.State.{Frame, State, cont_of, new_scalar}
-use Rattle.sl_model.specs.Eval.{World, eval}
-use Rattle.sl_model.specs.Exec.{Next, Broke, Continued, Returned, and_then, flow_of, either_way, scoped, tested, affect, declared}
-use Rattle.sl_model.specs.Exec.{begun, ended, loop, takes_number, takes_element, over_range, range_start, exec, exec_all}
-use Rattle.sl_model.specs.Shapes.{Shape, Signature}
-use Rattle.sl_model.specs.Scoped.{Counts, InCond, InLast, IsPart, InStmt, InStmts, AsksWell}
-use Rattle.sl_model.specs.WellTypedTypes.{ExprType, scalar_type, element_type, iterator_type, container_type, Scope, is_within, variable_type}
-use Rattle.sl_model.specs.WellTypedTypes.{has_type, is_scalar, goes_into}
-use Rattle.sl_model.specs.WellTypedExpressions.{goes_to, type_given, type_of}
-use Rattle.sl_model.specs.WellTypedStatements.{is_typed_cond, is_typed_last, is_typed_declaration, behind, is_typed_first, behind_first}
-use Rattle.sl_model.specs.WellTypedStatements.{may_go_over, in_range, is_typed_return, is_typed_stmt, are_typed_stmts}
+use Rattle.sl_model.specs.Memory.Containers.{Memory}
+use Rattle.sl_model.specs.LibraryCalls.Values.{Value, nothing}
+use Rattle.sl_model.specs.Runs.State.{Frame, State, cont_of, new_scalar}
+use Rattle.sl_model.specs.Runs.Eval.{World, eval}
+use Rattle.sl_model.specs.Runs.Exec.{Next, Broke, Continued, Returned, and_then, flow_of, either_way, scoped, tested, affect, declared}
+use Rattle.sl_model.specs.Runs.Exec.{begun, ended, loop, takes_number, takes_element, over_range, range_start, exec, exec_all}
+use Rattle.sl_model.specs.Typing.Shapes.{Shape, Signature}
+use Rattle.sl_model.specs.Typing.Scoped.{Counts, InCond, InLast, IsPart, InStmt, InStmts, AsksWell}
+use Rattle.sl_model.specs.Typing.WellTypedTypes.{ExprType, scalar_type, element_type, iterator_type, container_type, Scope, is_within, variable_type}
+use Rattle.sl_model.specs.Typing.WellTypedTypes.{has_type, is_scalar, goes_into}
+use Rattle.sl_model.specs.Typing.WellTypedExpressions.{goes_to, type_given, type_of}
+use Rattle.sl_model.specs.Typing.WellTypedStatements.{is_typed_cond, is_typed_last, is_typed_declaration, behind, is_typed_first, behind_first}
+use Rattle.sl_model.specs.Typing.WellTypedStatements.{may_go_over, in_range, is_typed_return, is_typed_stmt, are_typed_stmts}
 use Rattle.sl_model.proofs.Passing.{first_of_both, second_of_both, three_parts, five_parts}
 use Rattle.sl_model.proofs.Called.{one_form}
 use Rattle.sl_model.proofs.TypedOperands.{typed_by}

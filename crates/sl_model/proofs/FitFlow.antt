@@ -4,15 +4,15 @@ use Rattle.std.specs.Prelude.{ℤ, pos}
 use Rattle.sl_base.specs.declared.form.Form.{Form}
 use Rattle.sl_syntax.specs.declared.typed.parameter.ParameterKind.{ParameterKind}
 use Rattle.sl_syntax.specs.declared.typed.parameter.ParameterKind.TheVariants as parameters
-use Rattle.sl_model.specs.Containers.{Memory, end_from}
-use Rattle.sl_model.specs.Values.{Value, number, iterator}
-use Rattle.sl_model.specs.Ends.{OutOfSteps}
-use Rattle.sl_model.specs.State.{State, scalar_of, set_scalar_at}
-use Rattle.sl_model.specs.Eval.{Out, Gives, Stops}
-use Rattle.sl_model.specs.Exec.{Flow, Next, Broke, Continued, Returned, Over, Meaning, tick, and_then, flow_of, on_number, on_stamp, either_way}
-use Rattle.sl_model.specs.Exec.{scoped, read_all, after_body, counted, turns}
-use Rattle.sl_model.specs.Shapes.{Shape, Gift}
-use Rattle.sl_model.specs.WellTypedExpressions.{type_given}
+use Rattle.sl_model.specs.Memory.Containers.{Memory, end_from}
+use Rattle.sl_model.specs.LibraryCalls.Values.{Value, number, iterator}
+use Rattle.sl_model.specs.Runs.Ends.{OutOfSteps}
+use Rattle.sl_model.specs.Runs.State.{State, scalar_of, set_scalar_at}
+use Rattle.sl_model.specs.Runs.Eval.{Out, Gives, Stops}
+use Rattle.sl_model.specs.Runs.Exec.{Flow, Next, Broke, Continued, Returned, Over, Meaning, tick, and_then, flow_of, on_number, on_stamp, either_way}
+use Rattle.sl_model.specs.Runs.Exec.{scoped, read_all, after_body, counted, turns}
+use Rattle.sl_model.specs.Typing.Shapes.{Shape, Gift}
+use Rattle.sl_model.specs.Typing.WellTypedExpressions.{type_given}
 use Rattle.sl_model.proofs.Fitting.{StampFits, IsIteratorOf, Fits}
 use Rattle.sl_model.proofs.FormsAfter.{ended-fits}
 use Rattle.sl_model.proofs.Levels.{Level, Now, apart_from_stacks, set_scalar-now}

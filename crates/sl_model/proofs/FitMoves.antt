@@ -11,12 +11,12 @@ use Rattle.sl_syntax.specs.declared.typed.callee.Callee.{Callee}
 use Rattle.sl_syntax.specs.declared.typed.callee.Callee.TheVariants as callees
 use Rattle.sl_syntax.specs.declared.typed.operator.Operator.{Operator}
 use Rattle.sl_syntax.specs.declared.typed.operator.Operator.TheVariants as operators
-use Rattle.sl_model.specs.WellTypedExpressions.{only_element}
+use Rattle.sl_model.specs.Typing.WellTypedExpressions.{only_element}
 use Rattle.sl_model.proofs.TypedOperands.{typed_by}
-use Rattle.sl_model.specs.WellTypedTypes.{ExprType, no_type, empty_type, iterator_type, container_type, Scope, has_type, only, variable_type}
-use Rattle.sl_model.specs.WellTypedTypes.{is_const}
-use Rattle.sl_model.specs.WellTypedCalls.{call_type, row_type, member_type, result_type, operator_type, row_at, is_advance, is_moving}
-use Rattle.sl_model.specs.WellTypedCalls.{is_moving_operator, is_moving_row}
+use Rattle.sl_model.specs.Typing.WellTypedTypes.{ExprType, no_type, empty_type, iterator_type, container_type, Scope, has_type, only, variable_type}
+use Rattle.sl_model.specs.Typing.WellTypedTypes.{is_const}
+use Rattle.sl_model.specs.Typing.WellTypedCalls.{call_type, row_type, member_type, result_type, operator_type, row_at, is_advance, is_moving}
+use Rattle.sl_model.specs.Typing.WellTypedCalls.{is_moving_operator, is_moving_row}
 use Rattle.sl_model.proofs.Passing.{passes_at}
 
 -- a type is the one, or that of nothing

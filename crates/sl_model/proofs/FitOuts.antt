@@ -7,16 +7,16 @@ use Rattle.sl_model.specs.Numbers.{Answer, value, fault}
 use Rattle.sl_syntax.specs.declared.typed.head.Head.{Head}
 use Rattle.sl_syntax.specs.declared.typed.step.Fix.{Fix}
 use Rattle.sl_syntax.specs.declared.typed.step.Fix.TheVariants.{Prefix, Postfix}
-use Rattle.sl_model.specs.Containers.{Memory}
-use Rattle.sl_model.specs.Values.{Value, number, iterator, pair, two, scalar_at, container_at, element_at, LibOut, trapped, thrown}
-use Rattle.sl_model.specs.Values.{faulted, gives, unbuilt}
-use Rattle.sl_model.specs.State.{State, scalar_value}
-use Rattle.sl_model.specs.Eval.{Out, Gives, Stops, Outs, AllGive, OneStops, then_eval, with_number, then_number, add_value, then_rest, then_call}
-use Rattle.sl_model.specs.Eval.{branch, answered, if_set, read_at, settle_call, moved_to, chosen, first_of, second_of}
-use Rattle.sl_model.specs.Shapes.{Gift}
-use Rattle.sl_model.specs.WellTypedTypes.{ExprType, scalar_type, element_type, iterator_and_bool, two_iterators, container_type}
-use Rattle.sl_model.specs.WellTypedTypes.{has_type, only}
-use Rattle.sl_model.specs.WellTypedExpressions.{only_value, handed, type_of_first, type_of_second}
+use Rattle.sl_model.specs.Memory.Containers.{Memory}
+use Rattle.sl_model.specs.LibraryCalls.Values.{Value, number, iterator, pair, two, scalar_at, container_at, element_at, LibOut, trapped, thrown}
+use Rattle.sl_model.specs.LibraryCalls.Values.{faulted, gives, unbuilt}
+use Rattle.sl_model.specs.Runs.State.{State, scalar_value}
+use Rattle.sl_model.specs.Runs.Eval.{Out, Gives, Stops, Outs, AllGive, OneStops, then_eval, with_number, then_number, add_value, then_rest, then_call}
+use Rattle.sl_model.specs.Runs.Eval.{branch, answered, if_set, read_at, settle_call, moved_to, chosen, first_of, second_of}
+use Rattle.sl_model.specs.Typing.Shapes.{Gift}
+use Rattle.sl_model.specs.Typing.WellTypedTypes.{ExprType, scalar_type, element_type, iterator_and_bool, two_iterators, container_type}
+use Rattle.sl_model.specs.Typing.WellTypedTypes.{has_type, only}
+use Rattle.sl_model.specs.Typing.WellTypedExpressions.{only_value, handed, type_of_first, type_of_second}
 use Rattle.sl_model.proofs.Fitting.{forms_of, StampFits, IsNumber, IsIteratorOf, IsPairOf, AreTwoOf, Fits, AllFit, IsGiven, IsMeant}
 use Rattle.sl_model.proofs.Levels.{Level, Now}
 use Rattle.sl_model.proofs.Gifts.{Gave, OutAt, AllGave, OutsAt}

@@ -15,20 +15,20 @@ use Rattle.sl_syntax.specs.declared.typed.element.Taken.TheVariants as taken
 use Rattle.sl_syntax.specs.declared.typed.operator.Operator.TheVariants as operators
 use Rattle.sl_syntax.specs.declared.typed.parameter.ParameterKind.{ParameterKind}
 use Rattle.sl_syntax.specs.Written.{is_map}
-use Rattle.sl_model.specs.Forms.{is_keyed}
+use Rattle.sl_model.specs.Memory.Forms.{is_keyed}
 use Rattle.sl_model.specs.Numbers.{is_zero}
-use Rattle.sl_model.specs.Containers.{Cont, Memory, size, stamps, begin_of, end_of}
-use Rattle.sl_model.specs.Values.{Value}
-use Rattle.sl_model.specs.State.{State, iterator_at, set_scalar_at, set_iterator_at}
-use Rattle.sl_model.specs.Eval.{World, read_at, use_library}
-use Rattle.sl_model.specs.Exec.{Next, Meaning, and_then, flow_of, on_number, on_stamp, binds_to, asks, hidden_at, takes_number, takes_element}
-use Rattle.sl_model.specs.Exec.{over_range, range_start}
-use Rattle.sl_model.specs.Good.{IsSound}
-use Rattle.sl_model.specs.Shapes.{Shape, a_number, a_stamp, an_element, a_value, Signature}
-use Rattle.sl_model.specs.Scoped.{AsksWell}
-use Rattle.sl_model.specs.WellTypedTypes.{ExprType, scalar_type, element_type, iterator_type, container_type, int_reference, entry_reference, Scope}
-use Rattle.sl_model.specs.WellTypedTypes.{is_const}
-use Rattle.sl_model.specs.WellTypedStatements.{in_range}
+use Rattle.sl_model.specs.Memory.Containers.{Cont, Memory, size, stamps, begin_of, end_of}
+use Rattle.sl_model.specs.LibraryCalls.Values.{Value}
+use Rattle.sl_model.specs.Runs.State.{State, iterator_at, set_scalar_at, set_iterator_at}
+use Rattle.sl_model.specs.Runs.Eval.{World, read_at, use_library}
+use Rattle.sl_model.specs.Runs.Exec.{Next, Meaning, and_then, flow_of, on_number, on_stamp, binds_to, asks, hidden_at, takes_number, takes_element}
+use Rattle.sl_model.specs.Runs.Exec.{over_range, range_start}
+use Rattle.sl_model.specs.Runs.Good.{IsSound}
+use Rattle.sl_model.specs.Typing.Shapes.{Shape, a_number, a_stamp, an_element, a_value, Signature}
+use Rattle.sl_model.specs.Typing.Scoped.{AsksWell}
+use Rattle.sl_model.specs.Typing.WellTypedTypes.{ExprType, scalar_type, element_type, iterator_type, container_type, int_reference, entry_reference, Scope}
+use Rattle.sl_model.specs.Typing.WellTypedTypes.{is_const}
+use Rattle.sl_model.specs.Typing.WellTypedStatements.{in_range}
 use Rattle.sl_model.proofs.Getting.{get_map, got_map, get_left, get_within}
 use Rattle.sl_model.proofs.Columns.{stamp_of_end}
 use Rattle.sl_model.proofs.Placing.{place_stands}

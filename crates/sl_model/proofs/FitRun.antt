@@ -6,17 +6,17 @@ use Rattle.sl_base.specs.declared.place.Place.{Place}
 use Rattle.sl_base.specs.declared.scalar.Scalar.TheVariants as t
 use Rattle.sl_syntax.specs.declared.typed.parameter.ParameterKind.{ParameterKind}
 use Rattle.sl_syntax.specs.Typed.{Typed}
-use Rattle.sl_model.specs.Containers.{empty_memory}
-use Rattle.sl_model.specs.Values.{Value, number, Lib}
-use Rattle.sl_model.specs.Ends.{End, NoMeaning}
-use Rattle.sl_model.specs.Eval.{Out, Gives, Stops}
-use Rattle.sl_model.specs.Library.{lib}
-use Rattle.sl_model.specs.Run.{run, empty_state, first_place, done_with, finished, out_of, run_over}
-use Rattle.sl_model.specs.Shapes.{AllSuit, lib_shape, lib_makes}
-use Rattle.sl_model.specs.Scoped.{IsScoped}
-use Rattle.sl_model.specs.WellTypedTypes.{ExprType, is_scalar}
-use Rattle.sl_model.specs.WellTypedExpressions.{go_to, type_given}
-use Rattle.sl_model.specs.WellTyped.{WellTyped}
+use Rattle.sl_model.specs.Memory.Containers.{empty_memory}
+use Rattle.sl_model.specs.LibraryCalls.Values.{Value, number, Lib}
+use Rattle.sl_model.specs.Runs.Ends.{End, NoMeaning}
+use Rattle.sl_model.specs.Runs.Eval.{Out, Gives, Stops}
+use Rattle.sl_model.specs.LibraryCalls.Library.{lib}
+use Rattle.sl_model.specs.Runs.Run.{run, empty_state, first_place, done_with, finished, out_of, run_over}
+use Rattle.sl_model.specs.Typing.Shapes.{AllSuit, lib_shape, lib_makes}
+use Rattle.sl_model.specs.Typing.Scoped.{IsScoped}
+use Rattle.sl_model.specs.Typing.WellTypedTypes.{ExprType, is_scalar}
+use Rattle.sl_model.specs.Typing.WellTypedExpressions.{go_to, type_given}
+use Rattle.sl_model.specs.Typing.WellTyped.{WellTyped}
 use Rattle.sl_model.proofs.TypedOperands.{typed_by}
 use Rattle.sl_model.proofs.TypedStatements.{main_is_there}
 use Rattle.sl_model.proofs.Fitting.{FitsTypes}

@@ -8,14 +8,14 @@ use Rattle.sl_syntax.specs.declared.operator.Comparison.TheVariants as c
 use Rattle.sl_syntax.specs.declared.typed.callee.Callee.{Callee}
 use Rattle.sl_syntax.specs.declared.typed.callee.Callee.TheVariants as callees
 use Rattle.sl_syntax.specs.declared.typed.operator.Operator.TheVariants as operators
-use Rattle.sl_model.specs.Containers.{Cont, Memory, stamps, refers, cont_at}
-use Rattle.sl_model.specs.Values.{Value, number, iterator, pair, two, scalar_at, container_at, element_at, Args, LibOut, trapped, thrown}
-use Rattle.sl_model.specs.Values.{faulted, gives, unbuilt, Lib}
-use Rattle.sl_model.specs.Good.{IsSound}
-use Rattle.sl_model.specs.WellTypedTypes.{ExprType, empty_type, scalar_type, element_type, iterator_type, iterator_and_bool, two_iterators}
-use Rattle.sl_model.specs.WellTypedTypes.{container_type, handed_type, Scope, variable_type, has_type, is_iterator}
-use Rattle.sl_model.specs.WellTypedCalls.{call_type, is_moving}
-use Rattle.sl_model.specs.WellTypedStatements.{is_making}
+use Rattle.sl_model.specs.Memory.Containers.{Cont, Memory, stamps, refers, cont_at}
+use Rattle.sl_model.specs.LibraryCalls.Values.{Value, number, iterator, pair, two, scalar_at, container_at, element_at, Args, LibOut, trapped, thrown}
+use Rattle.sl_model.specs.LibraryCalls.Values.{faulted, gives, unbuilt, Lib}
+use Rattle.sl_model.specs.Runs.Good.{IsSound}
+use Rattle.sl_model.specs.Typing.WellTypedTypes.{ExprType, empty_type, scalar_type, element_type, iterator_type, iterator_and_bool, two_iterators}
+use Rattle.sl_model.specs.Typing.WellTypedTypes.{container_type, handed_type, Scope, variable_type, has_type, is_iterator}
+use Rattle.sl_model.specs.Typing.WellTypedCalls.{call_type, is_moving}
+use Rattle.sl_model.specs.Typing.WellTypedStatements.{is_making}
 use Rattle.sl_model.proofs.Gifts.{AllUsed}
 
 -- the forms of the containers, in their order

@@ -7,10 +7,10 @@ use Rattle.std.specs.Prelude.{slice_index_or}
 use Rattle.std.proofs.lemmas.Bool.{cases_lt}
 use Rattle.sl_base.specs.declared.form.Form.{Form}
 use Rattle.sl_base.specs.declared.form.Form.TheVariants as f
-use Rattle.sl_model.specs.Containers.{Cell, Cont, Memory, size, stamps, cont_at, made, Part, is_writable, cells_with, cont_with, write_element}
-use Rattle.sl_model.specs.Containers.{end_from}
-use Rattle.sl_model.specs.Edits.{Source, old, written, theirs, new, Change, mark_after, stayed, from_source, rebuilt, changed, next_of_two, after}
-use Rattle.sl_model.specs.Edits.{after_two}
+use Rattle.sl_model.specs.Memory.Containers.{Cell, Cont, Memory, size, stamps, cont_at, made, Part, is_writable, cells_with, cont_with, write_element}
+use Rattle.sl_model.specs.Memory.Containers.{end_from}
+use Rattle.sl_model.specs.Memory.Edits.{Source, old, written, theirs, new, Change, mark_after, stayed, from_source, rebuilt, changed, next_of_two, after}
+use Rattle.sl_model.specs.Memory.Edits.{after_two}
 use Rattle.sl_model.proofs.After.{cont_of_there, cont_of_none}
 use Rattle.sl_model.proofs.Ending.{map_take}
 use Rattle.sl_model.proofs.Fitting.{forms_of, StampFits, KeepsForms}

@@ -3,13 +3,13 @@ use Rattle.std.proofs.Common.{◌≡◌, ℕ, List, [], ◌∷◌, Option, Some,
 use Rattle.std.specs.Prelude.{ℤ}
 use Rattle.sl_base.specs.declared.form.Form.{Form}
 use Rattle.sl_specs.specs.declared.class.Class.{Class}
-use Rattle.sl_model.specs.Containers.{Cont, cont_at, size, made}
-use Rattle.sl_model.specs.Edits.{Change, change_of, after}
-use Rattle.sl_model.specs.Schedule.{after_picks}
-use Rattle.sl_model.specs.Situation.{Situation, own, item}
-use Rattle.sl_model.specs.Actions.{Effect, keeps, edits, changes, trades, inserts, appends, makes, makes_by_keys}
-use Rattle.sl_model.specs.Effects.{Left, insertion_class, insertion, append, append_all, known_key, key_change, key_picks, insert_key, insert_all}
-use Rattle.sl_model.specs.Effects.{does}
+use Rattle.sl_model.specs.Memory.Containers.{Cont, cont_at, size, made}
+use Rattle.sl_model.specs.Memory.Edits.{Change, change_of, after}
+use Rattle.sl_model.specs.Memory.Schedule.{after_picks}
+use Rattle.sl_model.specs.LibraryCalls.Situation.{Situation, own, item}
+use Rattle.sl_model.specs.LibraryCalls.Actions.{Effect, keeps, edits, changes, trades, inserts, appends, makes, makes_by_keys}
+use Rattle.sl_model.specs.LibraryCalls.Effects.{Left, insertion_class, insertion, append, append_all, known_key, key_change, key_picks, insert_key, insert_all}
+use Rattle.sl_model.specs.LibraryCalls.Effects.{does}
 use Rattle.sl_model.proofs.Fitting.{KeepsForms}
 use Rattle.sl_model.proofs.FormsAfter.{forms-same, forms-then, change-forms, trade-forms, made-forms}
 use Rattle.sl_model.proofs.Growing.{makes_one, after-grows, insert_key-grows}

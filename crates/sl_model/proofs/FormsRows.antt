@@ -14,20 +14,20 @@ use Rattle.sl_specs.specs.AlgorithmRows.{algorithm_rows}
 use Rattle.sl_specs.specs.Table.{table}
 use Rattle.sl_syntax.specs.declared.typed.callee.Callee.{Callee}
 use Rattle.sl_syntax.specs.declared.typed.operator.Operator.{Operator}
-use Rattle.sl_model.specs.Containers.{size}
-use Rattle.sl_model.specs.Forms.{is_hash}
-use Rattle.sl_model.specs.Values.{Value, nothing, number, iterator, pair, two, scalar_at, container_at, element_at}
-use Rattle.sl_model.specs.Operands.{an_iterator, is_of_form, written_keys}
-use Rattle.sl_model.specs.Schedule.{pick}
-use Rattle.sl_model.specs.Situation.{Situation, own, own_size, their, their_size, container_of, index, range_size, range_keys, int_of, count_of, item}
-use Rattle.sl_model.specs.Situation.{as_items, listed}
-use Rattle.sl_model.specs.Rearrangements.{arranged, exchanged, received, given, moved_order}
-use Rattle.sl_model.specs.Actions.{keeps, edits, changes, trades}
-use Rattle.sl_model.specs.AccessActions.{untouched, rehashed, reserved, swap}
-use Rattle.sl_model.specs.ListActions.{merged, merge, splices}
-use Rattle.sl_model.specs.MakeActions.{filled}
-use Rattle.sl_model.specs.WritingAlgorithms.{output, outputs}
-use Rattle.sl_model.specs.Rows.{of_form, Row, member_row, algorithm_row, meaning_of, row_of_operator, row_of}
+use Rattle.sl_model.specs.Memory.Containers.{size}
+use Rattle.sl_model.specs.Memory.Forms.{is_hash}
+use Rattle.sl_model.specs.LibraryCalls.Values.{Value, nothing, number, iterator, pair, two, scalar_at, container_at, element_at}
+use Rattle.sl_model.specs.LibraryCalls.Operands.{an_iterator, is_of_form, written_keys}
+use Rattle.sl_model.specs.Memory.Schedule.{pick}
+use Rattle.sl_model.specs.LibraryCalls.Situation.{Situation, own, own_size, their, their_size, container_of, index, range_size, range_keys, int_of, count_of, item}
+use Rattle.sl_model.specs.LibraryCalls.Situation.{as_items, listed}
+use Rattle.sl_model.specs.Memory.Rearrangements.{arranged, exchanged, received, given, moved_order}
+use Rattle.sl_model.specs.LibraryCalls.Actions.{keeps, edits, changes, trades}
+use Rattle.sl_model.specs.LibraryCalls.AccessActions.{untouched, rehashed, reserved, swap}
+use Rattle.sl_model.specs.LibraryCalls.ListActions.{merged, merge, splices}
+use Rattle.sl_model.specs.LibraryCalls.MakeActions.{filled}
+use Rattle.sl_model.specs.LibraryCalls.WritingAlgorithms.{output, outputs}
+use Rattle.sl_model.specs.LibraryCalls.Rows.{of_form, Row, member_row, algorithm_row, meaning_of, row_of_operator, row_of}
 use Rattle.sl_model.proofs.Called.{HasObject, IsCalled, own_form}
 use Rattle.sl_model.proofs.FormsEffects.{TradesOneForm}
 use Rattle.sl_model.proofs.TableRows.{all_table, row-holds}

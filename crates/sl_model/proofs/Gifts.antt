@@ -10,19 +10,19 @@ use Rattle.sl_syntax.specs.declared.typed.head.Head.{Head}
 use Rattle.sl_syntax.specs.declared.typed.step.Fix.{Fix}
 use Rattle.sl_syntax.specs.declared.typed.step.Fix.TheVariants.{Prefix, Postfix}
 use Rattle.sl_syntax.specs.Typed.{Left, scalar, reference, element, Function}
-use Rattle.sl_model.specs.Containers.{Memory}
-use Rattle.sl_model.specs.Values.{Value, nothing, number, iterator, pair, two, scalar_at, container_at, element_at, Args, LibOut, trapped}
-use Rattle.sl_model.specs.Values.{thrown, faulted}
-use Rattle.sl_model.specs.Values.{gives, unbuilt, Lib}
-use Rattle.sl_model.specs.State.{State, Frame, iter_of, stamp_of, set_iterator_at, scalar_value}
-use Rattle.sl_model.specs.Eval.{Out, Gives, Stops, Outs, AllGive, OneStops, World, call_own, then_eval, with_number, then_number, add_value, then_rest}
-use Rattle.sl_model.specs.Eval.{then_call, branch, answered, if_set, read_at, settle_call, site_of, use_library, moved_to, chosen, first_of}
-use Rattle.sl_model.specs.Eval.{second_of}
-use Rattle.sl_model.specs.Good.{IsSound, AreApart}
-use Rattle.sl_model.specs.Shapes.{Shape, no_value, a_number, a_stamp, a_pair, two_stamps, an_element, Gift, a_value, the_scalar, the_container}
-use Rattle.sl_model.specs.Shapes.{Signature}
-use Rattle.sl_model.specs.Shapes.{HasShape, IsGiven, HasParts, shape_of_second}
-use Rattle.sl_model.specs.Shapes.{shape_of_result, AllSuit, containers_in}
+use Rattle.sl_model.specs.Memory.Containers.{Memory}
+use Rattle.sl_model.specs.LibraryCalls.Values.{Value, nothing, number, iterator, pair, two, scalar_at, container_at, element_at, Args, LibOut, trapped}
+use Rattle.sl_model.specs.LibraryCalls.Values.{thrown, faulted}
+use Rattle.sl_model.specs.LibraryCalls.Values.{gives, unbuilt, Lib}
+use Rattle.sl_model.specs.Runs.State.{State, Frame, iter_of, stamp_of, set_iterator_at, scalar_value}
+use Rattle.sl_model.specs.Runs.Eval.{Out, Gives, Stops, Outs, AllGive, OneStops, World, call_own, then_eval, with_number, then_number, add_value, then_rest}
+use Rattle.sl_model.specs.Runs.Eval.{then_call, branch, answered, if_set, read_at, settle_call, site_of, use_library, moved_to, chosen, first_of}
+use Rattle.sl_model.specs.Runs.Eval.{second_of}
+use Rattle.sl_model.specs.Runs.Good.{IsSound, AreApart}
+use Rattle.sl_model.specs.Typing.Shapes.{Shape, no_value, a_number, a_stamp, a_pair, two_stamps, an_element, Gift, a_value, the_scalar, the_container}
+use Rattle.sl_model.specs.Typing.Shapes.{Signature}
+use Rattle.sl_model.specs.Typing.Shapes.{HasShape, IsGiven, HasParts, shape_of_second}
+use Rattle.sl_model.specs.Typing.Shapes.{shape_of_result, AllSuit, containers_in}
 use Rattle.sl_model.proofs.After.{Leaves}
 use Rattle.sl_model.proofs.Growing.{grown}
 use Rattle.sl_model.proofs.Levels.{Level, Now, held_used, apart_from_stacks, memory-now, set_iterator-now, Above, now_above, above_less}

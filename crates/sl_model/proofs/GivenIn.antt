@@ -9,13 +9,13 @@ use Rattle.sl_base.specs.declared.form.Form.{Form}
 use Rattle.sl_base.specs.declared.form.Form.TheVariants as f
 use Rattle.sl_specs.specs.declared.return_type.ReturnType.{ReturnType}
 use Rattle.sl_specs.specs.declared.return_type.ReturnType.TheVariants as returns
-use Rattle.sl_model.specs.Containers.{Cell, Cont, Memory, size, stamps, refers, cont_at, stamp_at}
-use Rattle.sl_model.specs.Values.{iterator}
-use Rattle.sl_model.specs.Situation.{Situation, own, argument, index_in, place_in, place_of, index, container_of}
-use Rattle.sl_model.specs.Needs.{first_failure}
-use Rattle.sl_model.specs.Actions.{Answer, nothing, gives_number, gives_place, gives_place_and, gives_places, gives_element, never}
-use Rattle.sl_model.specs.Rows.{Object, of_form, new_one, of_first, Row}
-use Rattle.sl_model.specs.Good.{IsSound, IsAt}
+use Rattle.sl_model.specs.Memory.Containers.{Cell, Cont, Memory, size, stamps, refers, cont_at, stamp_at}
+use Rattle.sl_model.specs.LibraryCalls.Values.{iterator}
+use Rattle.sl_model.specs.LibraryCalls.Situation.{Situation, own, argument, index_in, place_in, place_of, index, container_of}
+use Rattle.sl_model.specs.LibraryCalls.Needs.{first_failure}
+use Rattle.sl_model.specs.LibraryCalls.Actions.{Answer, nothing, gives_number, gives_place, gives_place_and, gives_places, gives_element, never}
+use Rattle.sl_model.specs.LibraryCalls.Rows.{Object, of_form, new_one, of_first, Row}
+use Rattle.sl_model.specs.Runs.Good.{IsSound, IsAt}
 use Rattle.sl_model.proofs.Getting.{get_left, get_some, get_map, get_within}
 use Rattle.sl_model.proofs.Located.{same_pair, stamp-once, at-locate}
 use Rattle.sl_model.proofs.Called.{HasObject, IsCalled, own_there, own_form}

@@ -8,14 +8,14 @@ use Rattle.sl_base.specs.declared.form.Form.{Form}
 use Rattle.sl_syntax.specs.declared.operator.Access.{Access}
 use Rattle.sl_syntax.specs.declared.typed.parameter.ParameterKind.{ParameterKind}
 use Rattle.sl_syntax.specs.declared.typed.parameter.ParameterKind.TheVariants as parameter
-use Rattle.sl_model.specs.Values.{Value, nothing, number, iterator, pair, two, scalar_at, container_at, element_at}
-use Rattle.sl_model.specs.State.{Frame, State, new_scalar, new_iterator, new_container}
-use Rattle.sl_model.specs.Binding.{no_frame, bind_one, bind_all, bound}
-use Rattle.sl_model.specs.Good.{AreBelow, AreApart}
-use Rattle.sl_model.specs.Shapes.{no_value, a_number, a_stamp, a_pair, two_stamps, an_element, Gift, a_value, the_scalar, the_container, IsGiven}
-use Rattle.sl_model.specs.Shapes.{Suits, AllSuit}
-use Rattle.sl_model.specs.Shapes.{container_in, containers_in}
-use Rattle.sl_model.specs.Scoped.{Counts, no_counts, one_scalar, one_container, one_iterator, with_parameter, with_parameters}
+use Rattle.sl_model.specs.LibraryCalls.Values.{Value, nothing, number, iterator, pair, two, scalar_at, container_at, element_at}
+use Rattle.sl_model.specs.Runs.State.{Frame, State, new_scalar, new_iterator, new_container}
+use Rattle.sl_model.specs.Runs.Binding.{no_frame, bind_one, bind_all, bound}
+use Rattle.sl_model.specs.Runs.Good.{AreBelow, AreApart}
+use Rattle.sl_model.specs.Typing.Shapes.{no_value, a_number, a_stamp, a_pair, two_stamps, an_element, Gift, a_value, the_scalar, the_container, IsGiven}
+use Rattle.sl_model.specs.Typing.Shapes.{Suits, AllSuit}
+use Rattle.sl_model.specs.Typing.Shapes.{container_in, containers_in}
+use Rattle.sl_model.specs.Typing.Scoped.{Counts, no_counts, one_scalar, one_container, one_iterator, with_parameter, with_parameters}
 use Rattle.sl_model.proofs.Getting.{get_left, get_within, get_behind}
 use Rattle.sl_model.proofs.Locations.{in_one_more, below_none, below_one_more, apart_none, apart_left}
 use Rattle.sl_model.proofs.Levels.{Level, level_of, counts_of, Now, Above, now_above, with_scalar, with_iterator, new_scalar-now, new_iterator-now}

@@ -6,16 +6,16 @@ use Rattle.sl_base.specs.declared.place.Place.{Place}
 use Rattle.sl_syntax.specs.declared.typed.callee.Callee.{Callee}
 use Rattle.sl_syntax.specs.declared.typed.parameter.ParameterKind.{ParameterKind}
 use Rattle.sl_syntax.specs.Typed.{Function, Typed}
-use Rattle.sl_model.specs.Values.{nothing, number, Lib}
-use Rattle.sl_model.specs.Ends.{Language}
-use Rattle.sl_model.specs.State.{State}
-use Rattle.sl_model.specs.Binding.{bound}
-use Rattle.sl_model.specs.Eval.{Out, Gives, Stops, World, Oracle, come_back}
-use Rattle.sl_model.specs.Exec.{Flow, Next, Broke, Continued, Returned, Over, exec}
-use Rattle.sl_model.specs.Calls.{fell, body_gives, of_function, parameters_in, world_of, call_of}
-use Rattle.sl_model.specs.Shapes.{Shape, a_number, a_value, Signature, HasShape, shape_of_result}
-use Rattle.sl_model.specs.Shapes.{signature_of}
-use Rattle.sl_model.specs.Scoped.{Counts, no_counts, with_parameters, InStmt, IsScopedFunction, IsScoped}
+use Rattle.sl_model.specs.LibraryCalls.Values.{nothing, number, Lib}
+use Rattle.sl_model.specs.Runs.Ends.{Language}
+use Rattle.sl_model.specs.Runs.State.{State}
+use Rattle.sl_model.specs.Runs.Binding.{bound}
+use Rattle.sl_model.specs.Runs.Eval.{Out, Gives, Stops, World, Oracle, come_back}
+use Rattle.sl_model.specs.Runs.Exec.{Flow, Next, Broke, Continued, Returned, Over, exec}
+use Rattle.sl_model.specs.Runs.Calls.{fell, body_gives, of_function, parameters_in, world_of, call_of}
+use Rattle.sl_model.specs.Typing.Shapes.{Shape, a_number, a_value, Signature, HasShape, shape_of_result}
+use Rattle.sl_model.specs.Typing.Shapes.{signature_of}
+use Rattle.sl_model.specs.Typing.Scoped.{Counts, no_counts, with_parameters, InStmt, IsScopedFunction, IsScoped}
 use Rattle.sl_model.proofs.Levels.{Level, level_of, counts_of, Now, Above, now_above, leave-now}
 use Rattle.sl_model.proofs.Gifts.{IsUsed, KeepsGood, OwnKeepsGood, OutAt, now_again, out_less}
 use Rattle.sl_model.proofs.GoodFlow.{FlowIn, widened}

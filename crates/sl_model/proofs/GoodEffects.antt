@@ -14,18 +14,18 @@ use Rattle.sl_syntax.specs.declared.typed.head.Head.{Head}
 use Rattle.sl_syntax.specs.Typed.{Expr, Left, Cond, read, not_read, test, always, Printed, text, endline, number as printed_number, Effect, reads}
 use Rattle.sl_syntax.specs.Typed.{prints, evaluates, assigns, updates, moves_to, Declaration, unset_scalar, set_scalar, set_iterator, binds_reference}
 use Rattle.sl_syntax.specs.Typed.{makes, element, First, no_first, declares_first, does_first}
-use Rattle.sl_model.specs.Containers.{Cont, Memory, Part, cont_at, refers}
-use Rattle.sl_model.specs.Values.{Value, nothing, number, iterator, pair, two, scalar_at, container_at, element_at, LibOut, trapped, thrown}
-use Rattle.sl_model.specs.Values.{faulted, gives, unbuilt}
-use Rattle.sl_model.specs.State.{reference_to, State, iter_of, set_iterator_at, new_scalar, new_iterator, new_container}
-use Rattle.sl_model.specs.Eval.{Outs, AllGive, OneStops, World, eval, reach, eval_all, then_number, then_call, read_at, write_at, answered}
-use Rattle.sl_model.specs.Eval.{settle_call, site_of, use_library, name_place}
-use Rattle.sl_model.specs.Exec.{Next, Meaning, flow_of, on_number, on_stamp, tested, printed, print_all, wrote, is_name, affect, bound_to, binds_to}
-use Rattle.sl_model.specs.Exec.{declared, begun, ended}
-use Rattle.sl_model.specs.Good.{IsSound}
-use Rattle.sl_model.specs.Shapes.{Shape, a_number, a_stamp, an_element, Gift, a_value, Signature, gift_of, gifts_of}
-use Rattle.sl_model.specs.Scoped.{one_scalar, one_container, one_iterator, InExpr, InLeft, InCond, InPrinted, InPrint, InEffect, InDeclaration}
-use Rattle.sl_model.specs.Scoped.{with_declaration, InFirst, with_first, InLast}
+use Rattle.sl_model.specs.Memory.Containers.{Cont, Memory, Part, cont_at, refers}
+use Rattle.sl_model.specs.LibraryCalls.Values.{Value, nothing, number, iterator, pair, two, scalar_at, container_at, element_at, LibOut, trapped, thrown}
+use Rattle.sl_model.specs.LibraryCalls.Values.{faulted, gives, unbuilt}
+use Rattle.sl_model.specs.Runs.State.{reference_to, State, iter_of, set_iterator_at, new_scalar, new_iterator, new_container}
+use Rattle.sl_model.specs.Runs.Eval.{Outs, AllGive, OneStops, World, eval, reach, eval_all, then_number, then_call, read_at, write_at, answered}
+use Rattle.sl_model.specs.Runs.Eval.{settle_call, site_of, use_library, name_place}
+use Rattle.sl_model.specs.Runs.Exec.{Next, Meaning, flow_of, on_number, on_stamp, tested, printed, print_all, wrote, is_name, affect, bound_to, binds_to}
+use Rattle.sl_model.specs.Runs.Exec.{declared, begun, ended}
+use Rattle.sl_model.specs.Runs.Good.{IsSound}
+use Rattle.sl_model.specs.Typing.Shapes.{Shape, a_number, a_stamp, an_element, Gift, a_value, Signature, gift_of, gifts_of}
+use Rattle.sl_model.specs.Typing.Scoped.{one_scalar, one_container, one_iterator, InExpr, InLeft, InCond, InPrinted, InPrint, InEffect, InDeclaration}
+use Rattle.sl_model.specs.Typing.Scoped.{with_declaration, InFirst, with_first, InLast}
 use Rattle.sl_model.proofs.Getting.{get_map}
 use Rattle.sl_model.proofs.Growing.{grown}
 use Rattle.sl_model.proofs.Levels.{Level, counts_of, Now, Above, apart_from_stacks, set_iterator-now, write-now, with_scalar, with_iterator}

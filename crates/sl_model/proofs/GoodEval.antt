@@ -13,15 +13,15 @@ use Rattle.sl_syntax.specs.declared.typed.step.Step.{Step}
 use Rattle.sl_syntax.specs.Typed.{Expr, literal, held, iterator as iterator_held, convert, negate, logical_not, logical_and, logical_or, arithmetic}
 use Rattle.sl_syntax.specs.Typed.{comparison, increment, move, call, own_call, first, second, container, handed_scalar, Left, scalar, reference}
 use Rattle.sl_syntax.specs.Typed.{element, Operands, none, with, Function}
-use Rattle.sl_model.specs.Containers.{Part, locate_refer}
-use Rattle.sl_model.specs.Values.{Value, number, iterator}
-use Rattle.sl_model.specs.State.{Pointer, iterator_at, reference_to, State, scalar_of, cont_of, iter_of, pointer_at, stamp_of}
-use Rattle.sl_model.specs.Eval.{by_one, Out, Gives, World, then_eval, then_number, branch, answered, read_at, write_at, use_library, increased}
-use Rattle.sl_model.specs.Eval.{call_own, moved_to, chosen, part_used, found_use, used, eval, reach, eval_all, name_place}
-use Rattle.sl_model.specs.Good.{AreApart}
-use Rattle.sl_model.specs.Shapes.{Shape, no_value, a_number, a_stamp, an_element, Gift, a_value, Signature, shape_of_result, gift_of, shape_of_second}
-use Rattle.sl_model.specs.Shapes.{gifts_of, AllSuit, containers_in}
-use Rattle.sl_model.specs.Scoped.{InExpr, InLeft, InOperands}
+use Rattle.sl_model.specs.Memory.Containers.{Part, locate_refer}
+use Rattle.sl_model.specs.LibraryCalls.Values.{Value, number, iterator}
+use Rattle.sl_model.specs.Runs.State.{Pointer, iterator_at, reference_to, State, scalar_of, cont_of, iter_of, pointer_at, stamp_of}
+use Rattle.sl_model.specs.Runs.Eval.{by_one, Out, Gives, World, then_eval, then_number, branch, answered, read_at, write_at, use_library, increased}
+use Rattle.sl_model.specs.Runs.Eval.{call_own, moved_to, chosen, part_used, found_use, used, eval, reach, eval_all, name_place}
+use Rattle.sl_model.specs.Runs.Good.{AreApart}
+use Rattle.sl_model.specs.Typing.Shapes.{Shape, no_value, a_number, a_stamp, an_element, Gift, a_value, Signature, shape_of_result, gift_of, shape_of_second}
+use Rattle.sl_model.specs.Typing.Shapes.{gifts_of, AllSuit, containers_in}
+use Rattle.sl_model.specs.Typing.Scoped.{InExpr, InLeft, InOperands}
 use Rattle.sl_model.proofs.Levels.{Level, counts_of, Now, now_above, write-now}
 use Rattle.sl_model.proofs.Gifts.{AllUsed, KeepsGood, OwnKeepsGood, OutAt, AllGave, OutsAt, gift_of_left, stamp_used, now_again, at_then}
 use Rattle.sl_model.proofs.Gifts.{at_then_number, at_call, at_rest, gave_number, at_answer, at_branch, at_read, gave_chosen, at_moved, at_first}

@@ -5,13 +5,13 @@ use Rattle.sl_base.specs.declared.scalar.Scalar.TheVariants as t
 use Rattle.sl_syntax.specs.declared.typed.element.Taken.TheVariants as taken
 use Rattle.sl_syntax.specs.Typed.{Stmt, block, declares, choice, choice_else, while, for, range_for, break, continue, gives_back, does, Stmts}
 use Rattle.sl_syntax.specs.Typed.{no_more, followed}
-use Rattle.sl_model.specs.Values.{nothing}
-use Rattle.sl_model.specs.State.{State, cont_of, new_scalar}
-use Rattle.sl_model.specs.Eval.{World, eval}
-use Rattle.sl_model.specs.Exec.{Flow, Next, Broke, Continued, Returned, Meaning, and_then, flow_of, either_way, scoped, tested, affect, declared}
-use Rattle.sl_model.specs.Exec.{begun, ended, loop, takes_number, takes_element, over_range, range_start, exec, exec_all}
-use Rattle.sl_model.specs.Shapes.{Shape, a_value, Signature, HasShape, gift_of}
-use Rattle.sl_model.specs.Scoped.{Counts, InCond, InLast, IsPart, with_stmt, InStmt, InStmts}
+use Rattle.sl_model.specs.LibraryCalls.Values.{nothing}
+use Rattle.sl_model.specs.Runs.State.{State, cont_of, new_scalar}
+use Rattle.sl_model.specs.Runs.Eval.{World, eval}
+use Rattle.sl_model.specs.Runs.Exec.{Flow, Next, Broke, Continued, Returned, Meaning, and_then, flow_of, either_way, scoped, tested, affect, declared}
+use Rattle.sl_model.specs.Runs.Exec.{begun, ended, loop, takes_number, takes_element, over_range, range_start, exec, exec_all}
+use Rattle.sl_model.specs.Typing.Shapes.{Shape, a_value, Signature, HasShape, gift_of}
+use Rattle.sl_model.specs.Typing.Scoped.{Counts, InCond, InLast, IsPart, with_stmt, InStmt, InStmts}
 use Rattle.sl_model.proofs.Levels.{Level, counts_of, Now, Above, now_above}
 use Rattle.sl_model.proofs.Gifts.{KeepsGood, OwnKeepsGood, gave_as}
 use Rattle.sl_model.proofs.GoodEval.{at_eval}

@@ -1,13 +1,13 @@
 -- What statements are made of keeps a state good and at its level, where each part does.
 use Rattle.std.proofs.Common.{ℕ, zero, suc, ◌<◌, Bool, true, false, List, [], ◌∷◌}
 use Rattle.std.specs.Prelude.{ℤ, pos}
-use Rattle.sl_model.specs.Values.{Value, nothing, number, iterator, pair, two, scalar_at, container_at, element_at}
-use Rattle.sl_model.specs.Ends.{OutOfSteps}
-use Rattle.sl_model.specs.State.{State, scalar_of, set_scalar_at}
-use Rattle.sl_model.specs.Eval.{Out, Gives, Stops}
-use Rattle.sl_model.specs.Exec.{Flow, Next, Broke, Continued, Returned, Over, Meaning, tick, and_then, flow_of, on_number, on_stamp, either_way}
-use Rattle.sl_model.specs.Exec.{scoped, read_all, after_body, counted, turns}
-use Rattle.sl_model.specs.Shapes.{Shape, a_stamp, Gift, a_value, HasShape}
+use Rattle.sl_model.specs.LibraryCalls.Values.{Value, nothing, number, iterator, pair, two, scalar_at, container_at, element_at}
+use Rattle.sl_model.specs.Runs.Ends.{OutOfSteps}
+use Rattle.sl_model.specs.Runs.State.{State, scalar_of, set_scalar_at}
+use Rattle.sl_model.specs.Runs.Eval.{Out, Gives, Stops}
+use Rattle.sl_model.specs.Runs.Exec.{Flow, Next, Broke, Continued, Returned, Over, Meaning, tick, and_then, flow_of, on_number, on_stamp, either_way}
+use Rattle.sl_model.specs.Runs.Exec.{scoped, read_all, after_body, counted, turns}
+use Rattle.sl_model.specs.Typing.Shapes.{Shape, a_stamp, Gift, a_value, HasShape}
 use Rattle.sl_model.proofs.Levels.{Level, Now, Above, apart_from_stacks, set_scalar-now, leave-now, now_above}
 use Rattle.sl_model.proofs.Gifts.{IsUsed, Gave, OutAt}
 

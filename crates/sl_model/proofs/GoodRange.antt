@@ -10,15 +10,15 @@ use Rattle.sl_syntax.specs.declared.typed.element.Taken.TheVariants as taken
 use Rattle.sl_syntax.specs.declared.typed.head.Head.{Head}
 use Rattle.sl_syntax.specs.declared.typed.operator.Operator.TheVariants as operators
 use Rattle.sl_model.specs.Numbers.{is_zero}
-use Rattle.sl_model.specs.Containers.{Memory, begin_of, end_of}
-use Rattle.sl_model.specs.Values.{Value}
-use Rattle.sl_model.specs.State.{State, cont_of, set_scalar_at, set_iterator_at, stamp_held, new_scalar, new_iterator}
-use Rattle.sl_model.specs.Eval.{World, read_at, use_library}
-use Rattle.sl_model.specs.Exec.{Next, Meaning, and_then, flow_of, on_number, on_stamp, binds_to, asks, hidden_at, takes_number, takes_element}
-use Rattle.sl_model.specs.Exec.{over_range, range_start}
-use Rattle.sl_model.specs.Good.{IsSound}
-use Rattle.sl_model.specs.Shapes.{Shape, a_number, a_stamp, an_element, a_value, Signature}
-use Rattle.sl_model.specs.Scoped.{one_scalar, one_iterator, with_range, AsksWell}
+use Rattle.sl_model.specs.Memory.Containers.{Memory, begin_of, end_of}
+use Rattle.sl_model.specs.LibraryCalls.Values.{Value}
+use Rattle.sl_model.specs.Runs.State.{State, cont_of, set_scalar_at, set_iterator_at, stamp_held, new_scalar, new_iterator}
+use Rattle.sl_model.specs.Runs.Eval.{World, read_at, use_library}
+use Rattle.sl_model.specs.Runs.Exec.{Next, Meaning, and_then, flow_of, on_number, on_stamp, binds_to, asks, hidden_at, takes_number, takes_element}
+use Rattle.sl_model.specs.Runs.Exec.{over_range, range_start}
+use Rattle.sl_model.specs.Runs.Good.{IsSound}
+use Rattle.sl_model.specs.Typing.Shapes.{Shape, a_number, a_stamp, an_element, a_value, Signature}
+use Rattle.sl_model.specs.Typing.Scoped.{one_scalar, one_iterator, with_range, AsksWell}
 use Rattle.sl_model.proofs.Placing.{place_used, end_used}
 use Rattle.sl_model.proofs.Levels.{Level, counts_of, Now, Above, now_above, held_used, with_scalar, with_iterator, new_scalar-now, new_iterator-now}
 use Rattle.sl_model.proofs.Levels.{set_scalar-now, set_iterator-now, scalar_above, iterator_above}

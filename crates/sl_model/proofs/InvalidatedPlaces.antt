@@ -3,7 +3,7 @@ use Rattle.std.proofs.Common.{◌<◌, IsTrue, ℕ, arith}
 use Rattle.std.proofs.lemmas.Bool.Decides.{nat_tests}
 use Rattle.sl_specs.specs.declared.class.Class.{Class}
 use Rattle.sl_specs.specs.declared.class.Class.TheVariants as classes
-use Rattle.sl_model.specs.Classes.{Edit, kills, loses}
+use Rattle.sl_model.specs.Memory.Classes.{Edit, kills, loses}
 
 -- the iterators at an element go where the references to it do
 pub kills-loses : (class : Class) (n room k : ℕ) (e : Edit) → k < n → IsTrue (loses class n room e k) → IsTrue (kills class n room e k)

@@ -13,14 +13,14 @@ use Rattle.sl_syntax.specs.Typed.{comparison, increment, move, call, own_call, f
 use Rattle.sl_syntax.specs.Typed.{element, Operands, none, with}
 use Rattle.sl_base.specs.declared.scalar.Scalar.{Scalar}
 use Rattle.sl_syntax.specs.declared.operator.Arithmetic.TheVariants as o
-use Rattle.sl_model.specs.Containers.{Memory, Part, locate_refer, write_element}
-use Rattle.sl_model.specs.Values.{Value, nothing, number, iterator, pair, two, scalar_at, container_at, element_at, Args, LibOut, trapped}
-use Rattle.sl_model.specs.Values.{thrown, faulted}
-use Rattle.sl_model.specs.Values.{gives, unbuilt}
-use Rattle.sl_model.specs.State.{Pointer, iterator_at, reference_to, State, iter_of, pointer_at, stamp_of, set_scalar_at, scalar_value}
-use Rattle.sl_model.specs.Eval.{by_one, Out, Gives, Stops, Outs, AllGive, OneStops, World, then_eval, with_number, then_number, add_value, then_rest}
-use Rattle.sl_model.specs.Eval.{call_own, then_call, branch, answered, if_set, read_at, write_at, settle_call, use_library, increased, moved_to, chosen, eval}
-use Rattle.sl_model.specs.Eval.{reach, eval_all, name_place, part_used, found_use, used}
+use Rattle.sl_model.specs.Memory.Containers.{Memory, Part, locate_refer, write_element}
+use Rattle.sl_model.specs.LibraryCalls.Values.{Value, nothing, number, iterator, pair, two, scalar_at, container_at, element_at, Args, LibOut, trapped}
+use Rattle.sl_model.specs.LibraryCalls.Values.{thrown, faulted}
+use Rattle.sl_model.specs.LibraryCalls.Values.{gives, unbuilt}
+use Rattle.sl_model.specs.Runs.State.{Pointer, iterator_at, reference_to, State, iter_of, pointer_at, stamp_of, set_scalar_at, scalar_value}
+use Rattle.sl_model.specs.Runs.Eval.{by_one, Out, Gives, Stops, Outs, AllGive, OneStops, World, then_eval, with_number, then_number, add_value, then_rest}
+use Rattle.sl_model.specs.Runs.Eval.{call_own, then_call, branch, answered, if_set, read_at, write_at, settle_call, use_library, increased, moved_to, chosen, eval}
+use Rattle.sl_model.specs.Runs.Eval.{reach, eval_all, name_place, part_used, found_use, used}
 
 module _ (I : Memory → Type 0) where
   -- it holds of a library's answer

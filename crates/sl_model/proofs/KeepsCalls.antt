@@ -6,14 +6,14 @@ use Rattle.sl_syntax.specs.declared.typed.callee.Callee.{Callee}
 use Rattle.sl_syntax.specs.declared.typed.parameter.ParameterKind.{ParameterKind}
 use Rattle.sl_syntax.specs.declared.typed.parameter.ParameterKind.TheVariants as parameter
 use Rattle.sl_syntax.specs.Typed.{Function, Typed}
-use Rattle.sl_model.specs.Containers.{Memory, Part, write_element, end_from}
-use Rattle.sl_model.specs.Values.{Value, nothing, number, iterator, pair, two, scalar_at, container_at, element_at, Args, Lib}
-use Rattle.sl_model.specs.State.{State}
-use Rattle.sl_model.specs.Binding.{bind_one, bind_all, bound, no_frame}
-use Rattle.sl_model.specs.Eval.{Out, Gives, Stops, World, Oracle, come_back, call_own}
-use Rattle.sl_model.specs.Exec.{Flow, Next, Broke, Continued, Returned, Over, exec}
-use Rattle.sl_model.specs.Calls.{fell, body_gives, of_function, world_of, call_of}
-use Rattle.sl_model.specs.Ends.{Language}
+use Rattle.sl_model.specs.Memory.Containers.{Memory, Part, write_element, end_from}
+use Rattle.sl_model.specs.LibraryCalls.Values.{Value, nothing, number, iterator, pair, two, scalar_at, container_at, element_at, Args, Lib}
+use Rattle.sl_model.specs.Runs.State.{State}
+use Rattle.sl_model.specs.Runs.Binding.{bind_one, bind_all, bound, no_frame}
+use Rattle.sl_model.specs.Runs.Eval.{Out, Gives, Stops, World, Oracle, come_back, call_own}
+use Rattle.sl_model.specs.Runs.Exec.{Flow, Next, Broke, Continued, Returned, Over, exec}
+use Rattle.sl_model.specs.Runs.Calls.{fell, body_gives, of_function, world_of, call_of}
+use Rattle.sl_model.specs.Runs.Ends.{Language}
 use Rattle.sl_model.proofs.Keeps.{InAnswer, InOut}
 use Rattle.sl_model.proofs.KeepsRun.{InFlow, in_exec}
 

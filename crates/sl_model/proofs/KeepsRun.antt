@@ -15,15 +15,15 @@ use Rattle.sl_syntax.specs.Typed.{Expr, Left, Cond, read, not_read, test, always
 use Rattle.sl_syntax.specs.Typed.{prints, evaluates, assigns, updates, moves_to, Declaration, unset_scalar, set_scalar, set_iterator, binds_reference}
 use Rattle.sl_syntax.specs.Typed.{makes, First, no_first, declares_first, does_first, Stmt, block, declares, choice, choice_else, while, for}
 use Rattle.sl_syntax.specs.Typed.{Operands, range_for, break, continue, gives_back, does, Stmts, no_more, followed}
-use Rattle.sl_model.specs.Containers.{Memory, Part, cont_at, refers, write_element, end_from}
-use Rattle.sl_model.specs.Values.{Value, nothing, number, iterator, pair, two, scalar_at, container_at, element_at, Args}
-use Rattle.sl_model.specs.State.{State, scalar_of, iter_of, cont_of, set_scalar_at, set_iterator_at, new_scalar, new_iterator, new_container}
-use Rattle.sl_model.specs.Ends.{OutOfSteps}
-use Rattle.sl_model.specs.Eval.{Out, Gives, Stops, World, eval, reach, eval_all, then_number, then_call, read_at, write_at, use_library}
-use Rattle.sl_model.specs.Eval.{answered, name_place, call_own}
-use Rattle.sl_model.specs.Exec.{Flow, Next, Broke, Continued, Returned, Over, Meaning, tick, and_then, flow_of, on_number, on_stamp, either_way}
-use Rattle.sl_model.specs.Exec.{scoped, read_all, tested, printed, print_all, is_name, affect, bound_to, binds_to, declared, begun, ended, after_body}
-use Rattle.sl_model.specs.Exec.{counted, turns, loop, wrote, asks, hidden_at, takes_number, takes_element, over_range, range_start, exec, exec_all}
+use Rattle.sl_model.specs.Memory.Containers.{Memory, Part, cont_at, refers, write_element, end_from}
+use Rattle.sl_model.specs.LibraryCalls.Values.{Value, nothing, number, iterator, pair, two, scalar_at, container_at, element_at, Args}
+use Rattle.sl_model.specs.Runs.State.{State, scalar_of, iter_of, cont_of, set_scalar_at, set_iterator_at, new_scalar, new_iterator, new_container}
+use Rattle.sl_model.specs.Runs.Ends.{OutOfSteps}
+use Rattle.sl_model.specs.Runs.Eval.{Out, Gives, Stops, World, eval, reach, eval_all, then_number, then_call, read_at, write_at, use_library}
+use Rattle.sl_model.specs.Runs.Eval.{answered, name_place, call_own}
+use Rattle.sl_model.specs.Runs.Exec.{Flow, Next, Broke, Continued, Returned, Over, Meaning, tick, and_then, flow_of, on_number, on_stamp, either_way}
+use Rattle.sl_model.specs.Runs.Exec.{scoped, read_all, tested, printed, print_all, is_name, affect, bound_to, binds_to, declared, begun, ended, after_body}
+use Rattle.sl_model.specs.Runs.Exec.{counted, turns, loop, wrote, asks, hidden_at, takes_number, takes_element, over_range, range_start, exec, exec_all}
 use Rattle.sl_model.proofs.Keeps.{InAnswer, InOut, keeps_eval, keeps_reach, keeps_all, keeps_call, keeps_then_number, keeps_answer}
 use Rattle.sl_model.proofs.Keeps.{keeps_read, keeps_library, keeps_write, keeps_set}
 use Rattle.sl_syntax.specs.declared.operator.Comparison.TheVariants as c

@@ -6,14 +6,14 @@ use Rattle.sl_base.specs.declared.form.Form.{Form}
 use Rattle.sl_base.specs.declared.form.Form.TheVariants as f
 use Rattle.sl_base.specs.declared.scalar.Scalar.TheVariants as t
 use Rattle.sl_specs.specs.declared.class.Class.{Class}
-use Rattle.sl_model.specs.Containers.{Cont, size, keys}
-use Rattle.sl_model.specs.Edits.{old, new, numbers, changed}
-use Rattle.sl_model.specs.Effects.{is_full, key_change, key_order, key_place, key_picks, known_key, ordered_place}
-use Rattle.sl_model.specs.Forms.{is_hash, holds_equal_keys}
+use Rattle.sl_model.specs.Memory.Containers.{Cont, size, keys}
+use Rattle.sl_model.specs.Memory.Edits.{old, new, numbers, changed}
+use Rattle.sl_model.specs.LibraryCalls.Effects.{is_full, key_change, key_order, key_place, key_picks, known_key, ordered_place}
+use Rattle.sl_model.specs.Memory.Forms.{is_hash, holds_equal_keys}
 use Rattle.sl_model.specs.Numbers.{converted, fits}
-use Rattle.sl_model.specs.Orders.{same, how_many, index_of_key}
-use Rattle.sl_model.specs.Orderly.{may_precede, Each, EachPair, AreInOrder}
-use Rattle.sl_model.specs.Schedule.{put_at, hash_place, pick_at, scattered, after_picks}
+use Rattle.sl_model.specs.Memory.Orders.{same, how_many, index_of_key}
+use Rattle.sl_model.specs.Memory.Orderly.{may_precede, Each, EachPair, AreInOrder}
+use Rattle.sl_model.specs.Memory.Schedule.{put_at, hash_place, pick_at, scattered, after_picks}
 use Rattle.sl_model.proofs.AsInts.{converted-same}
 use Rattle.sl_model.proofs.KeyCounts.{key_at, key_from, keys_from}
 use Rattle.sl_model.proofs.KeysAfter.{all_keys, old-keys, any_order, hash-turns, scattered-order, scattered-each}

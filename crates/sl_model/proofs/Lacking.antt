@@ -8,13 +8,13 @@ use Rattle.sl_syntax.specs.Typed.{comparison, increment, move, call, own_call, f
 use Rattle.sl_syntax.specs.Typed.{element, Operands, none, with}
 use Rattle.sl_syntax.specs.declared.operator.Arithmetic.TheVariants as o
 use Rattle.sl_model.specs.Numbers.{is_zero, truth, converted, operated, compared}
-use Rattle.sl_model.specs.Containers.{Memory}
-use Rattle.sl_model.specs.Values.{Value, nothing, number, iterator, pair, two, scalar_at, container_at, element_at, Args, LibOut, unbuilt}
-use Rattle.sl_model.specs.Ends.{NoMeaning}
-use Rattle.sl_model.specs.State.{State}
-use Rattle.sl_model.specs.Eval.{call_own}
-use Rattle.sl_model.specs.Eval.{Out, Gives, Stops, Outs, AllGive, OneStops, World, then_eval, with_number, then_number, add_value, then_rest}
-use Rattle.sl_model.specs.Eval.{then_call, branch, answered, settle_call, use_library, eval, reach, eval_all}
+use Rattle.sl_model.specs.Memory.Containers.{Memory}
+use Rattle.sl_model.specs.LibraryCalls.Values.{Value, nothing, number, iterator, pair, two, scalar_at, container_at, element_at, Args, LibOut, unbuilt}
+use Rattle.sl_model.specs.Runs.Ends.{NoMeaning}
+use Rattle.sl_model.specs.Runs.State.{State}
+use Rattle.sl_model.specs.Runs.Eval.{call_own}
+use Rattle.sl_model.specs.Runs.Eval.{Out, Gives, Stops, Outs, AllGive, OneStops, World, then_eval, with_number, then_number, add_value, then_rest}
+use Rattle.sl_model.specs.Runs.Eval.{then_call, branch, answered, settle_call, use_library, eval, reach, eval_all}
 
 -- what a call gives, and what it gives in the other library: the same, or it is lacking
 pub data LackingAnswer : LibOut → LibOut → Type 0 where

@@ -7,17 +7,17 @@ use Rattle.sl_base.specs.declared.place.Place.{Place}
 use Rattle.sl_base.specs.declared.limits.TheConstants.{CALLS, WINDOW}
 use Rattle.sl_syntax.specs.declared.typed.callee.Callee.{Callee}
 use Rattle.sl_syntax.specs.Typed.{Function, Typed}
-use Rattle.sl_model.specs.Containers.{Memory}
-use Rattle.sl_model.specs.Values.{Lib, Value, Args, LibOut, trapped, thrown, faulted, gives, unbuilt}
-use Rattle.sl_model.specs.Library.{lib}
-use Rattle.sl_model.specs.Ends.{End, NoMeaning}
-use Rattle.sl_model.specs.State.{State}
-use Rattle.sl_model.specs.Eval.{Out, World, come_back, call_own}
-use Rattle.sl_model.specs.Exec.{Flow}
-use Rattle.sl_model.specs.Binding.{bound}
-use Rattle.sl_model.specs.Calls.{body_gives, of_function, parameters_in, world_of, call_of}
-use Rattle.sl_model.specs.Run.{empty_state, first_place, finished, run, run_over, out_of, main_out}
-use Rattle.sl_model.specs.Decided.{decided_steps, holds_at_most, unless_above, lib_within, is_without_meaning, stays_small}
+use Rattle.sl_model.specs.Memory.Containers.{Memory}
+use Rattle.sl_model.specs.LibraryCalls.Values.{Lib, Value, Args, LibOut, trapped, thrown, faulted, gives, unbuilt}
+use Rattle.sl_model.specs.LibraryCalls.Library.{lib}
+use Rattle.sl_model.specs.Runs.Ends.{End, NoMeaning}
+use Rattle.sl_model.specs.Runs.State.{State}
+use Rattle.sl_model.specs.Runs.Eval.{Out, World, come_back, call_own}
+use Rattle.sl_model.specs.Runs.Exec.{Flow}
+use Rattle.sl_model.specs.Runs.Binding.{bound}
+use Rattle.sl_model.specs.Runs.Calls.{body_gives, of_function, parameters_in, world_of, call_of}
+use Rattle.sl_model.specs.Runs.Run.{empty_state, first_place, finished, run, run_over, out_of, main_out}
+use Rattle.sl_model.specs.Reports.Decided.{decided_steps, holds_at_most, unless_above, lib_within, is_without_meaning, stays_small}
 use Rattle.sl_model.proofs.Lacking.{LackingAnswer, same_answer, no_answer, LackingOut, same, lacks, Lacks}
 use Rattle.sl_model.proofs.LackingExec.{LackingFlow, same_flow, flow_lacks, exec-lacking}
 

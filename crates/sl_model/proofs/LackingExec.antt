@@ -11,14 +11,14 @@ use Rattle.sl_syntax.specs.Typed.{evaluates, assigns, updates, moves_to, Declara
 use Rattle.sl_syntax.specs.Typed.{First, no_first, declares_first, does_first, Stmt, block, declares, choice, choice_else, while, for, range_for}
 use Rattle.sl_syntax.specs.Typed.{break, continue, gives_back, does, Stmts, no_more, followed}
 use Rattle.sl_model.specs.Numbers.{is_zero, converted, operated}
-use Rattle.sl_model.specs.Values.{Value, nothing, number, iterator, pair, two, scalar_at, container_at, element_at}
-use Rattle.sl_model.specs.Ends.{NoMeaning, OutOfSteps}
-use Rattle.sl_model.specs.State.{State, scalar_of, cont_of, iter_of, set_scalar_at, set_iterator_at, new_scalar, new_iterator, new_container}
-use Rattle.sl_model.specs.Eval.{Out, Gives, Stops, World, use_library, write_at, read_at, answered, name_place, then_number}
-use Rattle.sl_model.specs.Exec.{Flow, Next, Broke, Continued, Returned, Over, Meaning, tick, and_then, flow_of, on_number, on_stamp, either_way}
-use Rattle.sl_model.specs.Exec.{scoped, read_all, tested, wrote, printed, print_all, is_name, affect, binds_to, declared, begun, ended}
-use Rattle.sl_model.specs.Exec.{after_body, counted, turns, loop, asks, hidden_at, takes_number, takes_element, over_range, range_start, exec}
-use Rattle.sl_model.specs.Exec.{exec_all}
+use Rattle.sl_model.specs.LibraryCalls.Values.{Value, nothing, number, iterator, pair, two, scalar_at, container_at, element_at}
+use Rattle.sl_model.specs.Runs.Ends.{NoMeaning, OutOfSteps}
+use Rattle.sl_model.specs.Runs.State.{State, scalar_of, cont_of, iter_of, set_scalar_at, set_iterator_at, new_scalar, new_iterator, new_container}
+use Rattle.sl_model.specs.Runs.Eval.{Out, Gives, Stops, World, use_library, write_at, read_at, answered, name_place, then_number}
+use Rattle.sl_model.specs.Runs.Exec.{Flow, Next, Broke, Continued, Returned, Over, Meaning, tick, and_then, flow_of, on_number, on_stamp, either_way}
+use Rattle.sl_model.specs.Runs.Exec.{scoped, read_all, tested, wrote, printed, print_all, is_name, affect, binds_to, declared, begun, ended}
+use Rattle.sl_model.specs.Runs.Exec.{after_body, counted, turns, loop, asks, hidden_at, takes_number, takes_element, over_range, range_start, exec}
+use Rattle.sl_model.specs.Runs.Exec.{exec_all}
 use Rattle.sl_model.proofs.Lacking.{LackingOut, same, lacks, Lacks, then_call-lacking, use_library-lacking, eval-lacking, reach-lacking}
 use Rattle.sl_model.proofs.Lacking.{eval_all-lacking}
 use Rattle.sl_model.proofs.LongerExec.{turn}

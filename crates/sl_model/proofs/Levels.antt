@@ -7,13 +7,13 @@ use Rattle.std.proofs.Math.ListN.{length-set}
 use Rattle.std.proofs.lemmas.List.{length-take-le, map-append, take-map}
 use Rattle.std.proofs.lemmas.Option.{slice_get-get_or}
 use Rattle.sl_base.specs.declared.scalar.Scalar.{Scalar}
-use Rattle.sl_model.specs.Containers.{Memory, Part, cont_with, write_element}
-use Rattle.sl_model.specs.Values.{Value, nothing, number, iterator, pair, two, scalar_at, container_at, element_at}
-use Rattle.sl_model.specs.State.{Pointer, iterator_at, Slot, Frame, State, set_scalar_at, set_iterator_at, mark_in, pointer_at, stamp_held}
-use Rattle.sl_model.specs.State.{new_scalar, new_pointer, new_iterator, new_container, leave}
-use Rattle.sl_model.specs.Eval.{write_at}
-use Rattle.sl_model.specs.Good.{AreBelow, IsSound, IsGood}
-use Rattle.sl_model.specs.Scoped.{Counts}
+use Rattle.sl_model.specs.Memory.Containers.{Memory, Part, cont_with, write_element}
+use Rattle.sl_model.specs.LibraryCalls.Values.{Value, nothing, number, iterator, pair, two, scalar_at, container_at, element_at}
+use Rattle.sl_model.specs.Runs.State.{Pointer, iterator_at, Slot, Frame, State, set_scalar_at, set_iterator_at, mark_in, pointer_at, stamp_held}
+use Rattle.sl_model.specs.Runs.State.{new_scalar, new_pointer, new_iterator, new_container, leave}
+use Rattle.sl_model.specs.Runs.Eval.{write_at}
+use Rattle.sl_model.specs.Runs.Good.{AreBelow, IsSound, IsGood}
+use Rattle.sl_model.specs.Typing.Scoped.{Counts}
 use Rattle.sl_model.proofs.Getting.{get_map, map_set}
 use Rattle.sl_model.proofs.Ending.{end_from-sound}
 use Rattle.sl_model.proofs.Writing.{write-sound}

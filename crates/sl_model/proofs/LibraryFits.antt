@@ -6,18 +6,18 @@ use Rattle.sl_syntax.specs.declared.operator.Comparison.TheVariants as c
 use Rattle.sl_syntax.specs.declared.typed.callee.Callee.{Callee}
 use Rattle.sl_syntax.specs.declared.typed.callee.Callee.TheVariants as callees
 use Rattle.sl_syntax.specs.declared.typed.operator.Operator.TheVariants as operators
-use Rattle.sl_model.specs.Containers.{Memory}
-use Rattle.sl_model.specs.Values.{Value, Args, LibOut}
-use Rattle.sl_model.specs.Situation.{Situation}
-use Rattle.sl_model.specs.Needs.{first_failure}
-use Rattle.sl_model.specs.Actions.{never}
-use Rattle.sl_model.specs.Rows.{Object, of_form, new_one, of_first, Row, row_of, row_of_operator}
-use Rattle.sl_model.specs.Library.{form_of, row_out, lib}
-use Rattle.sl_model.specs.Good.{IsSound}
-use Rattle.sl_model.specs.Shapes.{is_new_one, row_makes}
-use Rattle.sl_model.specs.WellTypedTypes.{ExprType, empty_type, scalar_type, element_type, iterator_type, Scope, has_type}
-use Rattle.sl_model.specs.WellTypedCalls.{call_type}
-use Rattle.sl_model.specs.WellTypedStatements.{is_making}
+use Rattle.sl_model.specs.Memory.Containers.{Memory}
+use Rattle.sl_model.specs.LibraryCalls.Values.{Value, Args, LibOut}
+use Rattle.sl_model.specs.LibraryCalls.Situation.{Situation}
+use Rattle.sl_model.specs.LibraryCalls.Needs.{first_failure}
+use Rattle.sl_model.specs.LibraryCalls.Actions.{never}
+use Rattle.sl_model.specs.LibraryCalls.Rows.{Object, of_form, new_one, of_first, Row, row_of, row_of_operator}
+use Rattle.sl_model.specs.LibraryCalls.Library.{form_of, row_out, lib}
+use Rattle.sl_model.specs.Runs.Good.{IsSound}
+use Rattle.sl_model.specs.Typing.Shapes.{is_new_one, row_makes}
+use Rattle.sl_model.specs.Typing.WellTypedTypes.{ExprType, empty_type, scalar_type, element_type, iterator_type, Scope, has_type}
+use Rattle.sl_model.specs.Typing.WellTypedCalls.{call_type}
+use Rattle.sl_model.specs.Typing.WellTypedStatements.{is_making}
 use Rattle.sl_model.proofs.Called.{IsCalled, situation}
 use Rattle.sl_model.proofs.FineEffects.{does-leaves}
 use Rattle.sl_model.proofs.LibrarySound.{row-fine}

@@ -2,12 +2,12 @@
 use Rattle.std.proofs.Common.{◌≡◌, Bool, List, [], ◌∷◌, Some, None, ap, subst, if◌then◌else◌}
 use Rattle.sl_base.specs.declared.form.Form.{Form}
 use Rattle.sl_syntax.specs.declared.typed.callee.Callee.{Callee}
-use Rattle.sl_model.specs.Situation.{Situation}
-use Rattle.sl_model.specs.Needs.{first_failure}
-use Rattle.sl_model.specs.Actions.{Effect}
-use Rattle.sl_model.specs.Rows.{Object, of_form, new_one, of_first, Row, row_of}
-use Rattle.sl_model.specs.Library.{form_of}
-use Rattle.sl_model.specs.Shapes.{is_new_one}
+use Rattle.sl_model.specs.LibraryCalls.Situation.{Situation}
+use Rattle.sl_model.specs.LibraryCalls.Needs.{first_failure}
+use Rattle.sl_model.specs.LibraryCalls.Actions.{Effect}
+use Rattle.sl_model.specs.LibraryCalls.Rows.{Object, of_form, new_one, of_first, Row, row_of}
+use Rattle.sl_model.specs.LibraryCalls.Library.{form_of}
+use Rattle.sl_model.specs.Typing.Shapes.{is_new_one}
 use Rattle.sl_model.proofs.Called.{IsCalled}
 use Rattle.sl_model.proofs.Fitting.{KeepsForms}
 use Rattle.sl_model.proofs.FormsEffects.{made_forms, does-forms}

@@ -7,7 +7,7 @@ use Rattle.sl_specs.specs.Rows.{Row as TableRow, Line, row_of as row_of_line, ro
 use Rattle.sl_specs.specs.ContainerLines.{container_lines}
 use Rattle.sl_specs.specs.MultiLines.{multi_lines}
 use Rattle.sl_specs.specs.Table.{table}
-use Rattle.sl_model.specs.Rows.{meaning_of}
+use Rattle.sl_model.specs.LibraryCalls.Rows.{meaning_of}
 use Rattle.sl_model.proofs.Tells.{AllOf, all_at, all_rows_on}
 use Rattle.sl_model.proofs.TableRows.{all_table}
 use Rattle.sl_model.proofs.GivenIn.{is_output, RowGivesIn}

@@ -8,17 +8,17 @@ use Rattle.sl_specs.specs.MultiLines.{multi_lines}
 use Rattle.sl_specs.specs.AlgorithmRows.{algorithm_rows}
 use Rattle.sl_specs.specs.Table.{table}
 use Rattle.sl_syntax.specs.declared.typed.callee.Callee.{Callee}
-use Rattle.sl_model.specs.Containers.{Memory}
-use Rattle.sl_model.specs.Forms.{holds_equal_keys}
-use Rattle.sl_model.specs.Values.{Args, LibOut, trapped}
-use Rattle.sl_model.specs.Situation.{Situation}
-use Rattle.sl_model.specs.Needs.{first_failure}
-use Rattle.sl_model.specs.Actions.{Answer, nothing, gives_number, gives_place, gives_place_and, gives_places, gives_element, Stop, never, exception}
-use Rattle.sl_model.specs.Actions.{overflow}
-use Rattle.sl_model.specs.Rows.{Row, meaning_of, row_of}
-use Rattle.sl_model.specs.Library.{value_in, form_of, carried_out, row_out, called_row, lib}
-use Rattle.sl_model.specs.Good.{IsSound}
-use Rattle.sl_model.specs.Shapes.{Shape, HasShape, is_new_one, shape_of_row, row_makes, lib_shape, lib_makes}
+use Rattle.sl_model.specs.Memory.Containers.{Memory}
+use Rattle.sl_model.specs.Memory.Forms.{holds_equal_keys}
+use Rattle.sl_model.specs.LibraryCalls.Values.{Args, LibOut, trapped}
+use Rattle.sl_model.specs.LibraryCalls.Situation.{Situation}
+use Rattle.sl_model.specs.LibraryCalls.Needs.{first_failure}
+use Rattle.sl_model.specs.LibraryCalls.Actions.{Answer, nothing, gives_number, gives_place, gives_place_and, gives_places, gives_element, Stop, never, exception}
+use Rattle.sl_model.specs.LibraryCalls.Actions.{overflow}
+use Rattle.sl_model.specs.LibraryCalls.Rows.{Row, meaning_of, row_of}
+use Rattle.sl_model.specs.LibraryCalls.Library.{value_in, form_of, carried_out, row_out, called_row, lib}
+use Rattle.sl_model.specs.Runs.Good.{IsSound}
+use Rattle.sl_model.specs.Typing.Shapes.{Shape, HasShape, is_new_one, shape_of_row, row_makes, lib_shape, lib_makes}
 use Rattle.sl_model.proofs.Keeps.{InAnswer}
 use Rattle.sl_model.proofs.After.{Leaves}
 use Rattle.sl_model.proofs.LibrarySound.{lib-leaves}

@@ -12,14 +12,14 @@ use Rattle.sl_specs.specs.MultiLines.{multi_lines}
 use Rattle.sl_specs.specs.AlgorithmRows.{algorithm_rows}
 use Rattle.sl_specs.specs.Table.{table}
 use Rattle.sl_syntax.specs.declared.typed.callee.Callee.{Callee}
-use Rattle.sl_model.specs.Containers.{Memory}
-use Rattle.sl_model.specs.Values.{Value, Args, Lib, LibOut, trapped, thrown, faulted, gives, unbuilt}
-use Rattle.sl_model.specs.Situation.{Situation}
-use Rattle.sl_model.specs.Needs.{first_failure}
-use Rattle.sl_model.specs.Actions.{Stop, never, exception, overflow}
-use Rattle.sl_model.specs.Rows.{Row, member_row, meaning_of, row_of}
-use Rattle.sl_model.specs.Library.{form_of, carried_out, row_out, called_row, lib}
-use Rattle.sl_model.specs.Good.{IsSound}
+use Rattle.sl_model.specs.Memory.Containers.{Memory}
+use Rattle.sl_model.specs.LibraryCalls.Values.{Value, Args, Lib, LibOut, trapped, thrown, faulted, gives, unbuilt}
+use Rattle.sl_model.specs.LibraryCalls.Situation.{Situation}
+use Rattle.sl_model.specs.LibraryCalls.Needs.{first_failure}
+use Rattle.sl_model.specs.LibraryCalls.Actions.{Stop, never, exception, overflow}
+use Rattle.sl_model.specs.LibraryCalls.Rows.{Row, member_row, meaning_of, row_of}
+use Rattle.sl_model.specs.LibraryCalls.Library.{form_of, carried_out, row_out, called_row, lib}
+use Rattle.sl_model.specs.Runs.Good.{IsSound}
 use Rattle.sl_model.proofs.Keeps.{InAnswer}
 use Rattle.sl_model.proofs.After.{Leaves}
 use Rattle.sl_model.proofs.Called.{IsCalled, situation, row_by}

@@ -8,10 +8,10 @@ use Rattle.std.proofs.lemmas.List.Elements.{All-nil, All-cons}
 use Rattle.std.proofs.lemmas.Bool.{cases_lt, cases_Bool, leb-true, le-leb, ltb-true, and_from, or_cases, or_left, or_right}
 pub use Rattle.std.proofs.lemmas.Bool.{false_from_ne_true as not_true}
 use Rattle.sl_base.specs.declared.scalar.Scalar.TheVariants as t
-use Rattle.sl_model.specs.Covers.{IsInput, IsSchedule}
+use Rattle.sl_model.specs.Reports.Covers.{IsInput, IsSchedule}
 use Rattle.sl_model.specs.Numbers.{fits}
-use Rattle.sl_model.specs.Lists.{natural_of, signed_of, passing, int_of, pick_of, LIST_NUMBERS, LIST_BYTES, words_of, ListOf}
-use Rattle.sl_model.specs.Lists.{is_list, begins_list, BadAt, at_byte, at_end}
+use Rattle.sl_model.specs.Reports.Lists.{natural_of, signed_of, passing, int_of, pick_of, LIST_NUMBERS, LIST_BYTES, words_of, ListOf}
+use Rattle.sl_model.specs.Reports.Lists.{is_list, begins_list, BadAt, at_byte, at_end}
 use Rattle.sl_model.proofs.ListWords.{Completes}
 use Rattle.sl_model.proofs.ListParts.{parts_of, counted, told, Within, glue_none, carried, completed_parts}
 use Rattle.sl_model.proofs.Passing.{first_of_both, second_of_both}

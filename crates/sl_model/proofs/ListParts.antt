@@ -5,7 +5,7 @@ use Rattle.std.specs.List.{list_all, slice_split, onto_first}
 use Rattle.std.proofs.lemmas.List.Splits.{length-slice_split}
 use Rattle.std.proofs.lemmas.Bool.{and_from}
 use Rattle.sl_base.specs.Bytes.{is_blank}
-use Rattle.sl_model.specs.Lists.{is_filled}
+use Rattle.sl_model.specs.Reports.Lists.{is_filled}
 use Rattle.sl_model.proofs.ListWords.{Completes}
 use Rattle.sl_model.proofs.Passing.{first_of_both, second_of_both}
 

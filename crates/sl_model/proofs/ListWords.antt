@@ -11,7 +11,7 @@ use Rattle.std.proofs.lemmas.Str.Parse.{digits_value-take-le}
 use Rattle.sl_base.specs.Bytes.{is_digit}
 use Rattle.sl_base.specs.declared.scalar.Scalar.TheVariants as t
 use Rattle.sl_model.specs.Numbers.{fits}
-use Rattle.sl_model.specs.Lists.{natural_of, passing, int_of, pick_of}
+use Rattle.sl_model.specs.Reports.Lists.{natural_of, passing, int_of, pick_of}
 use Rattle.sl_model.proofs.Passing.{first_of_both}
 
 -- what some bytes more make a number is one, or a 0 makes it one

@@ -3,8 +3,8 @@ use Rattle.std.proofs.Common.{◌≡◌, ℕ, zero, suc, ◌+◌, ◌<◌, ◌==
 use Rattle.std.proofs.Common.{if◌then◌else◌}
 use Rattle.std.specs.List.{slice_get}
 use Rattle.std.proofs.lemmas.Bool.{eqb-true, eq-eqb}
-use Rattle.sl_model.specs.Containers.{Cont, Memory, stamps, refers, index_of, found, locate, locate_refer, Dropped, Lost, Grave, IsGrave}
-use Rattle.sl_model.specs.Good.{Stands, AreKeptApart, IsAt, RefersTo, IsSound}
+use Rattle.sl_model.specs.Memory.Containers.{Cont, Memory, stamps, refers, index_of, found, locate, locate_refer, Dropped, Lost, Grave, IsGrave}
+use Rattle.sl_model.specs.Runs.Good.{Stands, AreKeptApart, IsAt, RefersTo, IsSound}
 use Rattle.sl_model.proofs.Getting.{get_map, got_map}
 
 -- a number that is in a list once, is found where it is

@@ -1,7 +1,7 @@
 -- Lists of locations and of stamps that are below a number, or no two of which are one.
 use Rattle.std.proofs.Common.{◌≡◌, ℕ, zero, suc, ◌<◌, ◌≤◌, List, [], ◌∷◌, ◌++◌, Some, length, take, refl, ap, sym, ◌∙◌, arith, ◌⊎◌, inl, inr, ⊎_elim}
 use Rattle.std.specs.List.{slice_get, slice_set}
-use Rattle.sl_model.specs.Good.{AreBelow, AreApart}
+use Rattle.sl_model.specs.Runs.Good.{AreBelow, AreApart}
 use Rattle.sl_model.proofs.Getting.{get_take, get_within, get_left}
 
 -- what is in a list with one more was in it, or is the last

@@ -11,15 +11,15 @@ use Rattle.sl_syntax.specs.Typed.{comparison, increment, move, call, own_call, f
 use Rattle.sl_syntax.specs.Typed.{element, Operands, none, with}
 use Rattle.sl_syntax.specs.declared.operator.Arithmetic.TheVariants as o
 use Rattle.sl_model.specs.Numbers.{Answer, value, fault, is_zero, truth, converted, operated, compared}
-use Rattle.sl_model.specs.Containers.{Part}
-use Rattle.sl_model.specs.Values.{Value, nothing, number, iterator, pair, two, scalar_at, container_at, element_at, Lib, LibOut, trapped, thrown}
-use Rattle.sl_model.specs.Values.{faulted}
-use Rattle.sl_model.specs.Values.{gives as lib_gives, unbuilt}
-use Rattle.sl_model.specs.Ends.{End, OutOfSteps}
-use Rattle.sl_model.specs.State.{Pointer, iterator_at, reference_to, State, Slot, iter_of, pointer_at, set_scalar_at, set_iterator_at}
-use Rattle.sl_model.specs.Eval.{Out, Gives, Stops, Outs, AllGive, OneStops, World, then_eval, with_number, then_number, add_value, then_rest}
-use Rattle.sl_model.specs.Eval.{then_call, branch, answered, if_set, read_at, write_at, settle_call, use_library, increased, moved_to, chosen}
-use Rattle.sl_model.specs.Eval.{name_place, found_use, used, call_own, eval, reach, eval_all}
+use Rattle.sl_model.specs.Memory.Containers.{Part}
+use Rattle.sl_model.specs.LibraryCalls.Values.{Value, nothing, number, iterator, pair, two, scalar_at, container_at, element_at, Lib, LibOut, trapped, thrown}
+use Rattle.sl_model.specs.LibraryCalls.Values.{faulted}
+use Rattle.sl_model.specs.LibraryCalls.Values.{gives as lib_gives, unbuilt}
+use Rattle.sl_model.specs.Runs.Ends.{End, OutOfSteps}
+use Rattle.sl_model.specs.Runs.State.{Pointer, iterator_at, reference_to, State, Slot, iter_of, pointer_at, set_scalar_at, set_iterator_at}
+use Rattle.sl_model.specs.Runs.Eval.{Out, Gives, Stops, Outs, AllGive, OneStops, World, then_eval, with_number, then_number, add_value, then_rest}
+use Rattle.sl_model.specs.Runs.Eval.{then_call, branch, answered, if_set, read_at, write_at, settle_call, use_library, increased, moved_to, chosen}
+use Rattle.sl_model.specs.Runs.Eval.{name_place, found_use, used, call_own, eval, reach, eval_all}
 
 -- a state with k steps more
 abbrev pub more : ℕ → State → State

@@ -6,15 +6,15 @@ use Rattle.sl_base.specs.declared.limits.TheConstants.{CALLS}
 use Rattle.sl_syntax.specs.declared.typed.parameter.ParameterKind.{ParameterKind}
 use Rattle.sl_syntax.specs.declared.typed.parameter.ParameterKind.TheVariants as parameter
 use Rattle.sl_syntax.specs.Typed.{Function, Typed}
-use Rattle.sl_model.specs.Values.{Lib, Value, nothing, number, iterator, scalar_at, container_at}
-use Rattle.sl_model.specs.Library.{lib}
-use Rattle.sl_model.specs.Ends.{Language, OutOfSteps}
-use Rattle.sl_model.specs.State.{State, leave}
-use Rattle.sl_model.specs.Binding.{bind_one, bind_all, bound}
-use Rattle.sl_model.specs.Eval.{Out, Gives, Stops, World, Oracle, come_back}
-use Rattle.sl_model.specs.Exec.{Flow}
-use Rattle.sl_model.specs.Calls.{fell, body_gives, of_function, world_of, call_of}
-use Rattle.sl_model.specs.Run.{empty_state, first_place, finished, run}
+use Rattle.sl_model.specs.LibraryCalls.Values.{Lib, Value, nothing, number, iterator, scalar_at, container_at}
+use Rattle.sl_model.specs.LibraryCalls.Library.{lib}
+use Rattle.sl_model.specs.Runs.Ends.{Language, OutOfSteps}
+use Rattle.sl_model.specs.Runs.State.{State, leave}
+use Rattle.sl_model.specs.Runs.Binding.{bind_one, bind_all, bound}
+use Rattle.sl_model.specs.Runs.Eval.{Out, Gives, Stops, World, Oracle, come_back}
+use Rattle.sl_model.specs.Runs.Exec.{Flow}
+use Rattle.sl_model.specs.Runs.Calls.{fell, body_gives, of_function, world_of, call_of}
+use Rattle.sl_model.specs.Runs.Run.{empty_state, first_place, finished, run}
 use Rattle.sl_model.proofs.Longer.{more, LaterOut, gives, stops, out, Same, SameWorld}
 use Rattle.sl_model.proofs.LongerExec.{LaterFlow, next, broke, continued, returned, over, run_out, exec-later}
 

@@ -12,16 +12,16 @@ use Rattle.sl_syntax.specs.Typed.{evaluates, assigns, updates, moves_to, Declara
 use Rattle.sl_syntax.specs.Typed.{First, no_first, declares_first, does_first, Stmt, block, declares, choice, choice_else, while, for, range_for}
 use Rattle.sl_syntax.specs.Typed.{break, continue, gives_back, does, Stmts, no_more, followed}
 use Rattle.sl_model.specs.Numbers.{is_zero, converted, operated}
-use Rattle.sl_model.specs.Values.{Value, nothing, number, iterator, pair, two, scalar_at, container_at, element_at}
-use Rattle.sl_model.specs.Containers.{Part, cont_at, refers}
-use Rattle.sl_model.specs.Ends.{End, OutOfSteps}
-use Rattle.sl_model.specs.State.{reference_to, State, scalar_of, cont_of, iter_of, set_scalar_at, set_iterator_at, new_scalar, new_pointer}
-use Rattle.sl_model.specs.State.{new_iterator, new_container, leave}
-use Rattle.sl_model.specs.Eval.{Out, World, use_library, write_at, name_place}
-use Rattle.sl_model.specs.Exec.{Flow, Next, Broke, Continued, Returned, Over, Meaning, tick, and_then, flow_of, on_number, on_stamp, either_way}
-use Rattle.sl_model.specs.Exec.{scoped, read_all, tested, wrote, printed, print_all, is_name, affect, bound_to, binds_to, declared, begun, ended}
-use Rattle.sl_model.specs.Exec.{after_body, counted, turns, loop, asks, hidden_at, takes_number, takes_element, over_range, range_start, exec}
-use Rattle.sl_model.specs.Exec.{exec_all}
+use Rattle.sl_model.specs.LibraryCalls.Values.{Value, nothing, number, iterator, pair, two, scalar_at, container_at, element_at}
+use Rattle.sl_model.specs.Memory.Containers.{Part, cont_at, refers}
+use Rattle.sl_model.specs.Runs.Ends.{End, OutOfSteps}
+use Rattle.sl_model.specs.Runs.State.{reference_to, State, scalar_of, cont_of, iter_of, set_scalar_at, set_iterator_at, new_scalar, new_pointer}
+use Rattle.sl_model.specs.Runs.State.{new_iterator, new_container, leave}
+use Rattle.sl_model.specs.Runs.Eval.{Out, World, use_library, write_at, name_place}
+use Rattle.sl_model.specs.Runs.Exec.{Flow, Next, Broke, Continued, Returned, Over, Meaning, tick, and_then, flow_of, on_number, on_stamp, either_way}
+use Rattle.sl_model.specs.Runs.Exec.{scoped, read_all, tested, wrote, printed, print_all, is_name, affect, bound_to, binds_to, declared, begun, ended}
+use Rattle.sl_model.specs.Runs.Exec.{after_body, counted, turns, loop, asks, hidden_at, takes_number, takes_element, over_range, range_start, exec}
+use Rattle.sl_model.specs.Runs.Exec.{exec_all}
 use Rattle.sl_model.proofs.Longer.{more, LaterOut, gives, stops, out, SameWorld, set_scalar_at-more, write_at-more, answered-later, read_at-later}
 use Rattle.sl_model.proofs.Longer.{use_library-later, then_number-later, then_call-later, eval-later, reach-later, eval_all-later}
 

@@ -5,8 +5,8 @@ use Rattle.std.specs.List.{slice_get}
 use Rattle.std.proofs.lemmas.Bool.{cases_lt}
 use Rattle.sl_base.specs.declared.form.Form.{Form}
 use Rattle.sl_base.specs.declared.limits.TheConstants.{ELEMENTS}
-use Rattle.sl_model.specs.Containers.{Cell, Cont, Grave, Memory, size, stamps, refers, killer, made, new_cells, IsGrave}
-use Rattle.sl_model.specs.Good.{Stands, AreKeptApart, IsAt, IsSound, NoneVanishFrom, NoneVanishes}
+use Rattle.sl_model.specs.Memory.Containers.{Cell, Cont, Grave, Memory, size, stamps, refers, killer, made, new_cells, IsGrave}
+use Rattle.sl_model.specs.Runs.Good.{Stands, AreKeptApart, IsAt, IsSound, NoneVanishFrom, NoneVanishes}
 use Rattle.sl_model.proofs.Getting.{get_left, get_right, get_within}
 use Rattle.sl_model.proofs.Apart.{IsDistinct}
 use Rattle.sl_model.proofs.After.{Leaves}

@@ -3,11 +3,11 @@ use Rattle.std.proofs.Common.{◌≡◌, ◌≢◌, ℕ, zero, suc, ◌+◌, ◌
 use Rattle.std.proofs.Common.{ap, sym, ◌∙◌, arith, ◌⊎◌, inl, inr, ⊎_elim, pos, if◌then◌else◌}
 use Rattle.std.specs.List.{slice_get, slice_set}
 use Rattle.std.proofs.lemmas.Bool.{cases_eq, cases_lt, both_ways}
-use Rattle.sl_model.specs.Containers.{Cell, Cont, Memory, size, stamps, refers}
-use Rattle.sl_model.specs.Edits.{Source, old, written, theirs, new, Change, mark_after, stayed, from_source, from_sources, rebuilt, changed}
-use Rattle.sl_model.specs.Edits.{next_of_two, after, after_two}
-use Rattle.sl_model.specs.Origins.{ComesFrom, ComesOver, TakesNoneOver}
-use Rattle.sl_model.specs.Good.{IsAt, RefersTo, IsSound}
+use Rattle.sl_model.specs.Memory.Containers.{Cell, Cont, Memory, size, stamps, refers}
+use Rattle.sl_model.specs.Memory.Edits.{Source, old, written, theirs, new, Change, mark_after, stayed, from_source, from_sources, rebuilt, changed}
+use Rattle.sl_model.specs.Memory.Edits.{next_of_two, after, after_two}
+use Rattle.sl_model.specs.Memory.Origins.{ComesFrom, ComesOver, TakesNoneOver}
+use Rattle.sl_model.specs.Runs.Good.{IsAt, RefersTo, IsSound}
 use Rattle.sl_model.proofs.Getting.{get_within, get_some, get_map, got_map, get_set_same, get_set_other}
 use Rattle.sl_model.proofs.Located.{at_stands, refers_stands}
 use Rattle.sl_model.proofs.After.{get-after-own, get-after-other}

@@ -3,10 +3,10 @@ use Rattle.std.proofs.Common.{◌≡◌, ℕ, true, List, [], ◌∷◌}
 use Rattle.std.specs.Prelude.{slice_index_or}
 use Rattle.std.specs.List.{slice_get}
 use Rattle.sl_base.specs.declared.form.Form.{Form}
-use Rattle.sl_model.specs.Containers.{Memory, cont_at}
-use Rattle.sl_model.specs.Operands.{Sort, an_iterator, a_container, is_of_form, is_of, are_of}
-use Rattle.sl_model.specs.Situation.{container_of_value}
-use Rattle.sl_model.specs.Values.{Value, nothing, number, iterator, pair, two, scalar_at, container_at, element_at}
+use Rattle.sl_model.specs.Memory.Containers.{Memory, cont_at}
+use Rattle.sl_model.specs.LibraryCalls.Operands.{Sort, an_iterator, a_container, is_of_form, is_of, are_of}
+use Rattle.sl_model.specs.LibraryCalls.Situation.{container_of_value}
+use Rattle.sl_model.specs.LibraryCalls.Values.{Value, nothing, number, iterator, pair, two, scalar_at, container_at, element_at}
 use Rattle.sl_model.proofs.Called.{own_form, own_there}
 use Rattle.sl_model.proofs.FineEffects.{IsThere}
 use Rattle.sl_model.proofs.Passing.{first_of_both, second_of_both}

@@ -6,13 +6,13 @@ use Rattle.sl_base.specs.declared.scalar.Scalar.TheVariants as t
 use Rattle.sl_syntax.specs.declared.operator.Comparison.{Comparison}
 use Rattle.sl_syntax.specs.declared.typed.operator.Operator.{Operator}
 use Rattle.sl_syntax.specs.declared.typed.operator.Operator.TheVariants as operators
-use Rattle.sl_model.specs.Containers.{Memory}
-use Rattle.sl_model.specs.Forms.{is_random_access}
-use Rattle.sl_model.specs.Operands.{Sort, a_number, an_iterator, is_of, are_of}
-use Rattle.sl_model.specs.Operators.{operator_sorts}
-use Rattle.sl_model.specs.Values.{Value}
-use Rattle.sl_model.specs.WellTypedTypes.{ExprType, empty_type, scalar_type, iterator_type, has_type, only, is_scalar, is_iterator_of, same_iterators}
-use Rattle.sl_model.specs.WellTypedCalls.{is_random, operator_type, is_equality}
+use Rattle.sl_model.specs.Memory.Containers.{Memory}
+use Rattle.sl_model.specs.Memory.Forms.{is_random_access}
+use Rattle.sl_model.specs.LibraryCalls.Operands.{Sort, a_number, an_iterator, is_of, are_of}
+use Rattle.sl_model.specs.LibraryCalls.Operators.{operator_sorts}
+use Rattle.sl_model.specs.LibraryCalls.Values.{Value}
+use Rattle.sl_model.specs.Typing.WellTypedTypes.{ExprType, empty_type, scalar_type, iterator_type, has_type, only, is_scalar, is_iterator_of, same_iterators}
+use Rattle.sl_model.specs.Typing.WellTypedCalls.{is_random, operator_type, is_equality}
 use Rattle.sl_model.proofs.Fitting.{Fits, AllFit}
 use Rattle.sl_model.proofs.Passing.{first_of_both, second_of_both}
 use Rattle.sl_model.proofs.TypedOperands.{only_holds}

@@ -6,14 +6,14 @@ use Rattle.sl_base.specs.declared.scalar.Scalar.TheVariants as t
 use Rattle.sl_syntax.specs.declared.typed.operator.Operator.{Operator}
 use Rattle.sl_syntax.specs.declared.typed.operator.Operator.TheVariants as operators
 use Rattle.sl_syntax.specs.Written.{is_map}
-use Rattle.sl_model.specs.Forms.{is_keyed, is_hash, is_random_access}
-use Rattle.sl_model.specs.Containers.{Memory}
-use Rattle.sl_model.specs.Values.{a_number, a_stamp, an_element}
-use Rattle.sl_model.specs.Situation.{Situation}
-use Rattle.sl_model.specs.Rows.{Row, shape_of_operator, row_of_operator}
-use Rattle.sl_model.specs.WellTypedTypes.{ExprType, empty_type, scalar_type, element_type, iterator_type, has_type, only, is_scalar, is_iterator}
-use Rattle.sl_model.specs.WellTypedTypes.{is_iterator_of, same_iterators}
-use Rattle.sl_model.specs.WellTypedCalls.{first_type, is_equality, is_random, operator_type, is_moving_operator}
+use Rattle.sl_model.specs.Memory.Forms.{is_keyed, is_hash, is_random_access}
+use Rattle.sl_model.specs.Memory.Containers.{Memory}
+use Rattle.sl_model.specs.LibraryCalls.Values.{a_number, a_stamp, an_element}
+use Rattle.sl_model.specs.LibraryCalls.Situation.{Situation}
+use Rattle.sl_model.specs.LibraryCalls.Rows.{Row, shape_of_operator, row_of_operator}
+use Rattle.sl_model.specs.Typing.WellTypedTypes.{ExprType, empty_type, scalar_type, element_type, iterator_type, has_type, only, is_scalar, is_iterator}
+use Rattle.sl_model.specs.Typing.WellTypedTypes.{is_iterator_of, same_iterators}
+use Rattle.sl_model.specs.Typing.WellTypedCalls.{first_type, is_equality, is_random, operator_type, is_moving_operator}
 use Rattle.sl_model.proofs.Tells.{memory_after, Tells}
 use Rattle.sl_model.proofs.AlgorithmRowsTell.{operator-tells}
 use Rattle.sl_model.proofs.Fitting.{AllFit}

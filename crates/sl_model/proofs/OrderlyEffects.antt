@@ -6,17 +6,17 @@ use Rattle.std.proofs.lemmas.Bool.{cases_eq, cases_lt, not-true}
 use Rattle.sl_base.specs.declared.form.Form.{Form}
 use Rattle.sl_base.specs.declared.scalar.Scalar.TheVariants as t
 use Rattle.sl_specs.specs.declared.class.Class.{Class}
-use Rattle.sl_model.specs.Containers.{Cell, Cont, Memory, cont_at, size, keys, new_cells, made, end_from, Part, key_part, value_part, with_part}
-use Rattle.sl_model.specs.Containers.{is_writable, cont_with, write_element, empty_memory}
-use Rattle.sl_model.specs.Edits.{Change, old, numbers, theirs_from, change_of, changed, rebuilt, next_of_two, after, after_two}
-use Rattle.sl_model.specs.Forms.{is_hash, is_keyed}
+use Rattle.sl_model.specs.Memory.Containers.{Cell, Cont, Memory, cont_at, size, keys, new_cells, made, end_from, Part, key_part, value_part, with_part}
+use Rattle.sl_model.specs.Memory.Containers.{is_writable, cont_with, write_element, empty_memory}
+use Rattle.sl_model.specs.Memory.Edits.{Change, old, numbers, theirs_from, change_of, changed, rebuilt, next_of_two, after, after_two}
+use Rattle.sl_model.specs.Memory.Forms.{is_hash, is_keyed}
 use Rattle.sl_model.specs.Numbers.{converted, fits}
-use Rattle.sl_model.specs.Orderly.{Each, AreInOrder, HoldsInts, IsOrderlyCont, IsOrderly}
-use Rattle.sl_model.specs.Schedule.{after_picks, scattered}
-use Rattle.sl_model.specs.Situation.{Situation, own, item}
-use Rattle.sl_model.specs.Actions.{Effect, keeps, edits, changes, trades, inserts, appends, makes, makes_by_keys}
-use Rattle.sl_model.specs.Effects.{Left, insertion_class, insertion, append, append_all, known_key, key_change, key_picks, insert_key}
-use Rattle.sl_model.specs.Effects.{insert_all, does}
+use Rattle.sl_model.specs.Memory.Orderly.{Each, AreInOrder, HoldsInts, IsOrderlyCont, IsOrderly}
+use Rattle.sl_model.specs.Memory.Schedule.{after_picks, scattered}
+use Rattle.sl_model.specs.LibraryCalls.Situation.{Situation, own, item}
+use Rattle.sl_model.specs.LibraryCalls.Actions.{Effect, keeps, edits, changes, trades, inserts, appends, makes, makes_by_keys}
+use Rattle.sl_model.specs.LibraryCalls.Effects.{Left, insertion_class, insertion, append, append_all, known_key, key_change, key_picks, insert_key}
+use Rattle.sl_model.specs.LibraryCalls.Effects.{insert_all, does}
 use Rattle.sl_model.proofs.AsInts.{converted-fits}
 use Rattle.sl_model.proofs.After.{get-after-own, get-after-other, cont_at-after-own, cont_of_there}
 use Rattle.sl_model.proofs.FineEffects.{IsThere, IsFine}

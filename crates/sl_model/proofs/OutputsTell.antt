@@ -6,13 +6,13 @@ use Rattle.sl_base.specs.declared.form.Form.{Form}
 use Rattle.sl_specs.specs.declared.class.Class.{Class}
 use Rattle.sl_specs.specs.declared.need.Need.TheVariants as n
 use Rattle.sl_specs.specs.Rows.{Row as TableRow}
-use Rattle.sl_model.specs.Containers.{Memory}
-use Rattle.sl_model.specs.Values.{Value, nothing, number, iterator, pair, two, scalar_at, container_at, element_at, Shape, no_value, a_stamp}
-use Rattle.sl_model.specs.Operands.{Sort, an_iterator, a_writer, a_sequence, is_of, are_of}
-use Rattle.sl_model.specs.Situation.{Situation, argument, place_of, index, container_of, their}
-use Rattle.sl_model.specs.Needs.{output_place_fails, output_fails, failures, all_failures, first_failure}
-use Rattle.sl_model.specs.Effects.{does}
-use Rattle.sl_model.specs.WritingAlgorithms.{output, outputs, after_output}
+use Rattle.sl_model.specs.Memory.Containers.{Memory}
+use Rattle.sl_model.specs.LibraryCalls.Values.{Value, nothing, number, iterator, pair, two, scalar_at, container_at, element_at, Shape, no_value, a_stamp}
+use Rattle.sl_model.specs.LibraryCalls.Operands.{Sort, an_iterator, a_writer, a_sequence, is_of, are_of}
+use Rattle.sl_model.specs.LibraryCalls.Situation.{Situation, argument, place_of, index, container_of, their}
+use Rattle.sl_model.specs.LibraryCalls.Needs.{output_place_fails, output_fails, failures, all_failures, first_failure}
+use Rattle.sl_model.specs.LibraryCalls.Effects.{does}
+use Rattle.sl_model.specs.LibraryCalls.WritingAlgorithms.{output, outputs, after_output}
 use Rattle.sl_model.proofs.Growing.{makes_one}
 use Rattle.sl_model.proofs.Placing.{IsPlaced}
 use Rattle.sl_model.proofs.Tells.{shape_of_answer}

@@ -3,9 +3,9 @@ use Rattle.std.proofs.Common.{◌≡◌, ℕ, zero, suc, ◌+◌, ◌<◌, Bool,
 use Rattle.std.proofs.Common.{ap, sym, ◌∙◌, arith, ◌⊎◌, inl, inr, subst, if◌then◌else◌, ℤ}
 use Rattle.std.specs.Prelude.{filter}
 use Rattle.std.specs.List.{slice_get}
-use Rattle.sl_model.specs.Orders.{how_many, same, first_of_key}
-use Rattle.sl_model.specs.Orderly.{Each, EachPair}
-use Rattle.sl_model.specs.Schedule.{pick, put_at, put_all, hash_place, scattered}
+use Rattle.sl_model.specs.Memory.Orders.{how_many, same, first_of_key}
+use Rattle.sl_model.specs.Memory.Orderly.{Each, EachPair}
+use Rattle.sl_model.specs.Memory.Schedule.{pick, put_at, put_all, hash_place, scattered}
 
 -- ## Each
 

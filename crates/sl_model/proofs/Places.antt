@@ -5,8 +5,8 @@ use Rattle.std.proofs.Common.{refl, ap, sym, arith, ◌⊎◌, inl, inr, ⊎_eli
 use Rattle.std.specs.List.{slice_get}
 use Rattle.std.proofs.lemmas.Bool.{cases_lt, eqb-true, eq-eqb}
 use Rattle.sl_base.specs.declared.limits.TheConstants.{ELEMENTS}
-use Rattle.sl_model.specs.Containers.{Cont, size}
-use Rattle.sl_model.specs.Edits.{Source, old, written, theirs, new, Change}
+use Rattle.sl_model.specs.Memory.Containers.{Cont, size}
+use Rattle.sl_model.specs.Memory.Edits.{Source, old, written, theirs, new, Change}
 use Rattle.sl_model.proofs.Columns.{TakesOwn, TakesTheirs, IsInside, AllInside}
 use Rattle.sl_model.proofs.ColumnLaws.{IsTaken, IsTakenOver}
 use Rattle.sl_model.proofs.After.{IsFair}

@@ -12,13 +12,13 @@ use Rattle.std.proofs.lemmas.List.Sums.{length-filter, count_by-le-length}
 use Rattle.std.proofs.lemmas.Option.{slice_get-get_or, get_or_from_slice_get, slice_get-map}
 use Rattle.sl_base.specs.declared.form.Form.TheVariants as f
 use Rattle.sl_specs.specs.declared.class.Class.{Class}
-use Rattle.sl_model.specs.Classes.{Edit}
-use Rattle.sl_model.specs.Containers.{Cell, Cont, Memory, size, stamps, keys, cont_at, stamp_at}
-use Rattle.sl_model.specs.Edits.{Change, olds, news, changed, change_of, after}
-use Rattle.sl_model.specs.Schedule.{hash_place}
-use Rattle.sl_model.specs.Orders.{first_of_key, how_many, same}
-use Rattle.sl_model.specs.Actions.{Answer, nothing, gives_number, gives_place, gives_place_and, gives_places, gives_element}
-use Rattle.sl_model.specs.Good.{IsSound}
+use Rattle.sl_model.specs.Memory.Classes.{Edit}
+use Rattle.sl_model.specs.Memory.Containers.{Cell, Cont, Memory, size, stamps, keys, cont_at, stamp_at}
+use Rattle.sl_model.specs.Memory.Edits.{Change, olds, news, changed, change_of, after}
+use Rattle.sl_model.specs.Memory.Schedule.{hash_place}
+use Rattle.sl_model.specs.Memory.Orders.{first_of_key, how_many, same}
+use Rattle.sl_model.specs.LibraryCalls.Actions.{Answer, nothing, gives_number, gives_place, gives_place_and, gives_places, gives_element}
+use Rattle.sl_model.specs.Runs.Good.{IsSound}
 use Rattle.sl_model.proofs.Getting.{get_some, get_set_same}
 use Rattle.sl_model.proofs.FairChanges.{length_olds}
 use Rattle.sl_model.proofs.Columns.{stamp_of_end, rebuilt-size}

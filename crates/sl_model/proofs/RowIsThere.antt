@@ -10,16 +10,16 @@ use Rattle.sl_syntax.specs.declared.typed.callee.Callee.{Callee}
 use Rattle.sl_syntax.specs.declared.typed.callee.Callee.TheVariants as callees
 use Rattle.sl_syntax.specs.declared.typed.operator.Operator.{Operator}
 use Rattle.sl_syntax.specs.declared.typed.operator.Operator.TheVariants as operators
-use Rattle.sl_model.specs.Containers.{Memory}
-use Rattle.sl_model.specs.Operands.{an_iterator, are_of}
-use Rattle.sl_model.specs.Operators.{operator_name, operator_sorts}
-use Rattle.sl_model.specs.Values.{Value, nothing, container_at, Args, unbuilt}
-use Rattle.sl_model.specs.Situation.{container_of_value}
-use Rattle.sl_model.specs.Rows.{Object, of_form, new_one, of_first, Row, member_row, algorithm_row, row_of_operator, row_of}
-use Rattle.sl_model.specs.Library.{object_in, row_out, on_object, called_row, lib}
-use Rattle.sl_model.specs.WellTypedTypes.{ExprType, container_type, Scope, variable_type, has_type}
-use Rattle.sl_model.specs.WellTypedCalls.{operator_type, call_type}
-use Rattle.sl_model.specs.WellTypedStatements.{is_making}
+use Rattle.sl_model.specs.Memory.Containers.{Memory}
+use Rattle.sl_model.specs.LibraryCalls.Operands.{an_iterator, are_of}
+use Rattle.sl_model.specs.LibraryCalls.Operators.{operator_name, operator_sorts}
+use Rattle.sl_model.specs.LibraryCalls.Values.{Value, nothing, container_at, Args, unbuilt}
+use Rattle.sl_model.specs.LibraryCalls.Situation.{container_of_value}
+use Rattle.sl_model.specs.LibraryCalls.Rows.{Object, of_form, new_one, of_first, Row, member_row, algorithm_row, row_of_operator, row_of}
+use Rattle.sl_model.specs.LibraryCalls.Library.{object_in, row_out, on_object, called_row, lib}
+use Rattle.sl_model.specs.Typing.WellTypedTypes.{ExprType, container_type, Scope, variable_type, has_type}
+use Rattle.sl_model.specs.Typing.WellTypedCalls.{operator_type, call_type}
+use Rattle.sl_model.specs.Typing.WellTypedStatements.{is_making}
 use Rattle.sl_model.proofs.Called.{IsCalled, situation, has_object}
 use Rattle.sl_model.proofs.Fitting.{forms_of, IsIteratorOf, Fits, AllFit, ObjectFits}
 use Rattle.sl_model.proofs.OperatorSorts.{operator_operands_of}

@@ -7,16 +7,16 @@ use Rattle.sl_base.specs.declared.place.Place.{Place}
 use Rattle.sl_syntax.specs.declared.typed.callee.Callee.{Callee}
 use Rattle.sl_syntax.specs.declared.typed.parameter.ParameterKind.{ParameterKind}
 use Rattle.sl_syntax.specs.Typed.{Expr, Stmt, Stmts, Typed, Function}
-use Rattle.sl_model.specs.Values.{Value, Lib}
-use Rattle.sl_model.specs.Library.{lib}
-use Rattle.sl_model.specs.State.{State}
-use Rattle.sl_model.specs.Eval.{Out, Gives, Stops, World, call_own, eval}
-use Rattle.sl_model.specs.Exec.{Flow, Next, Broke, Continued, Returned, Over, exec, exec_all}
-use Rattle.sl_model.specs.Calls.{world_of, call_of}
-use Rattle.sl_model.specs.Run.{empty_state, first_place, out_of, end_state, main_out}
-use Rattle.sl_model.specs.Good.{AreApart, IsGood}
-use Rattle.sl_model.specs.Shapes.{Shape, Gift, a_value, Signature, shape_of_result, gift_of, AllSuit, containers_in, lib_shape, lib_makes}
-use Rattle.sl_model.specs.Scoped.{InExpr, InStmt, InStmts, IsScoped}
+use Rattle.sl_model.specs.LibraryCalls.Values.{Value, Lib}
+use Rattle.sl_model.specs.LibraryCalls.Library.{lib}
+use Rattle.sl_model.specs.Runs.State.{State}
+use Rattle.sl_model.specs.Runs.Eval.{Out, Gives, Stops, World, call_own, eval}
+use Rattle.sl_model.specs.Runs.Exec.{Flow, Next, Broke, Continued, Returned, Over, exec, exec_all}
+use Rattle.sl_model.specs.Runs.Calls.{world_of, call_of}
+use Rattle.sl_model.specs.Runs.Run.{empty_state, first_place, out_of, end_state, main_out}
+use Rattle.sl_model.specs.Runs.Good.{AreApart, IsGood}
+use Rattle.sl_model.specs.Typing.Shapes.{Shape, Gift, a_value, Signature, shape_of_result, gift_of, AllSuit, containers_in, lib_shape, lib_makes}
+use Rattle.sl_model.specs.Typing.Scoped.{InExpr, InStmt, InStmts, IsScoped}
 use Rattle.sl_model.proofs.RunSound.{empty-sound}
 use Rattle.sl_model.proofs.Locations.{below_none, apart_none}
 use Rattle.sl_model.proofs.Levels.{Level, level_of, counts_of, Now, Above}

@@ -4,13 +4,13 @@ use Rattle.std.specs.Prelude.{ℤ}
 use Rattle.sl_base.specs.declared.limits.TheConstants.{CALLS}
 use Rattle.sl_syntax.specs.declared.typed.callee.Callee.{Callee}
 use Rattle.sl_syntax.specs.Typed.{Typed}
-use Rattle.sl_model.specs.Containers.{Memory}
-use Rattle.sl_model.specs.Values.{Args, LibOut, trapped, thrown, faulted, gives, unbuilt}
-use Rattle.sl_model.specs.Library.{lib}
-use Rattle.sl_model.specs.Eval.{Out, Gives, Stops}
-use Rattle.sl_model.specs.Run.{empty_state, first_place, main_out, end_state}
-use Rattle.sl_model.specs.Good.{IsSound}
-use Rattle.sl_model.specs.Orderly.{IsOrderly}
+use Rattle.sl_model.specs.Memory.Containers.{Memory}
+use Rattle.sl_model.specs.LibraryCalls.Values.{Args, LibOut, trapped, thrown, faulted, gives, unbuilt}
+use Rattle.sl_model.specs.LibraryCalls.Library.{lib}
+use Rattle.sl_model.specs.Runs.Eval.{Out, Gives, Stops}
+use Rattle.sl_model.specs.Runs.Run.{empty_state, first_place, main_out, end_state}
+use Rattle.sl_model.specs.Runs.Good.{IsSound}
+use Rattle.sl_model.specs.Memory.Orderly.{IsOrderly}
 use Rattle.sl_model.proofs.Ending.{end_from-sound}
 use Rattle.sl_model.proofs.Writing.{write-sound}
 use Rattle.sl_model.proofs.Keeps.{InAnswer, InOut}

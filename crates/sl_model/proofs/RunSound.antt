@@ -5,15 +5,15 @@ use Rattle.sl_base.specs.declared.limits.TheConstants.{CALLS}
 use Rattle.sl_base.specs.declared.place.Place.{Place}
 use Rattle.sl_syntax.specs.declared.typed.callee.Callee.{Callee}
 use Rattle.sl_syntax.specs.Typed.{Expr, Stmt, Typed}
-use Rattle.sl_model.specs.Containers.{Memory, empty_memory}
-use Rattle.sl_model.specs.Values.{Value, Args, Lib}
-use Rattle.sl_model.specs.Library.{lib}
-use Rattle.sl_model.specs.State.{State}
-use Rattle.sl_model.specs.Eval.{World, call_own, eval}
-use Rattle.sl_model.specs.Exec.{exec}
-use Rattle.sl_model.specs.Calls.{world_of, call_of}
-use Rattle.sl_model.specs.Run.{empty_state, first_place, out_of}
-use Rattle.sl_model.specs.Good.{AreKeptApart, IsSound}
+use Rattle.sl_model.specs.Memory.Containers.{Memory, empty_memory}
+use Rattle.sl_model.specs.LibraryCalls.Values.{Value, Args, Lib}
+use Rattle.sl_model.specs.LibraryCalls.Library.{lib}
+use Rattle.sl_model.specs.Runs.State.{State}
+use Rattle.sl_model.specs.Runs.Eval.{World, call_own, eval}
+use Rattle.sl_model.specs.Runs.Exec.{exec}
+use Rattle.sl_model.specs.Runs.Calls.{world_of, call_of}
+use Rattle.sl_model.specs.Runs.Run.{empty_state, first_place, out_of}
+use Rattle.sl_model.specs.Runs.Good.{AreKeptApart, IsSound}
 use Rattle.sl_model.proofs.Ending.{end_from-sound}
 use Rattle.sl_model.proofs.Writing.{write-sound}
 use Rattle.sl_model.proofs.Keeps.{InAnswer, InOut, keeps_eval}

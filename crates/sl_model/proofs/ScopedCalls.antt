@@ -15,18 +15,18 @@ use Rattle.sl_syntax.specs.declared.typed.callee.Callee.TheVariants as callees
 use Rattle.sl_syntax.specs.declared.typed.operator.Operator.{Operator}
 use Rattle.sl_syntax.specs.declared.typed.operator.Operator.TheVariants as operators
 use Rattle.sl_syntax.specs.Written.{is_map}
-use Rattle.sl_model.specs.Forms.{is_keyed, is_hash, is_random_access}
-use Rattle.sl_model.specs.Values.{Shape, a_number, a_stamp, an_element}
-use Rattle.sl_model.specs.Rows.{Row as Meaning, shape_of_return, meaning_of, shape_of_operator}
-use Rattle.sl_model.specs.Shapes.{is_new_one, shape_of_row, row_makes, lib_shape, lib_makes}
-use Rattle.sl_model.specs.WellTypedTypes.{ExprType, empty_type, scalar_type, element_type, iterator_type}
-use Rattle.sl_model.specs.WellTypedTypes.{container_type, Scope, variable_type, has_type, is_scalar}
-use Rattle.sl_model.specs.WellTypedTypes.{is_iterator_of, same_iterators, is_const}
-use Rattle.sl_model.specs.WellTypedCalls.{is_random, fits}
-use Rattle.sl_model.specs.WellTypedCalls.{result_type, row_at, is_constructor, is_advance, may_be_called, member_type, is_algorithm, algorithm_type}
-use Rattle.sl_model.specs.WellTypedCalls.{row_type, is_output, appending, appending_type, constructs, is_equality, operator_type, call_type}
-use Rattle.sl_model.specs.WellTypedCalls.{is_moving_row, is_moving}
-use Rattle.sl_model.specs.WellTypedStatements.{is_making}
+use Rattle.sl_model.specs.Memory.Forms.{is_keyed, is_hash, is_random_access}
+use Rattle.sl_model.specs.LibraryCalls.Values.{Shape, a_number, a_stamp, an_element}
+use Rattle.sl_model.specs.LibraryCalls.Rows.{Row as Meaning, shape_of_return, meaning_of, shape_of_operator}
+use Rattle.sl_model.specs.Typing.Shapes.{is_new_one, shape_of_row, row_makes, lib_shape, lib_makes}
+use Rattle.sl_model.specs.Typing.WellTypedTypes.{ExprType, empty_type, scalar_type, element_type, iterator_type}
+use Rattle.sl_model.specs.Typing.WellTypedTypes.{container_type, Scope, variable_type, has_type, is_scalar}
+use Rattle.sl_model.specs.Typing.WellTypedTypes.{is_iterator_of, same_iterators, is_const}
+use Rattle.sl_model.specs.Typing.WellTypedCalls.{is_random, fits}
+use Rattle.sl_model.specs.Typing.WellTypedCalls.{result_type, row_at, is_constructor, is_advance, may_be_called, member_type, is_algorithm, algorithm_type}
+use Rattle.sl_model.specs.Typing.WellTypedCalls.{row_type, is_output, appending, appending_type, constructs, is_equality, operator_type, call_type}
+use Rattle.sl_model.specs.Typing.WellTypedCalls.{is_moving_row, is_moving}
+use Rattle.sl_model.specs.Typing.WellTypedStatements.{is_making}
 use Rattle.sl_model.proofs.Passing.{first_of_both, second_of_both, three_parts}
 use Rattle.sl_model.proofs.TypedOperands.{only_holds, only_rest}
 use Rattle.sl_model.proofs.ScopedRows.{IsShaped, right_result, right_call, right_move, is_right, right_found, row_right, result_shaped, only_shaped}

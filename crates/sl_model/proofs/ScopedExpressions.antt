@@ -13,19 +13,19 @@ use Rattle.sl_syntax.specs.declared.typed.parameter.ParameterKind.TheVariants as
 use Rattle.sl_syntax.specs.Typed.{Expr, literal, held, iterator, convert, negate, logical_not, logical_and, logical_or, arithmetic, comparison}
 use Rattle.sl_syntax.specs.Typed.{increment, move, call, own_call, first, second, container, handed_scalar, Left, scalar, reference, element}
 use Rattle.sl_syntax.specs.Typed.{Operands, none, with, Function, Typed}
-use Rattle.sl_model.specs.Values.{Shape, an_element}
-use Rattle.sl_model.specs.Good.{AreApart}
-use Rattle.sl_model.specs.Shapes.{Gift, HasParts, gift_of, gifts_of, Suits, AllSuit, container_in, containers_in}
-use Rattle.sl_model.specs.Shapes.{lib_shape}
-use Rattle.sl_model.specs.Scoped.{HasObject, IsCall, InExpr, InLeft, InOperands}
-use Rattle.sl_model.specs.WellTypedTypes.{ExprType, scalar_type, element_type, iterator_type, iterator_and_bool, two_iterators}
-use Rattle.sl_model.specs.WellTypedTypes.{container_type, handed_type, Scope, variable_type, has_type, is_scalar, is_number}
-use Rattle.sl_model.specs.WellTypedCalls.{call_type}
-use Rattle.sl_model.specs.WellTypedExpressions.{only_element, type_of_first, type_of_second, goes_to, go_to, type_given, function_type, is_arrow}
-use Rattle.sl_model.specs.WellTypedExpressions.{is_variable, type_of, type_of_left, types_of}
-use Rattle.sl_model.specs.WellTypedNodes.{Node, nodes_in, nodes_in_left, nodes_in_operands}
-use Rattle.sl_model.specs.WellTypedOrder.{Variable, the_scalar as scalar_bound, the_container as container_bound, the_iterator as iterator_bound}
-use Rattle.sl_model.specs.WellTypedOrder.{is_among, are_apart, bound_in, listed, binds_apart}
+use Rattle.sl_model.specs.LibraryCalls.Values.{Shape, an_element}
+use Rattle.sl_model.specs.Runs.Good.{AreApart}
+use Rattle.sl_model.specs.Typing.Shapes.{Gift, HasParts, gift_of, gifts_of, Suits, AllSuit, container_in, containers_in}
+use Rattle.sl_model.specs.Typing.Shapes.{lib_shape}
+use Rattle.sl_model.specs.Typing.Scoped.{HasObject, IsCall, InExpr, InLeft, InOperands}
+use Rattle.sl_model.specs.Typing.WellTypedTypes.{ExprType, scalar_type, element_type, iterator_type, iterator_and_bool, two_iterators}
+use Rattle.sl_model.specs.Typing.WellTypedTypes.{container_type, handed_type, Scope, variable_type, has_type, is_scalar, is_number}
+use Rattle.sl_model.specs.Typing.WellTypedCalls.{call_type}
+use Rattle.sl_model.specs.Typing.WellTypedExpressions.{only_element, type_of_first, type_of_second, goes_to, go_to, type_given, function_type, is_arrow}
+use Rattle.sl_model.specs.Typing.WellTypedExpressions.{is_variable, type_of, type_of_left, types_of}
+use Rattle.sl_model.specs.Typing.WellTypedNodes.{Node, nodes_in, nodes_in_left, nodes_in_operands}
+use Rattle.sl_model.specs.Typing.WellTypedOrder.{Variable, the_scalar as scalar_bound, the_container as container_bound, the_iterator as iterator_bound}
+use Rattle.sl_model.specs.Typing.WellTypedOrder.{is_among, are_apart, bound_in, listed, binds_apart}
 use Rattle.sl_model.proofs.Passing.{first_of_both, second_of_both, both_lists}
 use Rattle.sl_model.proofs.TypedNumbers.{variable_is_there}
 use Rattle.sl_model.proofs.TypedOperands.{typed_by, only_holds, only_rest, all_typed}

@@ -11,16 +11,16 @@ use Rattle.sl_base.specs.declared.scalar.Scalar.TheVariants as t
 use Rattle.sl_syntax.specs.Typed.{Expr, literal, held, iterator, convert, negate, logical_not, logical_and, logical_or, arithmetic, comparison}
 use Rattle.sl_syntax.specs.Typed.{increment, move, call, own_call, first, second, container, handed_scalar, Left, scalar, reference, element}
 use Rattle.sl_syntax.specs.Typed.{Function, Typed}
-use Rattle.sl_model.specs.Values.{Shape, no_value, a_number, a_stamp, a_pair, two_stamps}
-use Rattle.sl_model.specs.Shapes.{Gift, a_value, the_scalar, the_container, Signature, shape_of_result, shape_of_call, shape_of_second}
-use Rattle.sl_model.specs.Shapes.{gift_of, lib_shape, lib_makes, signature_of}
-use Rattle.sl_model.specs.Scoped.{Counts}
-use Rattle.sl_model.specs.WellTypedTypes.{ExprType, empty_type, scalar_type, element_type, iterator_type, iterator_and_bool, two_iterators}
-use Rattle.sl_model.specs.WellTypedTypes.{container_type, handed_type, int_reference, entry_reference, Scope, variable_type, has_type, only}
-use Rattle.sl_model.specs.WellTypedTypes.{is_scalar, is_number, is_written, is_arithmetic, are_comparable, is_iterator}
-use Rattle.sl_model.specs.WellTypedCalls.{call_type, is_moving}
-use Rattle.sl_model.specs.WellTypedExpressions.{is_literal, only_value, only_element, handed, type_of_first, type_of_second, type_of_use}
-use Rattle.sl_model.specs.WellTypedExpressions.{go_to, type_given, function_type, is_arrow, is_variable, type_of, type_of_left, types_of}
+use Rattle.sl_model.specs.LibraryCalls.Values.{Shape, no_value, a_number, a_stamp, a_pair, two_stamps}
+use Rattle.sl_model.specs.Typing.Shapes.{Gift, a_value, the_scalar, the_container, Signature, shape_of_result, shape_of_call, shape_of_second}
+use Rattle.sl_model.specs.Typing.Shapes.{gift_of, lib_shape, lib_makes, signature_of}
+use Rattle.sl_model.specs.Typing.Scoped.{Counts}
+use Rattle.sl_model.specs.Typing.WellTypedTypes.{ExprType, empty_type, scalar_type, element_type, iterator_type, iterator_and_bool, two_iterators}
+use Rattle.sl_model.specs.Typing.WellTypedTypes.{container_type, handed_type, int_reference, entry_reference, Scope, variable_type, has_type, only}
+use Rattle.sl_model.specs.Typing.WellTypedTypes.{is_scalar, is_number, is_written, is_arithmetic, are_comparable, is_iterator}
+use Rattle.sl_model.specs.Typing.WellTypedCalls.{call_type, is_moving}
+use Rattle.sl_model.specs.Typing.WellTypedExpressions.{is_literal, only_value, only_element, handed, type_of_first, type_of_second, type_of_use}
+use Rattle.sl_model.specs.Typing.WellTypedExpressions.{go_to, type_given, function_type, is_arrow, is_variable, type_of, type_of_left, types_of}
 use Rattle.sl_model.proofs.Passing.{first_of_both, second_of_both}
 use Rattle.sl_model.proofs.TypedOperands.{typed_by}
 use Rattle.sl_model.proofs.TypedParts.{second_stands}

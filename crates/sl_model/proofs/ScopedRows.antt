@@ -14,15 +14,15 @@ use Rattle.sl_specs.specs.declared.return_type.ReturnType.TheVariants as r
 use Rattle.sl_specs.specs.Rows.{Row}
 use Rattle.sl_specs.specs.Table.{table, same_call}
 use Rattle.sl_syntax.specs.Written.{is_map}
-use Rattle.sl_model.specs.Forms.{is_keyed, is_hash}
-use Rattle.sl_model.specs.Values.{Shape, a_number, a_stamp, a_pair, two_stamps, an_element}
-use Rattle.sl_model.specs.Rows.{shape_of_return, algorithm_shape}
-use Rattle.sl_model.specs.WellTypedTypes.{ExprType, empty_type, scalar_type, element_type, iterator_type, iterator_and_bool, two_iterators}
-use Rattle.sl_model.specs.WellTypedTypes.{has_type, only, is_iterator, is_iterator_that}
-use Rattle.sl_model.specs.WellTypedTypes.{is_writing_iterator, same_iterators}
-use Rattle.sl_model.specs.WellTypedCalls.{one, range, fits_letter, width, fits, first_type, last_type}
-use Rattle.sl_model.specs.WellTypedCalls.{result_type, row_at, is_advance}
-use Rattle.sl_model.specs.WellTypedCalls.{is_output}
+use Rattle.sl_model.specs.Memory.Forms.{is_keyed, is_hash}
+use Rattle.sl_model.specs.LibraryCalls.Values.{Shape, a_number, a_stamp, a_pair, two_stamps, an_element}
+use Rattle.sl_model.specs.LibraryCalls.Rows.{shape_of_return, algorithm_shape}
+use Rattle.sl_model.specs.Typing.WellTypedTypes.{ExprType, empty_type, scalar_type, element_type, iterator_type, iterator_and_bool, two_iterators}
+use Rattle.sl_model.specs.Typing.WellTypedTypes.{has_type, only, is_iterator, is_iterator_that}
+use Rattle.sl_model.specs.Typing.WellTypedTypes.{is_writing_iterator, same_iterators}
+use Rattle.sl_model.specs.Typing.WellTypedCalls.{one, range, fits_letter, width, fits, first_type, last_type}
+use Rattle.sl_model.specs.Typing.WellTypedCalls.{result_type, row_at, is_advance}
+use Rattle.sl_model.specs.Typing.WellTypedCalls.{is_output}
 use Rattle.sl_model.proofs.Passing.{first_of_both, second_of_both, three_parts, passes_at}
 
 -- a call of a type gives a value of a shape

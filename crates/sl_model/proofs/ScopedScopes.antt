@@ -13,14 +13,14 @@ use Rattle.sl_syntax.specs.declared.typed.parameter.ParameterKind.TheVariants as
 use Rattle.sl_syntax.specs.Typed.{Declaration, unset_scalar, set_scalar, set_iterator, binds_reference, makes, First, no_first, declares_first}
 use Rattle.sl_syntax.specs.Typed.{does_first, Typed, element}
 use Rattle.sl_syntax.specs.Written.{is_map}
-use Rattle.sl_model.specs.Forms.{is_keyed}
-use Rattle.sl_model.specs.Scoped.{one_scalar, one_container, one_iterator, with_declaration, with_first, with_range}
-use Rattle.sl_model.specs.Scoped.{with_parameter as counting_parameter, with_parameters as counting_parameters}
-use Rattle.sl_model.specs.WellTypedTypes.{ExprType, scalar_type, iterator_type, container_type, int_reference, entry_reference, Scope, with_scalar}
-use Rattle.sl_model.specs.WellTypedTypes.{with_container, with_iterator, is_const}
-use Rattle.sl_model.specs.WellTypedExpressions.{type_of, type_of_left}
-use Rattle.sl_model.specs.WellTypedStatements.{reference_to, behind, behind_first, may_go_over, in_range, with_parameter, with_parameters}
-use Rattle.sl_model.specs.WellTypedStatements.{no_variables}
+use Rattle.sl_model.specs.Memory.Forms.{is_keyed}
+use Rattle.sl_model.specs.Typing.Scoped.{one_scalar, one_container, one_iterator, with_declaration, with_first, with_range}
+use Rattle.sl_model.specs.Typing.Scoped.{with_parameter as counting_parameter, with_parameters as counting_parameters}
+use Rattle.sl_model.specs.Typing.WellTypedTypes.{ExprType, scalar_type, iterator_type, container_type, int_reference, entry_reference, Scope, with_scalar}
+use Rattle.sl_model.specs.Typing.WellTypedTypes.{with_container, with_iterator, is_const}
+use Rattle.sl_model.specs.Typing.WellTypedExpressions.{type_of, type_of_left}
+use Rattle.sl_model.specs.Typing.WellTypedStatements.{reference_to, behind, behind_first, may_go_over, in_range, with_parameter, with_parameters}
+use Rattle.sl_model.specs.Typing.WellTypedStatements.{no_variables}
 use Rattle.sl_model.proofs.ScopedGifts.{scope_counts, is_scalar_type, is_container_type, KnowsText}
 
 -- a list with one more is one longer

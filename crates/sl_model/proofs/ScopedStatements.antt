@@ -9,19 +9,19 @@ use Rattle.sl_syntax.specs.Typed.{Expr, element, Cond, read, not_read, test, alw
 use Rattle.sl_syntax.specs.Typed.{prints, evaluates, assigns, updates, moves_to, Declaration, unset_scalar, set_scalar, set_iterator, binds_reference}
 use Rattle.sl_syntax.specs.Typed.{makes, First, no_first, declares_first, does_first, Stmt, block, declares, choice, choice_else, while, for}
 use Rattle.sl_syntax.specs.Typed.{range_for, break, continue, gives_back, does, Stmts, no_more, followed, Typed}
-use Rattle.sl_model.specs.Good.{AreBelow}
-use Rattle.sl_model.specs.Values.{a_stamp}
-use Rattle.sl_model.specs.Shapes.{Gift, a_value, shape_of_result, gift_of}
-use Rattle.sl_model.specs.Scoped.{Counts, HasObject, InExpr, InCond, InPrinted, InPrint, InEffect, InDeclaration, InFirst, InLast, AsksWell, IsPart}
-use Rattle.sl_model.specs.Scoped.{GivesBack, InStmt, InStmts}
-use Rattle.sl_model.specs.WellTypedTypes.{ExprType, no_type, scalar_type, element_type, iterator_type, Scope, is_within, variable_type, has_type}
-use Rattle.sl_model.specs.WellTypedTypes.{is_scalar, is_number, is_written, works_in, is_iterator, same_iterators}
-use Rattle.sl_model.specs.WellTypedExpressions.{goes_to, type_given, type_of, type_of_left, types_of}
-use Rattle.sl_model.specs.WellTypedNodes.{nodes_in, nodes_in_left, nodes_in_operands, nodes_in_value, nodes_in_cond, nodes_in_printed}
-use Rattle.sl_model.specs.WellTypedNodes.{nodes_in_effect, nodes_in_last, nodes_in_declaration, nodes_in_first, nodes_in_stmt, nodes_in_stmts}
-use Rattle.sl_model.specs.WellTypedStatements.{assigns_others, may_stand_alone, is_written_left, takes, are_ints, is_typed_cond, is_typed_item}
-use Rattle.sl_model.specs.WellTypedStatements.{is_typed_effect, is_typed_last, is_typed_declaration, behind, is_typed_first, behind_first}
-use Rattle.sl_model.specs.WellTypedStatements.{may_go_over, in_range, is_typed_return, is_typed_stmt, are_typed_stmts}
+use Rattle.sl_model.specs.Runs.Good.{AreBelow}
+use Rattle.sl_model.specs.LibraryCalls.Values.{a_stamp}
+use Rattle.sl_model.specs.Typing.Shapes.{Gift, a_value, shape_of_result, gift_of}
+use Rattle.sl_model.specs.Typing.Scoped.{Counts, HasObject, InExpr, InCond, InPrinted, InPrint, InEffect, InDeclaration, InFirst, InLast, AsksWell, IsPart}
+use Rattle.sl_model.specs.Typing.Scoped.{GivesBack, InStmt, InStmts}
+use Rattle.sl_model.specs.Typing.WellTypedTypes.{ExprType, no_type, scalar_type, element_type, iterator_type, Scope, is_within, variable_type, has_type}
+use Rattle.sl_model.specs.Typing.WellTypedTypes.{is_scalar, is_number, is_written, works_in, is_iterator, same_iterators}
+use Rattle.sl_model.specs.Typing.WellTypedExpressions.{goes_to, type_given, type_of, type_of_left, types_of}
+use Rattle.sl_model.specs.Typing.WellTypedNodes.{nodes_in, nodes_in_left, nodes_in_operands, nodes_in_value, nodes_in_cond, nodes_in_printed}
+use Rattle.sl_model.specs.Typing.WellTypedNodes.{nodes_in_effect, nodes_in_last, nodes_in_declaration, nodes_in_first, nodes_in_stmt, nodes_in_stmts}
+use Rattle.sl_model.specs.Typing.WellTypedStatements.{assigns_others, may_stand_alone, is_written_left, takes, are_ints, is_typed_cond, is_typed_item}
+use Rattle.sl_model.specs.Typing.WellTypedStatements.{is_typed_effect, is_typed_last, is_typed_declaration, behind, is_typed_first, behind_first}
+use Rattle.sl_model.specs.Typing.WellTypedStatements.{may_go_over, in_range, is_typed_return, is_typed_stmt, are_typed_stmts}
 use Rattle.sl_model.proofs.Passing.{first_of_both, second_of_both, three_parts, five_parts, passes_at}
 use Rattle.sl_model.proofs.TypedNumbers.{variable_is_there}
 use Rattle.sl_model.proofs.TypedOperands.{typed_by, second_iterator_typed}

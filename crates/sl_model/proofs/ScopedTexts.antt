@@ -5,15 +5,15 @@ use Rattle.sl_base.specs.declared.scalar.Scalar.TheVariants as t
 use Rattle.sl_syntax.specs.declared.typed.parameter.ParameterKind.{ParameterKind}
 use Rattle.sl_syntax.specs.declared.typed.parameter.ParameterKind.TheVariants as parameters
 use Rattle.sl_syntax.specs.Typed.{Function, Typed}
-use Rattle.sl_model.specs.Values.{a_number}
-use Rattle.sl_model.specs.Shapes.{shape_of_result, lib_shape, lib_makes}
-use Rattle.sl_model.specs.Scoped.{Counts, InStmt, IsScopedFunction, IsScoped}
-use Rattle.sl_model.specs.WellTypedTypes.{is_within, has_type, is_scalar}
-use Rattle.sl_model.specs.WellTypedExpressions.{type_given}
-use Rattle.sl_model.specs.WellTypedNodes.{nodes_in_stmt}
-use Rattle.sl_model.specs.WellTypedOrder.{binds_apart}
-use Rattle.sl_model.specs.WellTypedStatements.{is_typed_stmt, with_parameters, no_variables, is_block}
-use Rattle.sl_model.specs.WellTyped.{has_no_alias, WellTyped}
+use Rattle.sl_model.specs.LibraryCalls.Values.{a_number}
+use Rattle.sl_model.specs.Typing.Shapes.{shape_of_result, lib_shape, lib_makes}
+use Rattle.sl_model.specs.Typing.Scoped.{Counts, InStmt, IsScopedFunction, IsScoped}
+use Rattle.sl_model.specs.Typing.WellTypedTypes.{is_within, has_type, is_scalar}
+use Rattle.sl_model.specs.Typing.WellTypedExpressions.{type_given}
+use Rattle.sl_model.specs.Typing.WellTypedNodes.{nodes_in_stmt}
+use Rattle.sl_model.specs.Typing.WellTypedOrder.{binds_apart}
+use Rattle.sl_model.specs.Typing.WellTypedStatements.{is_typed_stmt, with_parameters, no_variables, is_block}
+use Rattle.sl_model.specs.Typing.WellTyped.{has_no_alias, WellTyped}
 use Rattle.sl_model.proofs.Passing.{second_of_both, three_parts}
 use Rattle.sl_model.proofs.TypedNumbers.{passes_in_function}
 use Rattle.sl_model.proofs.TypedStatements.{function_is_typed, main_is_there}

@@ -10,12 +10,12 @@ use Rattle.sl_base.specs.declared.scalar.Scalar.TheVariants as t
 use Rattle.sl_syntax.specs.declared.typed.callee.Callee.{Callee}
 use Rattle.sl_syntax.specs.Typed.{Typed}
 use Rattle.sl_model.specs.Numbers.{converted}
-use Rattle.sl_model.specs.Containers.{Cell, Cont, Memory, Part, size, end_from, with_part, is_writable, cells_with, cont_with, write_element}
-use Rattle.sl_model.specs.Values.{Value, Args, LibOut, trapped, thrown, faulted, gives, unbuilt}
-use Rattle.sl_model.specs.Library.{lib}
-use Rattle.sl_model.specs.Eval.{Out}
-use Rattle.sl_model.specs.Run.{empty_state, first_place, main_out}
-use Rattle.sl_model.specs.Decided.{decided_steps, holds_at_most, unless_above, lib_within, stays_small}
+use Rattle.sl_model.specs.Memory.Containers.{Cell, Cont, Memory, Part, size, end_from, with_part, is_writable, cells_with, cont_with, write_element}
+use Rattle.sl_model.specs.LibraryCalls.Values.{Value, Args, LibOut, trapped, thrown, faulted, gives, unbuilt}
+use Rattle.sl_model.specs.LibraryCalls.Library.{lib}
+use Rattle.sl_model.specs.Runs.Eval.{Out}
+use Rattle.sl_model.specs.Runs.Run.{empty_state, first_place, main_out}
+use Rattle.sl_model.specs.Reports.Decided.{decided_steps, holds_at_most, unless_above, lib_within, stays_small}
 use Rattle.sl_model.proofs.Passing.{first_of_both, second_of_both, passes_at}
 use Rattle.sl_model.proofs.Keeps.{InAnswer, InOut}
 use Rattle.sl_model.proofs.KeepsCalls.{in_call}

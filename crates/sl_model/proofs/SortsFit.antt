@@ -15,16 +15,16 @@ use Rattle.sl_specs.specs.declared.letter.Letter.{Letter}
 use Rattle.sl_specs.specs.declared.letter.Letter.TheVariants as l
 use Rattle.sl_specs.specs.Forms.{same_form}
 use Rattle.sl_syntax.specs.declared.operator.Access.TheVariants as a
-use Rattle.sl_model.specs.Containers.{Cont, Memory, locate}
-use Rattle.sl_model.specs.Forms.{is_keyed}
-use Rattle.sl_model.specs.Operands.{Sort, a_number, numbers, perhaps_a_number, an_iterator, a_writer, a_container, a_sequence, sorts_of, all_sorts}
-use Rattle.sl_model.specs.Operands.{is_number, all_numbers, is_of_form, is_sequence, stands_in_sequence, is_of, are_of}
-use Rattle.sl_model.specs.Values.{Value, number, iterator, container_at}
-use Rattle.sl_model.specs.WellTypedTypes.{ExprType, scalar_type, element_type, iterator_type}
-use Rattle.sl_model.specs.WellTypedTypes.{container_type, is_scalar, is_iterator, is_iterator_that, is_iterator_of}
-use Rattle.sl_model.specs.WellTypedTypes.{is_writing_iterator, same_iterators, is_container_of, is_changed_container}
-use Rattle.sl_model.specs.WellTypedCalls.{one, optional, range, elements, is_int_iterator, is_bidirectional, is_random, fits_letter, width, fits}
-use Rattle.sl_model.specs.WellTypedCalls.{appending}
+use Rattle.sl_model.specs.Memory.Containers.{Cont, Memory, locate}
+use Rattle.sl_model.specs.Memory.Forms.{is_keyed}
+use Rattle.sl_model.specs.LibraryCalls.Operands.{Sort, a_number, numbers, perhaps_a_number, an_iterator, a_writer, a_container, a_sequence, sorts_of, all_sorts}
+use Rattle.sl_model.specs.LibraryCalls.Operands.{is_number, all_numbers, is_of_form, is_sequence, stands_in_sequence, is_of, are_of}
+use Rattle.sl_model.specs.LibraryCalls.Values.{Value, number, iterator, container_at}
+use Rattle.sl_model.specs.Typing.WellTypedTypes.{ExprType, scalar_type, element_type, iterator_type}
+use Rattle.sl_model.specs.Typing.WellTypedTypes.{container_type, is_scalar, is_iterator, is_iterator_that, is_iterator_of}
+use Rattle.sl_model.specs.Typing.WellTypedTypes.{is_writing_iterator, same_iterators, is_container_of, is_changed_container}
+use Rattle.sl_model.specs.Typing.WellTypedCalls.{one, optional, range, elements, is_int_iterator, is_bidirectional, is_random, fits_letter, width, fits}
+use Rattle.sl_model.specs.Typing.WellTypedCalls.{appending}
 use Rattle.sl_model.proofs.Called.{one_form}
 use Rattle.sl_model.proofs.Fitting.{forms_of, StampFits, IsNumber, IsIteratorOf, IsContainerOf, Fits, AllFit}
 use Rattle.sl_model.proofs.Getting.{got_map}

@@ -4,10 +4,10 @@ use Rattle.std.specs.Prelude.{slice_get, slice_index, slice_index_or}
 use Rattle.std.proofs.lemmas.Option.{get_or_from_slice_get}
 use Rattle.sl_base.specs.declared.form.Form.{Form}
 use Rattle.sl_base.specs.declared.scalar.Scalar.{Scalar}
-use Rattle.sl_model.specs.Containers.{Memory}
-use Rattle.sl_model.specs.State.{Pointer, iterator_at, reference_to, mark_in}
-use Rattle.sl_model.specs.WellTypedTypes.{ExprType, scalar_type, element_type, iterator_type, container_type, int_reference, entry_reference}
-use Rattle.sl_model.specs.WellTypedTypes.{variable_type, has_type}
+use Rattle.sl_model.specs.Memory.Containers.{Memory}
+use Rattle.sl_model.specs.Runs.State.{Pointer, iterator_at, reference_to, mark_in}
+use Rattle.sl_model.specs.Typing.WellTypedTypes.{ExprType, scalar_type, element_type, iterator_type, container_type, int_reference, entry_reference}
+use Rattle.sl_model.specs.Typing.WellTypedTypes.{variable_type, has_type}
 use Rattle.sl_model.proofs.Getting.{get_left, get_within, get_behind}
 use Rattle.sl_model.proofs.Fitting.{StampFits}
 use Rattle.sl_model.proofs.StackTypes.{Kind, iterator_of, a_reference, Stack, Holds, Lies, AreNumbers, ContFits, ContsFit, IterFits, ItersFit}

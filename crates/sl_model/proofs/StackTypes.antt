@@ -6,14 +6,14 @@ use Rattle.std.specs.Prelude.{ℤ, slice_get}
 use Rattle.std.specs.List.{slice_set}
 use Rattle.std.proofs.lemmas.List.{length-map}
 use Rattle.sl_base.specs.declared.form.Form.{Form}
-use Rattle.sl_model.specs.Containers.{Cont, Memory, write_element, end_from}
-use Rattle.sl_model.specs.Values.{Value, iterator, pair, two, scalar_at, container_at, element_at}
-use Rattle.sl_model.specs.Ends.{End, NoMeaning}
-use Rattle.sl_model.specs.Eval.{write_at}
-use Rattle.sl_model.specs.State.{Pointer, iterator_at, reference_to, State, set_scalar_at, mark_in}
-use Rattle.sl_model.specs.Good.{IsGood, AreBelow}
-use Rattle.sl_model.specs.WellTypedTypes.{ExprType, empty_type, scalar_type, element_type, iterator_type, iterator_and_bool, two_iterators}
-use Rattle.sl_model.specs.WellTypedTypes.{container_type, handed_type, int_reference, entry_reference, Scope}
+use Rattle.sl_model.specs.Memory.Containers.{Cont, Memory, write_element, end_from}
+use Rattle.sl_model.specs.LibraryCalls.Values.{Value, iterator, pair, two, scalar_at, container_at, element_at}
+use Rattle.sl_model.specs.Runs.Ends.{End, NoMeaning}
+use Rattle.sl_model.specs.Runs.Eval.{write_at}
+use Rattle.sl_model.specs.Runs.State.{Pointer, iterator_at, reference_to, State, set_scalar_at, mark_in}
+use Rattle.sl_model.specs.Runs.Good.{IsGood, AreBelow}
+use Rattle.sl_model.specs.Typing.WellTypedTypes.{ExprType, empty_type, scalar_type, element_type, iterator_type, iterator_and_bool, two_iterators}
+use Rattle.sl_model.specs.Typing.WellTypedTypes.{container_type, handed_type, int_reference, entry_reference, Scope}
 use Rattle.sl_model.proofs.Getting.{get_some, get_left, get_within, get_map}
 use Rattle.sl_model.proofs.Fitting.{forms_of, StampFits, KeepsForms, Fits, IsIteratorOf, IsPairOf, AreTwoOf, IsContainerOf}
 use Rattle.sl_model.proofs.FormsAfter.{write-forms, ended-forms, ended-fits}

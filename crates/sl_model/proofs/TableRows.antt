@@ -11,9 +11,9 @@ use Rattle.sl_specs.specs.Table.{table}
 use Rattle.sl_syntax.specs.declared.typed.callee.Callee.{Callee}
 use Rattle.sl_syntax.specs.declared.typed.callee.Callee.TheVariants as callees
 use Rattle.sl_syntax.specs.declared.typed.operator.Operator.{Operator}
-use Rattle.sl_model.specs.Forms.{holds_equal_keys}
-use Rattle.sl_model.specs.Operators.{operator_name}
-use Rattle.sl_model.specs.Rows.{Row, meaning_of, row_numbered, row_of_operator, row_of}
+use Rattle.sl_model.specs.Memory.Forms.{holds_equal_keys}
+use Rattle.sl_model.specs.LibraryCalls.Operators.{operator_name}
+use Rattle.sl_model.specs.LibraryCalls.Rows.{Row, meaning_of, row_numbered, row_of_operator, row_of}
 use Rattle.sl_model.proofs.Tells.{AllOf, all_append, all_at}
 
 -- the rows of the forms, form by form

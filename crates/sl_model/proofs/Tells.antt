@@ -6,16 +6,16 @@ use Rattle.std.specs.List.{cons_option}
 use Rattle.sl_base.specs.declared.form.Form.{Form}
 use Rattle.sl_specs.specs.declared.class.Class.{Class}
 use Rattle.sl_specs.specs.Rows.{Row as TableRow, Line, row_of as row_of_line, class_on, rows_on}
-use Rattle.sl_model.specs.Containers.{Memory}
-use Rattle.sl_model.specs.Forms.{holds_equal_keys}
-use Rattle.sl_model.specs.Values.{Shape, no_value, a_number, a_stamp, a_pair, two_stamps, an_element}
-use Rattle.sl_model.specs.Situation.{Situation}
-use Rattle.sl_model.specs.Needs.{first_failure}
-use Rattle.sl_model.specs.Actions.{Answer, nothing, gives_number, gives_place, gives_place_and, gives_places, gives_element}
-use Rattle.sl_model.specs.Effects.{does}
-use Rattle.sl_model.specs.Rows.{Row, member_row}
-use Rattle.sl_model.specs.Library.{form_of}
-use Rattle.sl_model.specs.Shapes.{is_new_one}
+use Rattle.sl_model.specs.Memory.Containers.{Memory}
+use Rattle.sl_model.specs.Memory.Forms.{holds_equal_keys}
+use Rattle.sl_model.specs.LibraryCalls.Values.{Shape, no_value, a_number, a_stamp, a_pair, two_stamps, an_element}
+use Rattle.sl_model.specs.LibraryCalls.Situation.{Situation}
+use Rattle.sl_model.specs.LibraryCalls.Needs.{first_failure}
+use Rattle.sl_model.specs.LibraryCalls.Actions.{Answer, nothing, gives_number, gives_place, gives_place_and, gives_places, gives_element}
+use Rattle.sl_model.specs.LibraryCalls.Effects.{does}
+use Rattle.sl_model.specs.LibraryCalls.Rows.{Row, member_row}
+use Rattle.sl_model.specs.LibraryCalls.Library.{form_of}
+use Rattle.sl_model.specs.Typing.Shapes.{is_new_one}
 use Rattle.sl_model.proofs.Called.{IsCalled}
 use Rattle.sl_model.proofs.Growing.{makes_one}
 use Rattle.sl_model.proofs.Placing.{IsPlaced}

@@ -8,14 +8,14 @@ use Rattle.sl_specs.specs.declared.need.Need.TheVariants as n
 use Rattle.sl_specs.specs.Rows.{Row as TableRow}
 use Rattle.sl_specs.specs.AlgorithmRows.{algorithm_rows}
 use Rattle.sl_syntax.specs.declared.typed.operator.Operator.{Operator}
-use Rattle.sl_model.specs.Containers.{cont_at}
-use Rattle.sl_model.specs.Forms.{is_keyed}
-use Rattle.sl_model.specs.Values.{Value, nothing, number, iterator, pair, two, scalar_at, container_at, element_at}
-use Rattle.sl_model.specs.Situation.{Situation, own, place_of}
-use Rattle.sl_model.specs.Operands.{Sort, a_number, an_iterator, all_sorts, are_of, a_writer, a_sequence, is_of, written_keys}
-use Rattle.sl_model.specs.Needs.{failures, all_failures, first_failure}
-use Rattle.sl_model.specs.WritingAlgorithms.{rewrites, output, outputs}
-use Rattle.sl_model.specs.Rows.{of_first, algorithm_row, row_of_operator}
+use Rattle.sl_model.specs.Memory.Containers.{cont_at}
+use Rattle.sl_model.specs.Memory.Forms.{is_keyed}
+use Rattle.sl_model.specs.LibraryCalls.Values.{Value, nothing, number, iterator, pair, two, scalar_at, container_at, element_at}
+use Rattle.sl_model.specs.LibraryCalls.Situation.{Situation, own, place_of}
+use Rattle.sl_model.specs.LibraryCalls.Operands.{Sort, a_number, an_iterator, all_sorts, are_of, a_writer, a_sequence, is_of, written_keys}
+use Rattle.sl_model.specs.LibraryCalls.Needs.{failures, all_failures, first_failure}
+use Rattle.sl_model.specs.LibraryCalls.WritingAlgorithms.{rewrites, output, outputs}
+use Rattle.sl_model.specs.LibraryCalls.Rows.{of_first, algorithm_row, row_of_operator}
 use Rattle.sl_model.proofs.Called.{HasObject}
 use Rattle.sl_model.proofs.AlgorithmsTell.{IsRange, first_range, no_failure, none_left, none_right}
 use Rattle.sl_model.proofs.FineAlgorithms.{copy_row, set_row}

@@ -5,18 +5,18 @@ use Rattle.std.specs.Prelude.{nat_lt, slice_get}
 use Rattle.sl_base.specs.declared.form.Form.{Form}
 use Rattle.sl_specs.specs.ContainerLines.{container_lines}
 use Rattle.sl_specs.specs.MultiLines.{multi_lines}
-use Rattle.sl_model.specs.Containers.{size, items}
-use Rattle.sl_model.specs.Forms.{is_hash, is_keyed}
-use Rattle.sl_model.specs.Operands.{an_iterator, is_of_form}
-use Rattle.sl_model.specs.Orderly.{IsOrderlyCont, IsOrderly}
-use Rattle.sl_model.specs.Rearrangements.{arranged, exchanged, received, given, moved_order}
-use Rattle.sl_model.specs.Schedule.{pick, after_picks}
-use Rattle.sl_model.specs.Situation.{Situation, own, own_size, index, container_of, their, their_size, int_of, count_of, number_in, argument}
-use Rattle.sl_model.specs.Actions.{keeps, edits, changes, trades}
-use Rattle.sl_model.specs.AccessActions.{untouched, rehashed, reserved, swap}
-use Rattle.sl_model.specs.ListActions.{merged, merge, splices}
-use Rattle.sl_model.specs.MakeActions.{refilled, copied}
-use Rattle.sl_model.specs.Rows.{of_form}
+use Rattle.sl_model.specs.Memory.Containers.{size, items}
+use Rattle.sl_model.specs.Memory.Forms.{is_hash, is_keyed}
+use Rattle.sl_model.specs.LibraryCalls.Operands.{an_iterator, is_of_form}
+use Rattle.sl_model.specs.Memory.Orderly.{IsOrderlyCont, IsOrderly}
+use Rattle.sl_model.specs.Memory.Rearrangements.{arranged, exchanged, received, given, moved_order}
+use Rattle.sl_model.specs.Memory.Schedule.{pick, after_picks}
+use Rattle.sl_model.specs.LibraryCalls.Situation.{Situation, own, own_size, index, container_of, their, their_size, int_of, count_of, number_in, argument}
+use Rattle.sl_model.specs.LibraryCalls.Actions.{keeps, edits, changes, trades}
+use Rattle.sl_model.specs.LibraryCalls.AccessActions.{untouched, rehashed, reserved, swap}
+use Rattle.sl_model.specs.LibraryCalls.ListActions.{merged, merge, splices}
+use Rattle.sl_model.specs.LibraryCalls.MakeActions.{refilled, copied}
+use Rattle.sl_model.specs.LibraryCalls.Rows.{of_form}
 use Rattle.sl_model.proofs.AsInts.{converted-fits}
 use Rattle.sl_model.proofs.Called.{HasObject, own_form}
 use Rattle.sl_model.proofs.OrderlyEffects.{IsTidy}

@@ -10,20 +10,20 @@ use Rattle.sl_base.specs.declared.scalar.Scalar.TheVariants as t
 use Rattle.sl_specs.specs.declared.class.Class.{Class}
 use Rattle.sl_specs.specs.Forms.{same_form}
 use Rattle.sl_specs.specs.Rows.{Line, row_of as row_of_line, class_on}
-use Rattle.sl_model.specs.Containers.{Cell, Cont, Memory, cont_at, keys, items}
-use Rattle.sl_model.specs.Forms.{is_keyed}
+use Rattle.sl_model.specs.Memory.Containers.{Cell, Cont, Memory, cont_at, keys, items}
+use Rattle.sl_model.specs.Memory.Forms.{is_keyed}
 use Rattle.sl_model.specs.Numbers.{converted, fits}
-use Rattle.sl_model.specs.Needs.{first_failure}
-use Rattle.sl_model.specs.Operands.{Sort, a_writer, is_of, are_of, is_sequence, stands_in_sequence}
-use Rattle.sl_model.specs.Orderly.{may_precede, Each, AreInOrder, HoldsInts, IsOrderlyCont, IsOrderly}
-use Rattle.sl_model.specs.Schedule.{scattered, after_picks}
-use Rattle.sl_model.specs.Situation.{Situation, argument, place_in, place_of, container_of, their, index, number_in}
-use Rattle.sl_model.specs.Situation.{item, as_items, listed, range_keys}
-use Rattle.sl_model.specs.Values.{Value, nothing, number, iterator, pair, two, scalar_at, container_at, element_at}
-use Rattle.sl_model.specs.Actions.{never}
-use Rattle.sl_model.specs.MakeActions.{filled, copy_items}
-use Rattle.sl_model.specs.Rows.{Row, member_row}
-use Rattle.sl_model.specs.Library.{form_of}
+use Rattle.sl_model.specs.LibraryCalls.Needs.{first_failure}
+use Rattle.sl_model.specs.LibraryCalls.Operands.{Sort, a_writer, is_of, are_of, is_sequence, stands_in_sequence}
+use Rattle.sl_model.specs.Memory.Orderly.{may_precede, Each, AreInOrder, HoldsInts, IsOrderlyCont, IsOrderly}
+use Rattle.sl_model.specs.Memory.Schedule.{scattered, after_picks}
+use Rattle.sl_model.specs.LibraryCalls.Situation.{Situation, argument, place_in, place_of, container_of, their, index, number_in}
+use Rattle.sl_model.specs.LibraryCalls.Situation.{item, as_items, listed, range_keys}
+use Rattle.sl_model.specs.LibraryCalls.Values.{Value, nothing, number, iterator, pair, two, scalar_at, container_at, element_at}
+use Rattle.sl_model.specs.LibraryCalls.Actions.{never}
+use Rattle.sl_model.specs.LibraryCalls.MakeActions.{filled, copy_items}
+use Rattle.sl_model.specs.LibraryCalls.Rows.{Row, member_row}
+use Rattle.sl_model.specs.LibraryCalls.Library.{form_of}
 use Rattle.sl_model.proofs.After.{cont_of_there, cont_of_none}
 use Rattle.sl_model.proofs.AlgorithmsTell.{container_there}
 use Rattle.sl_model.proofs.AsInts.{converted-fits, converted-same}

@@ -3,9 +3,9 @@ use Rattle.std.proofs.Common.{◌≡◌, ◌≢◌, ℕ, ◌+◌, ◌<◌, ◌�
 use Rattle.std.proofs.Common.{◌⊎◌, inl, inr, ⊎_elim}
 use Rattle.std.specs.List.{slice_get, slice_set}
 use Rattle.std.proofs.lemmas.Bool.{cases_eq, both_ways}
-use Rattle.sl_model.specs.Containers.{Grave, IsGrave}
-use Rattle.sl_model.specs.Edits.{Source, buried}
-use Rattle.sl_model.specs.Good.{Stands, AreKeptApart, NoneVanishFrom}
+use Rattle.sl_model.specs.Memory.Containers.{Grave, IsGrave}
+use Rattle.sl_model.specs.Memory.Edits.{Source, buried}
+use Rattle.sl_model.specs.Runs.Good.{Stands, AreKeptApart, NoneVanishFrom}
 use Rattle.sl_model.proofs.Getting.{get_set_same, get_set_other, get_within}
 use Rattle.sl_model.proofs.Apart.{StandsSomewhere, renewed-apart, HaveNone, list_distinct}
 use Rattle.sl_model.proofs.Buried.{grave_cases}

@@ -15,18 +15,18 @@ use Rattle.sl_syntax.specs.declared.typed.callee.Callee.{Callee}
 use Rattle.sl_syntax.specs.declared.typed.callee.Callee.TheVariants as callees
 use Rattle.sl_syntax.specs.declared.typed.operator.Operator.{Operator}
 use Rattle.sl_syntax.specs.declared.typed.operator.Operator.TheVariants as operators
-use Rattle.sl_model.specs.Forms.{is_keyed, is_random_access}
-use Rattle.sl_model.specs.WellTypedTypes.{ExprType, no_type, empty_type, scalar_type, iterator_type}
-use Rattle.sl_model.specs.WellTypedTypes.{container_type, Scope, variable_type, has_type, only, is_scalar}
-use Rattle.sl_model.specs.WellTypedTypes.{is_iterator, is_iterator_of, is_writing_iterator, same_iterators, is_const}
-use Rattle.sl_model.specs.WellTypedTypes.{is_container_of, is_changed_container}
-use Rattle.sl_model.specs.WellTypedCalls.{is_int_iterator, is_bidirectional}
+use Rattle.sl_model.specs.Memory.Forms.{is_keyed, is_random_access}
+use Rattle.sl_model.specs.Typing.WellTypedTypes.{ExprType, no_type, empty_type, scalar_type, iterator_type}
+use Rattle.sl_model.specs.Typing.WellTypedTypes.{container_type, Scope, variable_type, has_type, only, is_scalar}
+use Rattle.sl_model.specs.Typing.WellTypedTypes.{is_iterator, is_iterator_of, is_writing_iterator, same_iterators, is_const}
+use Rattle.sl_model.specs.Typing.WellTypedTypes.{is_container_of, is_changed_container}
+use Rattle.sl_model.specs.Typing.WellTypedCalls.{is_int_iterator, is_bidirectional}
 use Rattle.std.proofs.lemmas.List.{take_all}
 use Rattle.std.proofs.lemmas.Bool.{and_from}
-use Rattle.sl_model.specs.WellTypedCalls.{one, optional, range, elements, fits_letter, width, fits, operator_type, call_type, row_type, member_type}
-use Rattle.sl_model.specs.WellTypedCalls.{algorithm_type, appending_type, constructs, row_at}
-use Rattle.sl_model.specs.WellTypedCalls.{is_constructor, may_be_called, is_algorithm, is_output, appending, result_type, is_equality, is_random}
-use Rattle.sl_model.specs.WellTypedStatements.{is_making}
+use Rattle.sl_model.specs.Typing.WellTypedCalls.{one, optional, range, elements, fits_letter, width, fits, operator_type, call_type, row_type, member_type}
+use Rattle.sl_model.specs.Typing.WellTypedCalls.{algorithm_type, appending_type, constructs, row_at}
+use Rattle.sl_model.specs.Typing.WellTypedCalls.{is_constructor, may_be_called, is_algorithm, is_output, appending, result_type, is_equality, is_random}
+use Rattle.sl_model.specs.Typing.WellTypedStatements.{is_making}
 use Rattle.sl_model.proofs.Passing.{first_of_both, second_of_both, first_of_neither, second_of_neither}
 use Rattle.sl_model.proofs.TypedOperands.{typed_by, only_holds, only_rest, all_typed, fitting_typed, second_iterator_typed}
 

@@ -11,13 +11,13 @@ use Rattle.sl_syntax.specs.declared.typed.parameter.ParameterKind.TheVariants as
 use Rattle.sl_syntax.specs.Typed.{Expr, literal, held, iterator, convert, negate, logical_not, logical_and, logical_or, arithmetic, comparison}
 use Rattle.sl_syntax.specs.Typed.{increment, move, call, own_call, first, second, container, handed_scalar, Left, scalar, reference, element}
 use Rattle.sl_syntax.specs.Typed.{Operands, none, with, Function}
-use Rattle.sl_model.specs.WellTypedTypes.{ExprType, no_type, Scope, variable_type, has_type, is_scalar, is_number}
-use Rattle.sl_model.specs.WellTypedTypes.{are_comparable}
-use Rattle.sl_model.specs.WellTypedExpressions.{goes_to, go_to, type_given, function_type}
-use Rattle.sl_model.specs.WellTypedExpressions.{type_of, type_of_left, types_of}
-use Rattle.sl_model.specs.WellTypedNodes.{Node, a_call, an_own_call}
-use Rattle.sl_model.specs.WellTypedNodes.{nodes_in, nodes_in_left, nodes_in_operands}
-use Rattle.sl_model.specs.WellTypedOrder.{listed}
+use Rattle.sl_model.specs.Typing.WellTypedTypes.{ExprType, no_type, Scope, variable_type, has_type, is_scalar, is_number}
+use Rattle.sl_model.specs.Typing.WellTypedTypes.{are_comparable}
+use Rattle.sl_model.specs.Typing.WellTypedExpressions.{goes_to, go_to, type_given, function_type}
+use Rattle.sl_model.specs.Typing.WellTypedExpressions.{type_of, type_of_left, types_of}
+use Rattle.sl_model.specs.Typing.WellTypedNodes.{Node, a_call, an_own_call}
+use Rattle.sl_model.specs.Typing.WellTypedNodes.{nodes_in, nodes_in_left, nodes_in_operands}
+use Rattle.sl_model.specs.Typing.WellTypedOrder.{listed}
 use Rattle.sl_model.proofs.Passing.{first_of_both, second_of_both}
 use Rattle.sl_model.proofs.TypedOperands.{typed_by, only_holds, all_typed}
 use Rattle.sl_model.proofs.TypedCalls.{IsThere, Known, call_known}

@@ -5,12 +5,12 @@ use Rattle.std.specs.List.{list_all}
 use Rattle.std.proofs.lemmas.Bool.{leb-true, ltb-true}
 use Rattle.sl_base.specs.declared.limits.TheConstants.{CONTAINERS, FUNCTIONS, ITERATORS, SCALARS, SITES}
 use Rattle.sl_syntax.specs.Typed.{Function, Typed}
-use Rattle.sl_model.specs.WellTypedTypes.{ExprType, Scope, has_type, is_within, variable_type}
-use Rattle.sl_model.specs.WellTypedNodes.{Node, nodes_in_stmt, nodes_of}
-use Rattle.sl_model.specs.WellTypedNumbers.{site_in, loop_in, go_up, are_numbers_of, is_numbered}
-use Rattle.sl_model.specs.WellTypedNumbers.{has_due_site, tells_names, are_constants, literal_is_held, asked_by, agree, agrees_with_all}
-use Rattle.sl_model.specs.WellTypedOrder.{binds_apart, is_ordered}
-use Rattle.sl_model.specs.WellTyped.{has_numbers, has_sites, has_no_alias, has_order, has_names, has_constants, has_one_asker, WellTyped}
+use Rattle.sl_model.specs.Typing.WellTypedTypes.{ExprType, Scope, has_type, is_within, variable_type}
+use Rattle.sl_model.specs.Typing.WellTypedNodes.{Node, nodes_in_stmt, nodes_of}
+use Rattle.sl_model.specs.Typing.WellTypedNumbers.{site_in, loop_in, go_up, are_numbers_of, is_numbered}
+use Rattle.sl_model.specs.Typing.WellTypedNumbers.{has_due_site, tells_names, are_constants, literal_is_held, asked_by, agree, agrees_with_all}
+use Rattle.sl_model.specs.Typing.WellTypedOrder.{binds_apart, is_ordered}
+use Rattle.sl_model.specs.Typing.WellTyped.{has_numbers, has_sites, has_no_alias, has_order, has_names, has_constants, has_one_asker, WellTyped}
 use Rattle.sl_model.proofs.Passing.{first_of_both, second_of_both, passes_at, given_passes, flat_map_each}
 
 -- the sites and the loops of a function of a well typed text are numbered

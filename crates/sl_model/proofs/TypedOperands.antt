@@ -8,11 +8,11 @@ use Rattle.sl_base.specs.declared.scalar.Scalar.TheVariants as t
 use Rattle.sl_specs.specs.declared.letter.Letter.{Letter}
 use Rattle.sl_specs.specs.declared.letter.Letter.TheVariants as l
 use Rattle.sl_specs.specs.Forms.{same_form}
-use Rattle.sl_model.specs.Forms.{is_keyed}
-use Rattle.sl_model.specs.WellTypedTypes.{ExprType, no_type, iterator_type}
-use Rattle.sl_model.specs.WellTypedTypes.{has_type, only, is_scalar, is_iterator}
-use Rattle.sl_model.specs.WellTypedTypes.{is_iterator_of, is_writing_iterator, same_iterators, is_container_of, is_changed_container}
-use Rattle.sl_model.specs.WellTypedCalls.{one, optional, range, elements, is_int_iterator, is_bidirectional, is_random, fits_letter, width, fits}
+use Rattle.sl_model.specs.Memory.Forms.{is_keyed}
+use Rattle.sl_model.specs.Typing.WellTypedTypes.{ExprType, no_type, iterator_type}
+use Rattle.sl_model.specs.Typing.WellTypedTypes.{has_type, only, is_scalar, is_iterator}
+use Rattle.sl_model.specs.Typing.WellTypedTypes.{is_iterator_of, is_writing_iterator, same_iterators, is_container_of, is_changed_container}
+use Rattle.sl_model.specs.Typing.WellTypedCalls.{one, optional, range, elements, is_int_iterator, is_bidirectional, is_random, fits_letter, width, fits}
 use Rattle.sl_model.proofs.Passing.{first_of_both, second_of_both}
 
 -- what passes a test that `no_type` doesn't pass has a type

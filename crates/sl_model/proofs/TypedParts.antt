@@ -14,11 +14,11 @@ use Rattle.sl_syntax.specs.declared.typed.step.Step.{Step}
 use Rattle.sl_syntax.specs.Typed.{Expr, literal, held, iterator, convert, negate, logical_not, logical_and, logical_or, arithmetic, comparison}
 use Rattle.sl_syntax.specs.Typed.{increment, move, call, own_call, first, second, container, handed_scalar, Left, scalar, reference, element}
 use Rattle.sl_syntax.specs.Typed.{Operands}
-use Rattle.sl_model.specs.WellTypedTypes.{ExprType, no_type, scalar_type, Scope, variable_type, has_type, only, is_scalar, is_number, is_written}
-use Rattle.sl_model.specs.WellTypedTypes.{is_arithmetic, are_comparable, is_iterator}
-use Rattle.sl_model.specs.WellTypedCalls.{call_type, is_moving}
-use Rattle.sl_model.specs.WellTypedExpressions.{is_literal, only_value, only_element, type_of_first, type_of_second, type_of_use, handed}
-use Rattle.sl_model.specs.WellTypedExpressions.{function_type, is_arrow, is_variable, type_of, type_of_left, types_of}
+use Rattle.sl_model.specs.Typing.WellTypedTypes.{ExprType, no_type, scalar_type, Scope, variable_type, has_type, only, is_scalar, is_number, is_written}
+use Rattle.sl_model.specs.Typing.WellTypedTypes.{is_arithmetic, are_comparable, is_iterator}
+use Rattle.sl_model.specs.Typing.WellTypedCalls.{call_type, is_moving}
+use Rattle.sl_model.specs.Typing.WellTypedExpressions.{is_literal, only_value, only_element, type_of_first, type_of_second, type_of_use, handed}
+use Rattle.sl_model.specs.Typing.WellTypedExpressions.{function_type, is_arrow, is_variable, type_of, type_of_left, types_of}
 use Rattle.sl_model.proofs.Passing.{first_of_both, second_of_both}
 use Rattle.sl_model.proofs.TypedOperands.{typed_by, only_holds, only_rest}
 

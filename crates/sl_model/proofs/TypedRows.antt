@@ -12,11 +12,11 @@ use Rattle.sl_specs.specs.Rows.{Row as TableRow}
 use Rattle.sl_specs.specs.Table.{table, same_call}
 use Rattle.sl_syntax.specs.declared.operator.Access.{Access}
 use Rattle.sl_syntax.specs.declared.typed.callee.Callee.TheVariants as callees
-use Rattle.sl_model.specs.Rows.{of_form, new_one, Row, member_row, algorithm_row, meaning_of, row_of, is_constructor as makes_one}
-use Rattle.sl_model.specs.WellTypedTypes.{ExprType, empty_type, container_type, Scope, variable_type, has_type, only, is_const}
-use Rattle.sl_model.specs.WellTypedCalls.{fits, result_type, row_at, is_constructor, may_be_called, member_type, is_algorithm, row_type}
-use Rattle.sl_model.specs.WellTypedCalls.{is_output, appending, appending_type, constructs, call_type}
-use Rattle.sl_model.specs.WellTypedStatements.{is_making}
+use Rattle.sl_model.specs.LibraryCalls.Rows.{of_form, new_one, Row, member_row, algorithm_row, meaning_of, row_of, is_constructor as makes_one}
+use Rattle.sl_model.specs.Typing.WellTypedTypes.{ExprType, empty_type, container_type, Scope, variable_type, has_type, only, is_const}
+use Rattle.sl_model.specs.Typing.WellTypedCalls.{fits, result_type, row_at, is_constructor, may_be_called, member_type, is_algorithm, row_type}
+use Rattle.sl_model.specs.Typing.WellTypedCalls.{is_output, appending, appending_type, constructs, call_type}
+use Rattle.sl_model.specs.Typing.WellTypedStatements.{is_making}
 use Rattle.sl_model.proofs.Called.{one_form}
 use Rattle.sl_model.proofs.Passing.{first_of_both, second_of_both}
 use Rattle.sl_model.proofs.TypedOperands.{only_holds}

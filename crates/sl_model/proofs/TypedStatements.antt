@@ -11,16 +11,16 @@ use Rattle.sl_syntax.specs.Typed.{Expr, element, Cond, read, not_read, test, alw
 use Rattle.sl_syntax.specs.Typed.{prints, evaluates, assigns, updates, moves_to, Declaration, unset_scalar, set_scalar, set_iterator, binds_reference}
 use Rattle.sl_syntax.specs.Typed.{makes, First, no_first, declares_first, does_first, Stmt, block, declares, choice, choice_else, while, for}
 use Rattle.sl_syntax.specs.Typed.{range_for, break, continue, gives_back, does, Stmts, no_more, followed, Function, Typed}
-use Rattle.sl_model.specs.WellTypedTypes.{ExprType, no_type, scalar_type, element_type, container_type, Scope, is_within, variable_type, has_type}
-use Rattle.sl_model.specs.WellTypedTypes.{is_scalar, is_number, is_written, works_in, is_iterator}
-use Rattle.sl_model.specs.WellTypedExpressions.{goes_to, type_given, type_of, type_of_left, types_of}
-use Rattle.sl_model.specs.WellTypedNodes.{Node, nodes_in, nodes_in_left, nodes_in_operands, nodes_in_value, nodes_in_cond, nodes_in_printed}
-use Rattle.sl_model.specs.WellTypedNodes.{nodes_in_effect, nodes_in_last, nodes_in_declaration, nodes_in_first, nodes_in_stmt, nodes_in_stmts}
-use Rattle.sl_model.specs.WellTypedStatements.{assigns_others, may_stand_alone, is_written_left, takes, is_typed_cond, is_typed_item, is_typed_effect}
-use Rattle.sl_model.specs.WellTypedStatements.{is_typed_last, is_typed_declaration, behind, is_typed_first, behind_first, may_go_over}
-use Rattle.sl_model.specs.WellTypedStatements.{in_range, is_typed_return, is_typed_stmt, are_typed_stmts, with_parameter, with_parameters}
-use Rattle.sl_model.specs.WellTypedStatements.{no_variables, is_block, is_typed_function, takes_nothing, is_main}
-use Rattle.sl_model.specs.WellTyped.{has_types, WellTyped}
+use Rattle.sl_model.specs.Typing.WellTypedTypes.{ExprType, no_type, scalar_type, element_type, container_type, Scope, is_within, variable_type, has_type}
+use Rattle.sl_model.specs.Typing.WellTypedTypes.{is_scalar, is_number, is_written, works_in, is_iterator}
+use Rattle.sl_model.specs.Typing.WellTypedExpressions.{goes_to, type_given, type_of, type_of_left, types_of}
+use Rattle.sl_model.specs.Typing.WellTypedNodes.{Node, nodes_in, nodes_in_left, nodes_in_operands, nodes_in_value, nodes_in_cond, nodes_in_printed}
+use Rattle.sl_model.specs.Typing.WellTypedNodes.{nodes_in_effect, nodes_in_last, nodes_in_declaration, nodes_in_first, nodes_in_stmt, nodes_in_stmts}
+use Rattle.sl_model.specs.Typing.WellTypedStatements.{assigns_others, may_stand_alone, is_written_left, takes, is_typed_cond, is_typed_item, is_typed_effect}
+use Rattle.sl_model.specs.Typing.WellTypedStatements.{is_typed_last, is_typed_declaration, behind, is_typed_first, behind_first, may_go_over}
+use Rattle.sl_model.specs.Typing.WellTypedStatements.{in_range, is_typed_return, is_typed_stmt, are_typed_stmts, with_parameter, with_parameters}
+use Rattle.sl_model.specs.Typing.WellTypedStatements.{no_variables, is_block, is_typed_function, takes_nothing, is_main}
+use Rattle.sl_model.specs.Typing.WellTyped.{has_types, WellTyped}
 use Rattle.sl_model.proofs.Passing.{first_of_both, second_of_both, three_parts, five_parts, passes_at}
 use Rattle.sl_model.proofs.TypedOperands.{typed_by, second_iterator_typed}
 use Rattle.sl_model.proofs.TypedCalls.{making_known}

@@ -10,15 +10,15 @@ use Rattle.sl_syntax.specs.Typed.{Expr, element, Cond, read, not_read, test, alw
 use Rattle.sl_syntax.specs.Typed.{prints, evaluates, assigns, updates, moves_to, Declaration, unset_scalar, set_scalar, set_iterator, binds_reference}
 use Rattle.sl_syntax.specs.Typed.{makes, First, no_first, declares_first, does_first, Stmt, block, declares, choice, choice_else, while, for}
 use Rattle.sl_syntax.specs.Typed.{range_for, break, continue, gives_back, does, Stmts, no_more, followed, Function, Typed}
-use Rattle.sl_model.specs.WellTypedTypes.{ExprType, no_type, Scope, is_within, variable_type, has_type, is_scalar, is_number, is_written, works_in}
-use Rattle.sl_model.specs.WellTypedTypes.{is_iterator}
-use Rattle.sl_model.specs.WellTypedExpressions.{goes_to, type_given, type_of, type_of_left, types_of}
-use Rattle.sl_model.specs.WellTypedOrder.{Variable, the_scalar, the_container, the_iterator}
-use Rattle.sl_model.specs.WellTypedStatements.{assigns_others, may_stand_alone, is_written_left, takes, are_ints, is_typed_cond, is_typed_item}
-use Rattle.sl_model.specs.WellTypedStatements.{is_typed_effect, is_typed_last, is_typed_declaration, behind, is_typed_first, behind_first}
-use Rattle.sl_model.specs.WellTypedStatements.{may_go_over, in_range, is_typed_return, is_typed_stmt, are_typed_stmts, with_parameters, no_variables}
-use Rattle.sl_model.specs.WellTypedStatements.{is_block}
-use Rattle.sl_model.specs.WellTyped.{WellTyped}
+use Rattle.sl_model.specs.Typing.WellTypedTypes.{ExprType, no_type, Scope, is_within, variable_type, has_type, is_scalar, is_number, is_written, works_in}
+use Rattle.sl_model.specs.Typing.WellTypedTypes.{is_iterator}
+use Rattle.sl_model.specs.Typing.WellTypedExpressions.{goes_to, type_given, type_of, type_of_left, types_of}
+use Rattle.sl_model.specs.Typing.WellTypedOrder.{Variable, the_scalar, the_container, the_iterator}
+use Rattle.sl_model.specs.Typing.WellTypedStatements.{assigns_others, may_stand_alone, is_written_left, takes, are_ints, is_typed_cond, is_typed_item}
+use Rattle.sl_model.specs.Typing.WellTypedStatements.{is_typed_effect, is_typed_last, is_typed_declaration, behind, is_typed_first, behind_first}
+use Rattle.sl_model.specs.Typing.WellTypedStatements.{may_go_over, in_range, is_typed_return, is_typed_stmt, are_typed_stmts, with_parameters, no_variables}
+use Rattle.sl_model.specs.Typing.WellTypedStatements.{is_block}
+use Rattle.sl_model.specs.Typing.WellTyped.{WellTyped}
 use Rattle.sl_model.proofs.Passing.{first_of_both, second_of_both, three_parts, five_parts}
 use Rattle.sl_model.proofs.TypedOperands.{typed_by, second_iterator_typed}
 use Rattle.sl_model.proofs.TypedCalls.{making_known, first_iterator_typed}

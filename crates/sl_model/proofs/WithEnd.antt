@@ -2,7 +2,7 @@
 use Rattle.std.proofs.Common.{◌≡◌, ℕ, zero, suc, ◌+◌, ◌<◌, ◌≤◌, Bool, List, [], ◌∷◌, ◌++◌, Some, length, refl, ap, sym, ◌∙◌, arith, ◌⊎◌, inl, inr, ⊎_elim}
 use Rattle.std.proofs.Common.{subst}
 use Rattle.std.specs.List.{slice_get}
-use Rattle.sl_model.specs.Edits.{Source, old, written, theirs, new}
+use Rattle.sl_model.specs.Memory.Edits.{Source, old, written, theirs, new}
 use Rattle.sl_model.proofs.Getting.{get_left, get_within}
 use Rattle.sl_model.proofs.Columns.{TakesOwn, TakesTheirs, IsNew, IsInside, AllInside, mark_from, marks_from}
 use Rattle.sl_model.proofs.ColumnLaws.{TakenOnce, IsTaken}

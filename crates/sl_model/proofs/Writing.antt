@@ -7,9 +7,9 @@ use Rattle.std.proofs.lemmas.Bool.{cases_eq}
 use Rattle.sl_base.specs.declared.limits.TheConstants.{ELEMENTS}
 use Rattle.sl_base.specs.declared.scalar.Scalar.TheVariants as t
 use Rattle.sl_model.specs.Numbers.{converted}
-use Rattle.sl_model.specs.Containers.{Cell, Cont, Memory, size, stamps, refers, Part, key_part, value_part, with_part, is_writable, cells_with}
-use Rattle.sl_model.specs.Containers.{cont_with, write_element}
-use Rattle.sl_model.specs.Good.{AreKeptApart, IsSound}
+use Rattle.sl_model.specs.Memory.Containers.{Cell, Cont, Memory, size, stamps, refers, Part, key_part, value_part, with_part, is_writable, cells_with}
+use Rattle.sl_model.specs.Memory.Containers.{cont_with, write_element}
+use Rattle.sl_model.specs.Runs.Good.{AreKeptApart, IsSound}
 use Rattle.sl_model.proofs.Getting.{get_set_same, get_set_other, get_within}
 
 -- setting what is there already changes nothing

@@ -7,8 +7,8 @@ use Rattle.sl_base.specs.declared.token.Token.{Token}
 use Rattle.sl_base.specs.Outside.{IsRead}
 use Rattle.sl_syntax.specs.declared.subset.Text.{Text}
 use Rattle.sl_syntax.specs.Tree.{Program}
-use Rattle.sl_model.specs.Covers.{Warning}
-use Rattle.sl_model.specs.Texts.{report_text}
+use Rattle.sl_model.specs.Reports.Covers.{Warning}
+use Rattle.sl_model.specs.Reports.Texts.{report_text}
 use Rattle.sl_tool.specs.declared.status.Status.{Status}
 use Rattle.sl_tool.specs.Answers.{AnswerTo, refused, not_built, reported, IsReport, status_of}
 use Rattle.sl_tool.specs.Subset.{ReadsAs}

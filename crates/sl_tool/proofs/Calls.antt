@@ -16,18 +16,18 @@ use Rattle.sl_specs.specs.declared.class.Class.TheVariants as classes
 use Rattle.sl_specs.specs.Forms.{same_form}
 use Rattle.sl_specs.specs.Rows.{Row as TableRow}
 use Rattle.sl_specs.specs.Table.{table}
-use Rattle.sl_model.specs.Containers.{Memory, Cont, size, cont_at, begin_of, locate, made, key_part}
+use Rattle.sl_model.specs.Memory.Containers.{Memory, Cont, size, cont_at, begin_of, locate, made, key_part}
 use Rattle.sl_model.specs.Numbers.{converted}
-use Rattle.sl_model.specs.Schedule.{pick}
-use Rattle.sl_model.specs.Edits.{change_of, after}
-use Rattle.sl_model.specs.Values.{Value, Args, number, iterator, nothing, element_at, LibOut, trapped, thrown, gives}
-use Rattle.sl_model.specs.Operands.{is_of_form}
-use Rattle.sl_model.specs.Situation.{Situation, container_in, index_in}
-use Rattle.sl_model.specs.Needs.{first_failure, fails_if, dereference_fails}
-use Rattle.sl_model.specs.Actions.{exception_if}
-use Rattle.sl_model.specs.Effects.{insertion, picks_with}
-use Rattle.sl_model.specs.Rows.{of_form, Row, member_row, row_of}
-use Rattle.sl_model.specs.Library.{lib, object_in, called_row, on_object, carried_out}
+use Rattle.sl_model.specs.Memory.Schedule.{pick}
+use Rattle.sl_model.specs.Memory.Edits.{change_of, after}
+use Rattle.sl_model.specs.LibraryCalls.Values.{Value, Args, number, iterator, nothing, element_at, LibOut, trapped, thrown, gives}
+use Rattle.sl_model.specs.LibraryCalls.Operands.{is_of_form}
+use Rattle.sl_model.specs.LibraryCalls.Situation.{Situation, container_in, index_in}
+use Rattle.sl_model.specs.LibraryCalls.Needs.{first_failure, fails_if, dereference_fails}
+use Rattle.sl_model.specs.LibraryCalls.Actions.{exception_if}
+use Rattle.sl_model.specs.LibraryCalls.Effects.{insertion, picks_with}
+use Rattle.sl_model.specs.LibraryCalls.Rows.{of_form, Row, member_row, row_of}
+use Rattle.sl_model.specs.LibraryCalls.Library.{lib, object_in, called_row, on_object, carried_out}
 use Rattle.sl_tool.proofs.Lists.{get_or-there}
 
 pub cont_at-there : (m : Memory) (j : ℕ) (c : Cont) → slice_get m.conts j ≡ Some c → cont_at m j ≡ c

@@ -2,10 +2,10 @@
 use Rattle.std.proofs.Common.{◌≡◌, ℕ, ◌≤◌, Bool, false, List, [], length, Some, ◌⊎◌}
 use Rattle.std.specs.Prelude.{slice_get, slice_index_or, nat_lt, Contains}
 use Rattle.sl_base.specs.declared.form.Form.TheVariants as f
-use Rattle.sl_model.specs.Containers.{Memory, Cont, size, killer}
-use Rattle.sl_model.specs.Edits.{numbers}
-use Rattle.sl_model.specs.Good.{IsAt, IsSound}
-use Rattle.sl_model.specs.State.{Pointer, mark_in, Frame}
+use Rattle.sl_model.specs.Memory.Containers.{Memory, Cont, size, killer}
+use Rattle.sl_model.specs.Memory.Edits.{numbers}
+use Rattle.sl_model.specs.Runs.Good.{IsAt, IsSound}
+use Rattle.sl_model.specs.Runs.State.{Pointer, mark_in, Frame}
 use Rattle.sl_tool.specs.declared.analysis.Standing.{Standing}
 use Rattle.sl_tool.specs.Means.Analysis.{Known, is_filled, killers_of}
 

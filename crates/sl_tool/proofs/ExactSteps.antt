@@ -14,17 +14,17 @@ use Rattle.sl_syntax.specs.declared.typed.head.Head.{Head}
 use Rattle.sl_syntax.specs.declared.typed.operator.Operator.TheVariants as operators
 use Rattle.sl_syntax.specs.Typed.{makes, none, with, literal, iterator as iterator_operand, held, element, call, evaluates, set_iterator, set_scalar}
 use Rattle.sl_syntax.specs.SubsetView.{stmt_of, free_call, member_call, vector_row, begin_row, push_back_row}
-use Rattle.sl_model.specs.Containers.{Cont, size, cont_at, killer}
+use Rattle.sl_model.specs.Memory.Containers.{Cont, size, cont_at, killer}
 use Rattle.sl_model.specs.Numbers.{converted}
-use Rattle.sl_model.specs.Schedule.{pick}
-use Rattle.sl_model.specs.Values.{Value, number, iterator, nothing, LibOut, thrown, trapped, gives}
-use Rattle.sl_model.specs.Ends.{Trapped, OutOfSteps, End}
-use Rattle.sl_model.specs.State.{mark_in, iterator_at, Pointer, State, cont_of, iter_of, stamp_of, new_iterator}
-use Rattle.sl_model.specs.Eval.{World, settle_call}
-use Rattle.sl_model.specs.Exec.{Flow, Next, Over, Meaning, tick, exec, flow_of, on_stamp, declared, affect}
-use Rattle.sl_model.specs.Effects.{picks_with}
-use Rattle.sl_model.specs.Library.{lib}
-use Rattle.sl_model.specs.Covers.{Tells}
+use Rattle.sl_model.specs.Memory.Schedule.{pick}
+use Rattle.sl_model.specs.LibraryCalls.Values.{Value, number, iterator, nothing, LibOut, thrown, trapped, gives}
+use Rattle.sl_model.specs.Runs.Ends.{Trapped, OutOfSteps, End}
+use Rattle.sl_model.specs.Runs.State.{mark_in, iterator_at, Pointer, State, cont_of, iter_of, stamp_of, new_iterator}
+use Rattle.sl_model.specs.Runs.Eval.{World, settle_call}
+use Rattle.sl_model.specs.Runs.Exec.{Flow, Next, Over, Meaning, tick, exec, flow_of, on_stamp, declared, affect}
+use Rattle.sl_model.specs.LibraryCalls.Effects.{picks_with}
+use Rattle.sl_model.specs.LibraryCalls.Library.{lib}
+use Rattle.sl_model.specs.Reports.Covers.{Tells}
 use Rattle.sl_tool.specs.declared.analysis.Warning.{Warning}
 use Rattle.sl_tool.specs.declared.analysis.Fault.TheVariants.{InvalidIterator}
 use Rattle.sl_tool.specs.declared.analysis.Standing.{Standing}

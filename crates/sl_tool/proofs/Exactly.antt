@@ -6,14 +6,14 @@ use Rattle.std.proofs.lemmas.Option.{slice_get_within}
 use Rattle.std.proofs.lemmas.Bool.{cases_eq, lt-ltb, cond-true}
 use Rattle.sl_base.specs.declared.form.Form.{Form}
 use Rattle.sl_base.specs.declared.form.Form.TheVariants as f
-use Rattle.sl_model.specs.Containers.{Memory, Cont, size, made, killer}
+use Rattle.sl_model.specs.Memory.Containers.{Memory, Cont, size, made, killer}
 use Rattle.sl_specs.specs.declared.class.Class.TheVariants.{VectorInsert}
-use Rattle.sl_model.specs.Classes.{kills}
-use Rattle.sl_model.specs.Edits.{change_of, changed}
-use Rattle.sl_model.specs.Effects.{room_with}
-use Rattle.sl_model.specs.Schedule.{pick}
-use Rattle.sl_model.specs.Good.{IsAt, IsSound}
-use Rattle.sl_model.specs.State.{Pointer, iterator_at, mark_in, State, Frame}
+use Rattle.sl_model.specs.Memory.Classes.{kills}
+use Rattle.sl_model.specs.Memory.Edits.{change_of, changed}
+use Rattle.sl_model.specs.LibraryCalls.Effects.{room_with}
+use Rattle.sl_model.specs.Memory.Schedule.{pick}
+use Rattle.sl_model.specs.Runs.Good.{IsAt, IsSound}
+use Rattle.sl_model.specs.Runs.State.{Pointer, iterator_at, mark_in, State, Frame}
 use Rattle.sl_tool.specs.declared.analysis.Standing.{Standing}
 use Rattle.sl_tool.specs.Means.Analysis.{Known, is_filled, killers_of, with_vector, with_push, with_iterator, found_valid}
 use Rattle.sl_tool.proofs.Describes.{Describes, Stays}

@@ -11,14 +11,14 @@ use Rattle.sl_syntax.specs.Typed.{Function, Typed}
 use Rattle.sl_base.specs.declared.scalar.Scalar.TheVariants as t
 use Rattle.sl_model.specs.Numbers.{fits}
 use Rattle.sl_syntax.specs.SubsetView.{stmt_of, stmts_of, typed_of, main_of, brace_site}
-use Rattle.sl_model.specs.Ends.{End, Trapped, Trap, Done, OutOfSteps, Language, Thrown, NoMeaning}
-use Rattle.sl_model.specs.State.{State}
-use Rattle.sl_model.specs.Eval.{World, come_back}
-use Rattle.sl_model.specs.Exec.{Flow, Next, Broke, Continued, Returned, Over, Meaning, and_then, exec, exec_all, scoped}
-use Rattle.sl_model.specs.Calls.{body_gives, world_of, call_of}
-use Rattle.sl_model.specs.Run.{empty_state, finished, run}
-use Rattle.sl_model.specs.Library.{lib}
-use Rattle.sl_model.specs.Covers.{Tells, Safe, Warning as WarningValue}
+use Rattle.sl_model.specs.Runs.Ends.{End, Trapped, Trap, Done, OutOfSteps, Language, Thrown, NoMeaning}
+use Rattle.sl_model.specs.Runs.State.{State}
+use Rattle.sl_model.specs.Runs.Eval.{World, come_back}
+use Rattle.sl_model.specs.Runs.Exec.{Flow, Next, Broke, Continued, Returned, Over, Meaning, and_then, exec, exec_all, scoped}
+use Rattle.sl_model.specs.Runs.Calls.{body_gives, world_of, call_of}
+use Rattle.sl_model.specs.Runs.Run.{empty_state, finished, run}
+use Rattle.sl_model.specs.LibraryCalls.Library.{lib}
+use Rattle.sl_model.specs.Reports.Covers.{Tells, Safe, Warning as WarningValue}
 use Rattle.sl_tool.specs.declared.analysis.Warning.{Warning}
 use Rattle.sl_tool.specs.Means.Analysis.{Known, nothing_known, standing_at, is_filled, warned, warnings_of, with_vector, with_push, with_iterator}
 use Rattle.sl_tool.specs.Means.Analysis.{found_valid}

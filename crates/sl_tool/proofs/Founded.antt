@@ -11,7 +11,7 @@ use Rattle.sl_syntax.specs.declared.subset.Stmt.{Stmt}
 use Rattle.sl_syntax.specs.declared.subset.Stmt.TheVariants.{PushBack}
 use Rattle.sl_syntax.specs.declared.subset.Text.{Text}
 use Rattle.sl_syntax.specs.SubsetView.{typed_of}
-use Rattle.sl_model.specs.Covers.{Warning as WarningValue}
+use Rattle.sl_model.specs.Reports.Covers.{Warning as WarningValue}
 use Rattle.sl_tool.specs.declared.analysis.Warning.{Warning}
 use Rattle.sl_tool.specs.declared.analysis.Fault.{Fault}
 use Rattle.sl_tool.specs.declared.analysis.Fault.TheVariants.{InvalidIterator, EndIterator}

@@ -2,10 +2,10 @@
 use Rattle.std.proofs.Common.{arith, ◌≡◌, ℕ, zero, suc, Bool, true, if◌then◌else◌, List, [], ◌∷◌, ◌++◌, length, ◌+◌, Some, ap, ◌∙◌}
 use Rattle.std.specs.Prelude.{slice_get}
 use Rattle.std.proofs.lemmas.List.{map-append}
-use Rattle.sl_model.specs.Ends.{Trap, End, Done, Trapped, OutOfSteps, Language, Thrown, NoMeaning}
-use Rattle.sl_model.specs.State.{State}
-use Rattle.sl_model.specs.Exec.{Flow, Next, Broke, Continued, Returned, Over, Meaning, tick, and_then}
-use Rattle.sl_model.specs.Covers.{Covers}
+use Rattle.sl_model.specs.Runs.Ends.{Trap, End, Done, Trapped, OutOfSteps, Language, Thrown, NoMeaning}
+use Rattle.sl_model.specs.Runs.State.{State}
+use Rattle.sl_model.specs.Runs.Exec.{Flow, Next, Broke, Continued, Returned, Over, Meaning, tick, and_then}
+use Rattle.sl_model.specs.Reports.Covers.{Covers}
 use Rattle.sl_tool.specs.declared.analysis.Warning.{Warning}
 use Rattle.sl_tool.specs.Means.Analysis.{Known}
 use Rattle.sl_tool.specs.Means.Told.{report_of}

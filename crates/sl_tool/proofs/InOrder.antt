@@ -4,7 +4,7 @@ use Rattle.std.specs.Prelude.{slice_get}
 use Rattle.std.proofs.lemmas.Option.{slice_get_within}
 use Rattle.sl_syntax.specs.declared.subset.Stmt.{Stmt}
 use Rattle.sl_syntax.specs.declared.subset.Stmt.TheVariants.{Vector, PushBack, Begin, Dereference}
-use Rattle.sl_model.specs.Covers.{Warning as WarningValue}
+use Rattle.sl_model.specs.Reports.Covers.{Warning as WarningValue}
 use Rattle.sl_tool.specs.declared.analysis.Warning.{Warning}
 use Rattle.sl_tool.specs.Means.Analysis.{Known, nothing_known, killers_of, standing_at, fault_in, goes_on, warned, known_after, warnings_of}
 use Rattle.sl_tool.specs.Means.Told.{warning_of, report_of}

@@ -11,13 +11,13 @@ use Rattle.std.proofs.lemmas.Bool.{cases_eq, lt-ltb, cond-true}
 use Rattle.std.proofs.lemmas.Bool.Decides.{nat_tests}
 use Rattle.sl_base.specs.declared.form.Form.TheVariants as f
 use Rattle.sl_base.specs.declared.limits.TheConstants.{ELEMENTS}
-use Rattle.sl_model.specs.Containers.{Memory, Cont, size, stamps, made, begin_of}
+use Rattle.sl_model.specs.Memory.Containers.{Memory, Cont, size, stamps, made, begin_of}
 use Rattle.sl_specs.specs.declared.class.Class.TheVariants.{VectorInsert}
-use Rattle.sl_model.specs.Classes.{Edit, kills, vector_insert_kills}
-use Rattle.sl_model.specs.Edits.{numbers, change_of, after, changed, shifted}
-use Rattle.sl_model.specs.Good.{IsAt, IsSound}
-use Rattle.sl_model.specs.State.{Pointer, iterator_at, mark_in, Frame}
-use Rattle.sl_model.specs.Effects.{insertion}
+use Rattle.sl_model.specs.Memory.Classes.{Edit, kills, vector_insert_kills}
+use Rattle.sl_model.specs.Memory.Edits.{numbers, change_of, after, changed, shifted}
+use Rattle.sl_model.specs.Runs.Good.{IsAt, IsSound}
+use Rattle.sl_model.specs.Runs.State.{Pointer, iterator_at, mark_in, Frame}
+use Rattle.sl_model.specs.LibraryCalls.Effects.{insertion}
 use Rattle.sl_tool.specs.declared.analysis.Standing.{Standing}
 use Rattle.sl_tool.specs.Means.Analysis.{Known, is_filled, killers_of, with_vector, with_push, with_iterator, found_valid}
 use Rattle.sl_tool.proofs.Describes.{Describes, IsHere, Stays}

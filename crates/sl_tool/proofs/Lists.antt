@@ -2,7 +2,7 @@
 use Rattle.std.proofs.Common.{◌≡◌, ◌≢◌, ℕ, zero, suc, ◌+◌, ◌<◌, List, [], ◌∷◌, ◌++◌, length, get_or, set, Some, ◌⊎◌, inl, inr, refl, ap, sym, ◌∙◌}
 use Rattle.std.proofs.Common.{arith, add-one, add-zero}
 use Rattle.std.specs.Prelude.{slice_get}
-use Rattle.sl_model.specs.Edits.{numbers}
+use Rattle.sl_model.specs.Memory.Edits.{numbers}
 
 -- an element of a list with one more is an old one or the new one
 pub pushed : {A : Type 0} (xs : List A) (y x : A) (i : ℕ) → slice_get (xs ++ y ∷ []) i ≡ Some x → (slice_get xs i ≡ Some x)

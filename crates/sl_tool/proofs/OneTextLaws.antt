@@ -18,8 +18,8 @@ use Rattle.sl_syntax.specs.declared.subset.Text.{Text}
 use Rattle.sl_syntax.specs.Tree.{Program}
 use Rattle.sl_syntax.specs.TreeView.{program_of}
 use Rattle.sl_syntax.proofs.BeginsLaws.{stops_once, not_whole}
-use Rattle.sl_model.specs.Covers.{Warning}
-use Rattle.sl_model.specs.Texts.{report_text, refusal_line}
+use Rattle.sl_model.specs.Reports.Covers.{Warning}
+use Rattle.sl_model.specs.Reports.Texts.{report_text, refusal_line}
 use Rattle.sl_tool.specs.declared.parsed.Parsed.{Parsed}
 use Rattle.sl_tool.specs.declared.status.Status.{Status}
 use Rattle.sl_tool.specs.declared.status.Status.TheVariants.{Refused}

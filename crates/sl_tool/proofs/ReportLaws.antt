@@ -4,7 +4,7 @@ use Rattle.std.proofs.Common.{append_assoc, get_or, add-one}
 use Rattle.std.specs.Prelude.{slice_get, Contains}
 use Rattle.std.specs.declared.cmp.Ordering.TheVariants.{Less}
 use Rattle.std.proofs.Math.Seq.{drop-cons}
-use Rattle.sl_model.specs.Covers.{Warning}
+use Rattle.sl_model.specs.Reports.Covers.{Warning}
 use Rattle.sl_tool.specs.declared.analysis.Warning.{Warning as WarningCode}
 use Rattle.sl_tool.specs.Means.Told.{killers_in, warning_of, report_of}
 use Rattle.sl_kind.specs.declared.kills.Kills.{Kills}

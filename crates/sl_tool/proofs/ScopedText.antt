@@ -8,10 +8,10 @@ use Rattle.sl_syntax.specs.declared.subset.Text.{Text}
 use Rattle.sl_syntax.specs.SubsetView.{stmts_of, main_of, typed_of}
 use Rattle.sl_base.specs.declared.limits.TheConstants.{CALLS}
 use Rattle.sl_specs.specs.Table.{table}
-use Rattle.sl_model.specs.Library.{lib}
-use Rattle.sl_model.specs.Run.{out_of}
-use Rattle.sl_model.specs.Shapes.{Signature, a_number, lib_shape, lib_makes, signature_of}
-use Rattle.sl_model.specs.Scoped.{InStmts, IsScopedFunction, IsScoped}
+use Rattle.sl_model.specs.LibraryCalls.Library.{lib}
+use Rattle.sl_model.specs.Runs.Run.{out_of}
+use Rattle.sl_model.specs.Typing.Shapes.{Signature, a_number, lib_shape, lib_makes, signature_of}
+use Rattle.sl_model.specs.Typing.Scoped.{InStmts, IsScopedFunction, IsScoped}
 use Rattle.sl_model.proofs.RunGood.{IsGoodOut, run-good}
 use Rattle.sl_tool.specs.Subset.{IsOfText}
 use Rattle.sl_tool.proofs.Uses.{UsesDeclared}

@@ -7,15 +7,15 @@ use Rattle.sl_syntax.specs.declared.subset.Stmt.TheVariants.{Vector, PushBack, B
 use Rattle.sl_syntax.specs.declared.subset.Text.{Text}
 use Rattle.sl_syntax.specs.Typed.{Function}
 use Rattle.sl_syntax.specs.SubsetView.{stmt_of, stmts_of, typed_of, main_of, brace_site}
-use Rattle.sl_model.specs.Ends.{Trap}
-use Rattle.sl_model.specs.State.{State}
-use Rattle.sl_model.specs.Eval.{World, come_back}
-use Rattle.sl_model.specs.Exec.{Flow, Next, Broke, Continued, Returned, Over, exec, exec_all, scoped}
-use Rattle.sl_model.specs.Calls.{body_gives, world_of, call_of}
-use Rattle.sl_model.specs.Values.{Value, nothing, number, iterator, pair, two, scalar_at, container_at, element_at}
-use Rattle.sl_model.specs.Run.{done_with, empty_state, finished, run}
-use Rattle.sl_model.specs.Library.{lib}
-use Rattle.sl_model.specs.Covers.{Covers, Reports, Safe, HasMeaning, Warning as WarningValue}
+use Rattle.sl_model.specs.Runs.Ends.{Trap}
+use Rattle.sl_model.specs.Runs.State.{State}
+use Rattle.sl_model.specs.Runs.Eval.{World, come_back}
+use Rattle.sl_model.specs.Runs.Exec.{Flow, Next, Broke, Continued, Returned, Over, exec, exec_all, scoped}
+use Rattle.sl_model.specs.Runs.Calls.{body_gives, world_of, call_of}
+use Rattle.sl_model.specs.LibraryCalls.Values.{Value, nothing, number, iterator, pair, two, scalar_at, container_at, element_at}
+use Rattle.sl_model.specs.Runs.Run.{done_with, empty_state, finished, run}
+use Rattle.sl_model.specs.LibraryCalls.Library.{lib}
+use Rattle.sl_model.specs.Reports.Covers.{Covers, Reports, Safe, HasMeaning, Warning as WarningValue}
 use Rattle.sl_model.proofs.RunSound.{empty-sound}
 use Rattle.sl_tool.specs.declared.analysis.Warning.{Warning}
 use Rattle.sl_tool.specs.Means.Analysis.{Known, nothing_known, standing_at, is_filled, warned, warnings_of, with_vector, with_push, with_iterator}

@@ -13,19 +13,19 @@ use Rattle.sl_syntax.specs.declared.typed.head.Head.{Head}
 use Rattle.sl_syntax.specs.declared.typed.operator.Operator.TheVariants as operators
 use Rattle.sl_syntax.specs.Typed.{makes, none, with, literal, iterator as iterator_operand, held, element, call, evaluates, set_iterator, set_scalar}
 use Rattle.sl_syntax.specs.SubsetView.{stmt_of, free_call, member_call, vector_row, begin_row, push_back_row}
-use Rattle.sl_model.specs.Containers.{Memory, Cont, size, cont_at, killer, key_part}
+use Rattle.sl_model.specs.Memory.Containers.{Memory, Cont, size, cont_at, killer, key_part}
 use Rattle.sl_model.specs.Numbers.{converted}
-use Rattle.sl_model.specs.Schedule.{pick}
-use Rattle.sl_model.specs.Edits.{numbers}
-use Rattle.sl_model.specs.Values.{Value, number, iterator, nothing, element_at, LibOut, thrown, trapped, gives}
-use Rattle.sl_model.specs.Good.{IsAt}
-use Rattle.sl_model.specs.Ends.{Trap}
-use Rattle.sl_model.specs.State.{Pointer, iterator_at, mark_in, State, Frame, cont_of, iter_of, stamp_of, new_scalar, new_iterator, new_container}
-use Rattle.sl_model.specs.Eval.{World, then_eval, settle_call, read_at}
-use Rattle.sl_model.specs.Exec.{Flow, Next, exec, flow_of, on_number, on_stamp, declared, affect}
-use Rattle.sl_model.specs.Effects.{picks_with}
-use Rattle.sl_model.specs.Library.{lib}
-use Rattle.sl_model.specs.Covers.{Covers}
+use Rattle.sl_model.specs.Memory.Schedule.{pick}
+use Rattle.sl_model.specs.Memory.Edits.{numbers}
+use Rattle.sl_model.specs.LibraryCalls.Values.{Value, number, iterator, nothing, element_at, LibOut, thrown, trapped, gives}
+use Rattle.sl_model.specs.Runs.Good.{IsAt}
+use Rattle.sl_model.specs.Runs.Ends.{Trap}
+use Rattle.sl_model.specs.Runs.State.{Pointer, iterator_at, mark_in, State, Frame, cont_of, iter_of, stamp_of, new_scalar, new_iterator, new_container}
+use Rattle.sl_model.specs.Runs.Eval.{World, then_eval, settle_call, read_at}
+use Rattle.sl_model.specs.Runs.Exec.{Flow, Next, exec, flow_of, on_number, on_stamp, declared, affect}
+use Rattle.sl_model.specs.LibraryCalls.Effects.{picks_with}
+use Rattle.sl_model.specs.LibraryCalls.Library.{lib}
+use Rattle.sl_model.specs.Reports.Covers.{Covers}
 use Rattle.sl_tool.specs.declared.analysis.Standing.{Standing}
 use Rattle.sl_tool.specs.Means.Analysis.{Known, killers_of, standing_at, is_filled, with_vector, with_push, with_iterator, found_valid, dereferenced}
 use Rattle.sl_tool.specs.Means.Analysis.{fault_in, told_at}

@@ -5,8 +5,8 @@ use Rattle.sl_syntax.specs.declared.subset.Text.{Text}
 use Rattle.sl_syntax.specs.Begins.{Stops, words_in}
 use Rattle.sl_syntax.specs.Tree.{Program}
 use Rattle.sl_syntax.specs.SubsetView.{typed_of}
-use Rattle.sl_model.specs.Covers.{Warning, Reports, HasMeaning}
-use Rattle.sl_model.specs.Texts.{report_text, refusal_line}
+use Rattle.sl_model.specs.Reports.Covers.{Warning, Reports, HasMeaning}
+use Rattle.sl_model.specs.Reports.Texts.{report_text, refusal_line}
 use Rattle.sl_warnings.specs.Reports.{IsAscending}
 use Rattle.sl_tool.specs.declared.status.Status.{Status}
 use Rattle.sl_tool.specs.declared.status.Status.TheVariants.{Passed, Warned, Refused}

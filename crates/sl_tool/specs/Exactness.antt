@@ -8,9 +8,9 @@ use Rattle.sl_syntax.specs.declared.subset.Stmt.{Stmt}
 use Rattle.sl_syntax.specs.declared.subset.Stmt.TheVariants.{PushBack, Dereference}
 use Rattle.sl_syntax.specs.declared.subset.Text.{Text}
 use Rattle.sl_syntax.specs.Typed.{Typed}
-use Rattle.sl_model.specs.Ends.{Trapped, Trap, Finish}
-use Rattle.sl_model.specs.Run.{run}
-use Rattle.sl_model.specs.Covers.{Warning, Tells, Safe}
+use Rattle.sl_model.specs.Runs.Ends.{Trapped, Trap, Finish}
+use Rattle.sl_model.specs.Runs.Run.{run}
+use Rattle.sl_model.specs.Reports.Covers.{Warning, Tells, Safe}
 
 -- the run with no input, with no schedule, and with as many steps as a text may have statements: where the schedule is empty, a
 -- vector has no room beyond its elements

@@ -10,7 +10,7 @@ use Rattle.sl_syntax.specs.Begins.{IsProgram, Stops, words_in}
 use Rattle.sl_syntax.specs.Placed.{Placed}
 use Rattle.sl_syntax.specs.Shaped.{Shaped}
 use Rattle.sl_syntax.specs.Tree.{Program}
-use Rattle.sl_model.specs.Texts.{refusal_line}
+use Rattle.sl_model.specs.Reports.Texts.{refusal_line}
 use Rattle.sl_tool.specs.Texts.{too_long_line}
 
 -- the words for a broken rule of tokens

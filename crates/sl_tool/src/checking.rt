@@ -1,8 +1,8 @@
 //! The answer to a text that is parsed: a report on it, or that it isn't built yet.
 ghost use Rattle.std.specs.Prelude.{◌≡◌, List, IfOk};
 ghost use Rattle.sl_syntax.specs.TreeView.{program_of};
-ghost use Rattle.sl_model.specs.Covers.{Warning as WarningValue};
-ghost use Rattle.sl_model.specs.Texts.{report_text};
+ghost use Rattle.sl_model.specs.Reports.Covers.{Warning as WarningValue};
+ghost use Rattle.sl_model.specs.Reports.Texts.{report_text};
 ghost use Rattle.sl_tool.specs.Answers.{AnswerTo, IsReport, status_of};
 ghost use Rattle.sl_tool.specs.Subset.{IsOfText};
 ghost use Rattle.sl_tool.specs.Refusals.{IsParsed};

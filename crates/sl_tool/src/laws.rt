@@ -1,10 +1,10 @@
 //! Laws of answers that a reviewer would ask for.
 ghost use Rattle.std.specs.Prelude.{◌≡◌, ◌≤◌, List, ℕ, length};
 ghost use Rattle.sl_base.specs.declared.limits.TheConstants.{TEXT_BYTES};
-ghost use Rattle.sl_model.specs.Covers.{Warning};
-ghost use Rattle.sl_model.specs.Scoped.{IsScoped};
-ghost use Rattle.sl_model.specs.Shapes.{lib_makes, lib_shape};
-ghost use Rattle.sl_model.specs.Texts.{report_text};
+ghost use Rattle.sl_model.specs.Reports.Covers.{Warning};
+ghost use Rattle.sl_model.specs.Typing.Scoped.{IsScoped};
+ghost use Rattle.sl_model.specs.Typing.Shapes.{lib_makes, lib_shape};
+ghost use Rattle.sl_model.specs.Reports.Texts.{report_text};
 ghost use Rattle.sl_syntax.specs.SubsetView.{typed_of};
 ghost use Rattle.sl_syntax.specs.declared.subset.Text.{Text};
 ghost use Rattle.sl_tool.specs.Answers.{AnswerTo, IsReport, status_of};

@@ -1,6 +1,6 @@
 //! The line that refuses a text at a place.
 ghost use Rattle.std.specs.Prelude.{◌≡◌, IfOk};
-ghost use Rattle.sl_model.specs.Texts.{refusal_line};
+ghost use Rattle.sl_model.specs.Reports.Texts.{refusal_line};
 
 use sl_base::{Items, Place};
 use std::alloc::{AllocError, Global};

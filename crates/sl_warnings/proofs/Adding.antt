@@ -6,7 +6,7 @@ use Rattle.std.specs.List.Sorted.{IsStrictlySortedBy}
 use Rattle.std.specs.declared.cmp.Ordering.{Ordering}
 use Rattle.std.specs.declared.cmp.Ordering.TheVariants.{Less, Equal, Greater}
 use Rattle.std.proofs.lemmas.Map.Keys.{Less-from_sorted, sorted_tail}
-use Rattle.sl_model.specs.Covers.{Warning}
+use Rattle.sl_model.specs.Reports.Covers.{Warning}
 use Rattle.sl_warnings.specs.Reports.{warning_cmp, IsAscending, with_killers, with_killers_at, added}
 use Rattle.sl_warnings.proofs.Spots.{warning_cmp_total, like_right, greater_first}
 

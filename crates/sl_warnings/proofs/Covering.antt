@@ -1,8 +1,8 @@
 -- A report that covers a trap covers it after one warning more, and then covers what that warning tells of.
 use Rattle.std.proofs.Common.{arith, ◌≡◌, ℕ, zero, suc, List, [], ◌∷◌, Some, refl, sym, subst, ◌∙◌}
 use Rattle.std.specs.Prelude.{slice_get}
-use Rattle.sl_model.specs.Covers.{Warning, Tells, Covers}
-use Rattle.sl_model.specs.Ends.{Trap}
+use Rattle.sl_model.specs.Reports.Covers.{Warning, Tells, Covers}
+use Rattle.sl_model.specs.Runs.Ends.{Trap}
 use Rattle.sl_warnings.specs.Reports.{warning_cmp, with_killers, added, Agrees, IsSameNeed}
 use Rattle.sl_warnings.proofs.Spots.{IsSameSpot, same_spot}
 use Rattle.sl_warnings.proofs.Adding.{by_order, added-less, added-equal, added-greater}

@@ -14,7 +14,7 @@ use Rattle.std.proofs.lemmas.List.Sums.{position_or_len_is}
 use Rattle.indexmap.specs.IndexMap.{set_value_at, insert_entry, move_index, index_before}
 use Rattle.indexmap.proofs.SortedLemmas.{absent_pushes}
 use Rattle.indexmap.proofs.MoveLemmas.{push_moved}
-use Rattle.sl_model.specs.Covers.{Warning}
+use Rattle.sl_model.specs.Reports.Covers.{Warning}
 use Rattle.sl_warnings.specs.declared.warning.Warning.{Warning as WarningCode}
 use Rattle.sl_warnings.specs.declared.spot.Spot.{Spot}
 use Rattle.sl_warnings.specs.Reports.{IsAscending, with_killers, with_killers_at, added}

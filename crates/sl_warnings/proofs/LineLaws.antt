@@ -4,8 +4,8 @@ use Rattle.std.proofs.Common.{◌-◌, drop, refl, ap, sym}
 use Rattle.std.specs.Prelude.{codes, flat_map, slice_get}
 use Rattle.std.proofs.Math.Seq.{take_all}
 use Rattle.sl_base.specs.declared.place.Place.{Place}
-use Rattle.sl_model.specs.Covers.{Warning}
-use Rattle.sl_model.specs.Texts.{site_text, further_sites, sites_text, warning_line, count_line, report_text}
+use Rattle.sl_model.specs.Reports.Covers.{Warning}
+use Rattle.sl_model.specs.Reports.Texts.{site_text, further_sites, sites_text, warning_line, count_line, report_text}
 
 -- the text of sites, of which there is a first one
 pub sites_text-first : (sites : List Place) (killers : List ℕ) (first : ℕ) → 1 ≤ length killers → first ≡ get_or killers 0 first

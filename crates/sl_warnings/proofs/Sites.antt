@@ -12,7 +12,7 @@ use Rattle.sl_base.specs.declared.limits.TheConstants.{SITES}
 use Rattle.sl_kind.specs.declared.kills.Kills.{Kills}
 use Rattle.sl_kind.specs.Kills.{has}
 use Rattle.sl_kind.proofs.Sets.{has-site}
-use Rattle.sl_model.specs.Edits.{numbers}
+use Rattle.sl_model.specs.Memory.Edits.{numbers}
 use Rattle.sl_warnings.specs.Reports.{inserted, joined}
 use Rattle.sl_warnings.specs.Views.{sites_in}
 use Rattle.sl_warnings.proofs.Adding.{by_order}

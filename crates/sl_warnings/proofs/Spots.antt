@@ -10,7 +10,7 @@ use Rattle.std.proofs.lemmas.Cmp.{then_total, on_total, nat_cmp_total}
 use Rattle.std.proofs.lemmas.Bool.{eqb-true}
 use Rattle.std.proofs.lemmas.Map.Keys.{Less-from_sorted}
 use Rattle.sl_base.specs.declared.place.Place.{Place}
-use Rattle.sl_model.specs.Covers.{Warning}
+use Rattle.sl_model.specs.Reports.Covers.{Warning}
 use Rattle.sl_warnings.specs.declared.spot.Spot.{Spot}
 use Rattle.sl_warnings.specs.Reports.{warning_cmp, IsAscending}
 use Rattle.sl_warnings.specs.Means.Kept.{spot_cmp, spot_of}

@@ -4,7 +4,7 @@ use Rattle.std.specs.Ordering.{nat_cmp, ordering_then}
 use Rattle.std.specs.List.Sorted.{IsStrictlySortedBy}
 use Rattle.std.specs.declared.cmp.Ordering.{Ordering}
 use Rattle.std.specs.declared.cmp.Ordering.TheVariants.{Less, Equal, Greater}
-use Rattle.sl_model.specs.Covers.{Warning}
+use Rattle.sl_model.specs.Reports.Covers.{Warning}
 
 -- which of two warnings comes first: by line, then column, kind and argument
 abbrev pub warning_cmp : Warning → Warning → Ordering

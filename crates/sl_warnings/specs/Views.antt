@@ -3,8 +3,8 @@ use Rattle.std.specs.Prelude.{ℕ, List, filter}
 use Rattle.sl_base.specs.declared.limits.TheConstants.{SITES}
 use Rattle.sl_kind.specs.declared.kills.Kills.{Kills}
 use Rattle.sl_kind.specs.Kills.{has}
-use Rattle.sl_model.specs.Edits.{numbers}
-use Rattle.sl_model.specs.Covers.{Warning}
+use Rattle.sl_model.specs.Memory.Edits.{numbers}
+use Rattle.sl_model.specs.Reports.Covers.{Warning}
 use Rattle.sl_warnings.specs.declared.warning.Warning.{Warning as WarningCode}
 
 -- the sites of a set in ascending order

@@ -1,7 +1,7 @@
 //! The text of the places at which an iterator or a reference may have been invalidated.
 ghost use Rattle.std.specs.Prelude.{◌≡◌, [], ◌∷◌, ◌++◌, if◌then◌else◌, IfOk, OnOk};
 ghost use Rattle.sl_kind.specs.Kills.{has};
-ghost use Rattle.sl_model.specs.Texts.{place_text, site_text, further_sites, sites_text, killers_text};
+ghost use Rattle.sl_model.specs.Reports.Texts.{place_text, site_text, further_sites, sites_text, killers_text};
 ghost use Rattle.sl_warnings.specs.Views.{sites_in};
 
 use sl_base::failures::{INVALID_ITERATOR, INVALID_REFERENCE};

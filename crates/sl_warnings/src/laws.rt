@@ -2,8 +2,8 @@
 ghost use Rattle.std.specs.Prelude.{◌≡◌, ◌↔◌, ℕ, true, List, Contains};
 ghost use Rattle.sl_kind.specs.declared.kills.Kills.{Kills};
 ghost use Rattle.sl_kind.specs.Kills.{has};
-ghost use Rattle.sl_model.specs.Ends.{Trap};
-ghost use Rattle.sl_model.specs.Covers.{Warning, Tells, Covers};
+ghost use Rattle.sl_model.specs.Runs.Ends.{Trap};
+ghost use Rattle.sl_model.specs.Reports.Covers.{Warning, Tells, Covers};
 ghost use Rattle.sl_warnings.specs.Reports.{IsAscending, Agrees, added};
 ghost use Rattle.sl_warnings.specs.Views.{sites_in};
 

@@ -1,6 +1,6 @@
 //! The text of a report.
 ghost use Rattle.std.specs.Prelude.{◌≡◌, ◌++◌, flat_map, IfOk, OnOk};
-ghost use Rattle.sl_model.specs.Texts.{warning_line, report_text};
+ghost use Rattle.sl_model.specs.Reports.Texts.{warning_line, report_text};
 ghost use Rattle.sl_warnings.specs.Views.{warning_of};
 
 use crate::killers::push_killers;

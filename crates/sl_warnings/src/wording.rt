@@ -1,6 +1,6 @@
 //! The words for the kind of a failure and for the one whose need it is.
 ghost use Rattle.std.specs.Prelude.{◌≡◌, ◌++◌, OnOk};
-ghost use Rattle.sl_model.specs.Texts.{kind_text, who_text, name_text, name_in_for};
+ghost use Rattle.sl_model.specs.Reports.Texts.{kind_text, who_text, name_text, name_in_for};
 
 use sl_base::{Items, Name, failures};
 use std::alloc::{AllocError, Global};

@@ -3,7 +3,7 @@ use Rattle.std.specs.Prelude.{◌≡◌, refl, [], ◌∷◌, Some, None, pos, n
 use Rattle.sl_base.specs.declared.form.Form.TheVariants as f
 use Rattle.sl_specs.specs.declared.rows.algorithms.TheConstants as row
 use Rattle.sl_specs.specs.Table.{table}
-use Rattle.sl_model.specs.Values.{number, iterator, trapped, faulted}
+use Rattle.sl_model.specs.LibraryCalls.Values.{number, iterator, trapped, faulted}
 use Rattle.sl_model.proofs.Examples.Outcomes.{outcome, in_first, in_second, three, three_and_two, algorithm}
 
 -- find(f, l, x), and the end of the range where there is none

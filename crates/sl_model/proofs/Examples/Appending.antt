@@ -4,8 +4,8 @@ use Rattle.std.specs.Fmt.{digits}
 use Rattle.sl_syntax.specs.declared.typed.callee.Callee.TheVariants as callees
 use Rattle.sl_syntax.specs.Typed.{Expr, held, number, call, container, none, with, prints, evaluates, Stmt, does, Typed}
 use Rattle.sl_specs.specs.Table.{table}
-use Rattle.sl_model.specs.Ends.{Done, Trapped}
-use Rattle.sl_model.specs.Run.{run}
+use Rattle.sl_model.specs.Runs.Ends.{Done, Trapped}
+use Rattle.sl_model.specs.Runs.Run.{run}
 use Rattle.sl_model.proofs.Examples.Short.{at, head, vector, push, start, deref, alone, finish, trap}
 
 -- v.begin() and v.end() at their calls on a line

@@ -11,13 +11,13 @@ use Rattle.sl_syntax.specs.declared.typed.parameter.ParameterKind.TheVariants as
 use Rattle.sl_syntax.specs.Typed.{literal, held, arithmetic, comparison, own_call, container, handed_scalar, scalar, none, with, test, text, number}
 use Rattle.sl_syntax.specs.Typed.{reads, prints, evaluates, assigns, updates, set_scalar, block, declares, choice, gives_back, does, Typed}
 use Rattle.sl_specs.specs.Table.{table}
-use Rattle.sl_model.specs.Containers.{made, empty_memory}
-use Rattle.sl_model.specs.Values.{number as number_value, iterator as iterator_value, scalar_at, container_at}
-use Rattle.sl_model.specs.State.{State, iterator_at, set_scalar_at}
-use Rattle.sl_model.specs.Ends.{Done, Trapped, OutOfSteps, Language}
-use Rattle.sl_model.specs.Binding.{bound}
-use Rattle.sl_model.specs.Eval.{Gives, come_back}
-use Rattle.sl_model.specs.Run.{run}
+use Rattle.sl_model.specs.Memory.Containers.{made, empty_memory}
+use Rattle.sl_model.specs.LibraryCalls.Values.{number as number_value, iterator as iterator_value, scalar_at, container_at}
+use Rattle.sl_model.specs.Runs.State.{State, iterator_at, set_scalar_at}
+use Rattle.sl_model.specs.Runs.Ends.{Done, Trapped, OutOfSteps, Language}
+use Rattle.sl_model.specs.Runs.Binding.{bound}
+use Rattle.sl_model.specs.Runs.Eval.{Gives, come_back}
+use Rattle.sl_model.specs.Runs.Run.{run}
 use Rattle.sl_model.proofs.Examples.Short.{at, all, vector, push, start, deref, main_of, text_of, finish, trap}
 
 -- int fact(int n) {

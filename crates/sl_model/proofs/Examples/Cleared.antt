@@ -5,13 +5,13 @@ use Rattle.std.specs.Prelude.{codes}
 use Rattle.sl_base.specs.declared.form.Form.TheVariants as f
 use Rattle.sl_specs.specs.declared.class.Class.{Class}
 use Rattle.sl_specs.specs.declared.class.Class.TheVariants.{Nothing, AllAndEnd}
-use Rattle.sl_model.specs.Containers.{Memory, stamps, IsGrave}
-use Rattle.sl_model.specs.Values.{nothing, gives, no_value}
-use Rattle.sl_model.specs.Situation.{Situation}
-use Rattle.sl_model.specs.AccessActions.{clear}
-use Rattle.sl_model.specs.Rows.{of_form, Row}
-use Rattle.sl_model.specs.Library.{row_out}
-use Rattle.sl_model.specs.Good.{Stands, NoneVanishes}
+use Rattle.sl_model.specs.Memory.Containers.{Memory, stamps, IsGrave}
+use Rattle.sl_model.specs.LibraryCalls.Values.{nothing, gives, no_value}
+use Rattle.sl_model.specs.LibraryCalls.Situation.{Situation}
+use Rattle.sl_model.specs.LibraryCalls.AccessActions.{clear}
+use Rattle.sl_model.specs.LibraryCalls.Rows.{of_form, Row}
+use Rattle.sl_model.specs.LibraryCalls.Library.{row_out}
+use Rattle.sl_model.specs.Runs.Good.{Stands, NoneVanishes}
 use Rattle.sl_model.proofs.Examples.Rows.{dropped, pair_with}
 
 -- clear() of a vector, by a class

@@ -15,8 +15,8 @@ use Rattle.sl_syntax.specs.declared.typed.step.Fix.TheVariants as fixes
 use Rattle.sl_syntax.specs.declared.typed.variable.VariableKind.TheVariants as v
 use Rattle.sl_syntax.specs.Typed.{literal, held, iterator, convert, negate, move, scalar, element, none, with, test, evaluates, assigns, updates}
 use Rattle.sl_syntax.specs.Typed.{unset_scalar, set_scalar, set_iterator, declares_first, declares, for, range_for, does, Typed}
-use Rattle.sl_model.specs.WellTyped.{WellTyped}
-use Rattle.sl_model.specs.Decided.{Decided}
+use Rattle.sl_model.specs.Typing.WellTyped.{WellTyped}
+use Rattle.sl_model.specs.Reports.Decided.{Decided}
 use Rattle.sl_model.proofs.Examples.Trees.{at, on, on_site, off, operator, int, value, calls, element_of, star, done, made, vector, begun, pushed}
 use Rattle.sl_model.proofs.Examples.Trees.{body, body_at, function, main_of, whole, alone, behind_vector}
 use Rattle.sl_model.proofs.Examples.Deciding.{judged, decided, with_literal, hash_set, inserted, seven, hash_end, behind_hash, counting, looping}

@@ -10,9 +10,9 @@ use Rattle.sl_syntax.specs.declared.typed.step.Step.TheVariants as steps
 use Rattle.sl_syntax.specs.declared.typed.variable.VariableKind.{VariableKind}
 use Rattle.sl_syntax.specs.declared.typed.variable.VariableKind.TheVariants as variables
 use Rattle.sl_syntax.specs.Typed.{Expr, comparison, increment, scalar, test, evaluates, set_scalar, declares_first, for, Stmt, Typed}
-use Rattle.sl_model.specs.WellTyped.{WellTyped}
-use Rattle.sl_model.specs.Decided.{calls_its_own, reads_input, begins_hash, steps_in_hash, loops_over_hash, goes_along_hash, uses_hash_erase}
-use Rattle.sl_model.specs.Decided.{calls_leaving, never_does, ends_in_time, makes_few_tests, stays_small, Decided}
+use Rattle.sl_model.specs.Typing.WellTyped.{WellTyped}
+use Rattle.sl_model.specs.Reports.Decided.{calls_its_own, reads_input, begins_hash, steps_in_hash, loops_over_hash, goes_along_hash, uses_hash_erase}
+use Rattle.sl_model.specs.Reports.Decided.{calls_leaving, never_does, ends_in_time, makes_few_tests, stays_small, Decided}
 use Rattle.sl_model.proofs.Examples.Trees.{Part, broken, well, at, on_site, on, int, value, calls, done, made, body_at, main_of, whole, alone}
 
 -- a rule of decided texts

@@ -8,8 +8,8 @@ use Rattle.sl_syntax.specs.declared.typed.step.Step.TheVariants.{Up}
 use Rattle.sl_syntax.specs.Typed.{literal, held, arithmetic, comparison, increment, scalar, test, evaluates, unset_scalar, set_scalar, declares, does}
 use Rattle.sl_syntax.specs.Typed.{does_first, for, Typed}
 use Rattle.sl_specs.specs.Table.{table}
-use Rattle.sl_model.specs.Ends.{Done, Language, Trapped}
-use Rattle.sl_model.specs.Run.{run}
+use Rattle.sl_model.specs.Runs.Ends.{Done, Language, Trapped}
+use Rattle.sl_model.specs.Runs.Run.{run}
 use Rattle.sl_model.proofs.Examples.Short.{at, vector, push, start, deref, alone, finish, trap}
 
 -- int main() {

@@ -2,8 +2,8 @@
 use Rattle.std.specs.Prelude.{◌≡◌, refl, [], ◌∷◌, Some, None, pos, negsuc, codes}
 use Rattle.std.specs.Fmt.{digits}
 use Rattle.sl_syntax.specs.Typed.{Typed}
-use Rattle.sl_model.specs.Ends.{Done, Trapped, OutOfSteps, Language, Thrown}
-use Rattle.sl_model.specs.EndText.{end_text}
+use Rattle.sl_model.specs.Runs.Ends.{Done, Trapped, OutOfSteps, Language, Thrown}
+use Rattle.sl_model.specs.Reports.EndText.{end_text}
 use Rattle.sl_model.proofs.Examples.Short.{at, finish, trap, text_of}
 
 -- a text with two sites, and variables of these names; a run's text asks no more of it

@@ -5,8 +5,8 @@ use Rattle.sl_specs.specs.Table.{table}
 use Rattle.sl_model.specs.declared.end.End.{End as EndCode}
 use Rattle.sl_model.specs.declared.end.End.TheVariants as e
 use Rattle.sl_model.specs.declared.finish.Finish.{Finish as FinishCode}
-use Rattle.sl_model.specs.EndView.{IsFinish}
-use Rattle.sl_model.specs.Run.{run}
+use Rattle.sl_model.specs.Runs.EndView.{IsFinish}
+use Rattle.sl_model.specs.Runs.Run.{run}
 use Rattle.sl_model.proofs.EndViews.{trap_told}
 use Rattle.sl_model.proofs.Examples.References.{through_iterator, read_behind_clear}
 use Rattle.sl_model.proofs.Examples.Short.{at, trap}

@@ -3,8 +3,8 @@ use Rattle.sl_base.specs.declared.form.Form.TheVariants as f
 use Rattle.sl_base.specs.declared.scalar.Scalar.TheVariants as t
 use Rattle.sl_model.proofs.Examples.FactsShort.{algorithm, braces, compares, differ, function_of, head_at, heads, here, int, main_of, member}
 use Rattle.sl_model.proofs.Examples.FactsShort.{member_element, numbers_to, star, text_of, up, value_of}
-use Rattle.sl_model.specs.Facts.{inside, lower_bound, size_at_least, upper_bound}
-use Rattle.sl_model.specs.Outline.{is_outline, nowhere}
+use Rattle.sl_model.specs.Outlines.Facts.{inside, lower_bound, size_at_least, upper_bound}
+use Rattle.sl_model.specs.Outlines.Outline.{is_outline, nowhere}
 use Rattle.sl_specs.specs.declared.rows.algorithms.TheConstants as algorithms
 use Rattle.sl_specs.specs.declared.rows.associative.TheConstants as associative
 use Rattle.sl_specs.specs.declared.rows.sequences.TheConstants as sequence

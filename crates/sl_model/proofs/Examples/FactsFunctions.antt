@@ -3,8 +3,8 @@ use Rattle.sl_base.specs.declared.form.Form.TheVariants as f
 use Rattle.sl_base.specs.declared.scalar.Scalar.TheVariants as t
 use Rattle.sl_model.proofs.Examples.FactsShort.{algorithm, compares, function_of, head_at, heads, here, int, main_of, member, member_element}
 use Rattle.sl_model.proofs.Examples.FactsShort.{numbers_to, size_number, star, text_of, up_size, value_of}
-use Rattle.sl_model.specs.Facts.{before, below_size, lower_bound, size_at_least}
-use Rattle.sl_model.specs.Outline.{is_outline, nowhere}
+use Rattle.sl_model.specs.Outlines.Facts.{before, below_size, lower_bound, size_at_least}
+use Rattle.sl_model.specs.Outlines.Outline.{is_outline, nowhere}
 use Rattle.sl_specs.specs.declared.rows.algorithms.TheConstants as algorithms
 use Rattle.sl_specs.specs.declared.rows.sequences.TheConstants as sequence
 use Rattle.sl_syntax.specs.Typed.{Typed, assigns, choice, container, declares, declares_first, does, evaluates, for, held, iterator, logical_not}

@@ -2,7 +2,7 @@
 use Rattle.sl_base.specs.declared.form.Form.TheVariants as f
 use Rattle.sl_model.proofs.Examples.FactsShort.{algorithm, compared_at, differ, down, head_at, here, int, member, member_element, numbers_to, shows}
 use Rattle.sl_model.proofs.Examples.FactsShort.{star, up}
-use Rattle.sl_model.specs.Facts.{before, behind, inside, size_at_least, sorted}
+use Rattle.sl_model.specs.Outlines.Facts.{before, behind, inside, size_at_least, sorted}
 use Rattle.sl_specs.specs.declared.rows.algorithms.TheConstants as algorithms
 use Rattle.sl_specs.specs.declared.rows.sequences.TheConstants as sequence
 use Rattle.sl_syntax.specs.Typed.{choice, declares, does, evaluates, gives_back, held, iterator, logical_not, makes, moves_to, number}

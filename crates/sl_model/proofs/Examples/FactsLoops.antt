@@ -3,8 +3,8 @@ use Rattle.sl_base.specs.declared.form.Form.TheVariants as f
 use Rattle.sl_base.specs.declared.scalar.Scalar.TheVariants as t
 use Rattle.sl_model.proofs.Examples.FactsShort.{alone, braces, compares, differ, head_at, here, int, loops, member, member_element, numbers_to}
 use Rattle.sl_model.proofs.Examples.FactsShort.{size_number, star, up, up_size, value_of}
-use Rattle.sl_model.specs.Facts.{before, inside, lower_bound, size_at_least, up_to_size, upper_bound}
-use Rattle.sl_model.specs.Outline.{is_outline, nowhere}
+use Rattle.sl_model.specs.Outlines.Facts.{before, inside, lower_bound, size_at_least, up_to_size, upper_bound}
+use Rattle.sl_model.specs.Outlines.Outline.{is_outline, nowhere}
 use Rattle.sl_specs.specs.declared.rows.sequences.TheConstants as sequence
 use Rattle.sl_syntax.specs.Typed.{Typed, always, assigns, choice, choice_else, continue, declares, declares_first, does, evaluates, for, held}
 use Rattle.sl_syntax.specs.Typed.{iterator, makes, moves_to, no_first, operands_from, read, scalar, set_iterator, set_scalar, test, unset_scalar}

@@ -2,7 +2,7 @@
 use Rattle.sl_base.specs.declared.form.Form.TheVariants as f
 use Rattle.sl_base.specs.declared.scalar.Scalar.TheVariants as t
 use Rattle.sl_model.proofs.Examples.FactsShort.{compares, head_at, here, int, member, numbers_to, shows, size_number, up_int, up_size, value_of}
-use Rattle.sl_model.specs.Facts.{below_size, lower_bound, size_at_least, up_to_size, upper_bound}
+use Rattle.sl_model.specs.Outlines.Facts.{below_size, lower_bound, size_at_least, up_to_size, upper_bound}
 use Rattle.sl_specs.specs.declared.rows.sequences.TheConstants as sequence
 use Rattle.sl_syntax.specs.Typed.{assigns, choice, convert, declares, does, evaluates, gives_back, increment, literal, makes, operands_from, reads}
 use Rattle.sl_syntax.specs.Typed.{scalar, set_scalar, test, unset_scalar, updates}

@@ -3,8 +3,8 @@ use Rattle.sl_base.specs.declared.form.Form.TheVariants as f
 use Rattle.sl_base.specs.declared.scalar.Scalar.TheVariants as t
 use Rattle.sl_model.proofs.Examples.FactsShort.{algorithm_at, alone, at_line, function_of, head_at, heads, here, int, loops, main_of, member_at}
 use Rattle.sl_model.proofs.Examples.FactsShort.{member_element_at, no_lists, numbers_to, on, size_number, star_at, text_of, value_of}
-use Rattle.sl_model.specs.Facts.{size_at_least}
-use Rattle.sl_model.specs.Outline.{is_outline}
+use Rattle.sl_model.specs.Outlines.Facts.{size_at_least}
+use Rattle.sl_model.specs.Outlines.Outline.{is_outline}
 use Rattle.sl_specs.specs.declared.rows.algorithms.TheConstants as algorithms
 use Rattle.sl_specs.specs.declared.rows.sequences.TheConstants as sequence
 use Rattle.sl_syntax.specs.Typed.{Typed, arithmetic, assigns, binds_reference, container, declares, does, evaluates, held, iterator, makes, move}

@@ -2,7 +2,7 @@
 use Rattle.sl_base.specs.declared.form.Form.TheVariants as f
 use Rattle.sl_base.specs.declared.scalar.Scalar.TheVariants as t
 use Rattle.sl_model.proofs.Examples.FactsShort.{algorithm, head_at, here, int, member, numbers_to, shows}
-use Rattle.sl_model.specs.Facts.{before, behind, inside, lower_bound, size_at_least, sorted}
+use Rattle.sl_model.specs.Outlines.Facts.{before, behind, inside, lower_bound, size_at_least, sorted}
 use Rattle.sl_specs.specs.declared.rows.algorithms.TheConstants as algorithms
 use Rattle.sl_specs.specs.declared.rows.associative.TheConstants as associative
 use Rattle.sl_specs.specs.declared.rows.sequences.TheConstants as sequence

@@ -18,14 +18,14 @@ use Rattle.sl_syntax.specs.declared.typed.step.Step.TheVariants.{Up}
 use Rattle.sl_syntax.specs.Typed.{Expr, literal, held, convert, comparison, increment, move, call, Left, scalar, element}
 use Rattle.sl_syntax.specs.Typed.{none, with, operands_from, stmts_from, evaluates, prints, number, set_scalar, set_iterator, makes, Stmt}
 use Rattle.sl_syntax.specs.Typed.{block, declares, does, Function, Typed}
-use Rattle.sl_model.specs.Facts.{Fact, given_by}
-use Rattle.sl_model.specs.FactOperands.{table_row}
-use Rattle.sl_model.specs.FactSteps.{Heads, Given, Places}
-use Rattle.sl_model.specs.FactsOfExpressions.{expression, left_side, stepped, operands}
-use Rattle.sl_model.specs.FactScopes.{no_scope}
-use Rattle.sl_model.specs.RangeUses.{leaves_in, leaves_in_left, leaves_in_all, leaves_in_stmt, leaves_in_stmts}
-use Rattle.sl_model.specs.Carry.{Carry, carry, carry_all, no_carry}
-use Rattle.sl_model.specs.Outline.{nowhere}
+use Rattle.sl_model.specs.Outlines.Facts.{Fact, given_by}
+use Rattle.sl_model.specs.Outlines.FactOperands.{table_row}
+use Rattle.sl_model.specs.Outlines.FactSteps.{Heads, Given, Places}
+use Rattle.sl_model.specs.Outlines.FactsOfExpressions.{expression, left_side, stepped, operands}
+use Rattle.sl_model.specs.Outlines.FactScopes.{no_scope}
+use Rattle.sl_model.specs.Outlines.RangeUses.{leaves_in, leaves_in_left, leaves_in_all, leaves_in_stmt, leaves_in_stmts}
+use Rattle.sl_model.specs.Outlines.Carry.{Carry, carry, carry_all, no_carry}
+use Rattle.sl_model.specs.Outlines.Outline.{nowhere}
 
 -- a place of which nothing is said, and a place on a line
 abbrev pub here : Place

@@ -3,8 +3,8 @@ use Rattle.sl_base.specs.declared.form.Form.TheVariants as f
 use Rattle.sl_base.specs.declared.scalar.Scalar.TheVariants as t
 use Rattle.sl_model.proofs.Examples.FactsShort.{algorithm, alone, at_line, braces, compares, differ, head_at, here, int, loops, member, member_at}
 use Rattle.sl_model.proofs.Examples.FactsShort.{member_element, no_lists, numbers_to, on, size_number, star, up, up_int, up_size, value_of}
-use Rattle.sl_model.specs.Facts.{inside, lower_bound, size_at_least, upper_bound}
-use Rattle.sl_model.specs.Outline.{is_outline, nowhere}
+use Rattle.sl_model.specs.Outlines.Facts.{inside, lower_bound, size_at_least, upper_bound}
+use Rattle.sl_model.specs.Outlines.Outline.{is_outline, nowhere}
 use Rattle.sl_specs.specs.declared.rows.algorithms.TheConstants as algorithms
 use Rattle.sl_specs.specs.declared.rows.sequences.TheConstants as sequence
 use Rattle.sl_syntax.specs.Typed.{Typed, always, assigns, break, choice, choice_else, declares, declares_first, does, evaluates, for, gives_back}

@@ -4,8 +4,8 @@ use Rattle.sl_base.specs.declared.scalar.Scalar.TheVariants as t
 use Rattle.sl_model.proofs.Examples.FactsShort.{algorithm, head_at, here, int, member, member_element, numbers_to, shows, size_number, star}
 use Rattle.sl_model.proofs.Examples.FactsShort.{value_of}
 use Rattle.sl_model.proofs.Examples.FactsVectors.{known}
-use Rattle.sl_model.specs.Facts.{alive, before, behind, below_size, inside, lower_bound, size_at_least, sorted, spare_at_least, up_to_size}
-use Rattle.sl_model.specs.Facts.{upper_bound}
+use Rattle.sl_model.specs.Outlines.Facts.{alive, before, behind, below_size, inside, lower_bound, size_at_least, sorted, spare_at_least, up_to_size}
+use Rattle.sl_model.specs.Outlines.Facts.{upper_bound}
 use Rattle.sl_specs.specs.declared.rows.algorithms.TheConstants as algorithms
 use Rattle.sl_specs.specs.declared.rows.sequences.TheConstants as sequence
 use Rattle.sl_syntax.specs.Typed.{arithmetic, assigns, call, container, declares, does, evaluates, held, iterator, makes, number, operands_from}

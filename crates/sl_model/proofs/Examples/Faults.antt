@@ -11,8 +11,8 @@ use Rattle.sl_syntax.specs.Typed.{literal, held, convert, arithmetic, comparison
 use Rattle.sl_syntax.specs.Typed.{number, reads, prints, evaluates, assigns, updates, unset_scalar, set_scalar, block, declares, choice, while}
 use Rattle.sl_syntax.specs.Typed.{gives_back, does, Stmt, Typed}
 use Rattle.sl_specs.specs.Table.{table}
-use Rattle.sl_model.specs.Ends.{Done, OutOfSteps, Language}
-use Rattle.sl_model.specs.Run.{run}
+use Rattle.sl_model.specs.Runs.Ends.{Done, OutOfSteps, Language}
+use Rattle.sl_model.specs.Runs.Run.{run}
 use Rattle.sl_model.proofs.Examples.Short.{at, all, vector, push, start, deref, main_of, text_of, alone, finish}
 
 -- the loop's body of `no_value`

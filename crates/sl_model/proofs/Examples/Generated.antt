@@ -1,7 +1,7 @@
 -- The text that checks the tool, for few sections, and its counts.
 use Rattle.std.specs.Prelude.{◌≡◌, ◌++◌, refl, codes}
 use Rattle.std.specs.Fmt.{digits}
-use Rattle.sl_model.specs.Self.{generated, section, line_count, summary_line}
+use Rattle.sl_model.specs.Reports.Self.{generated, section, line_count, summary_line}
 
 one_section : generated 1
     ≡ codes "int main() {\n  std::vector<int> v;\n  int x;\n  while (std::cin >> x) v.push_back(x);\n"

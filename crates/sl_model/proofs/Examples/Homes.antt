@@ -3,7 +3,7 @@ use Rattle.sl_base.specs.declared.form.Form.TheVariants as f
 use Rattle.sl_base.specs.declared.scalar.Scalar.TheVariants as t
 use Rattle.sl_model.proofs.Examples.FactsShort.{algorithm, braces, differ, function_of, head_at, here, int, main_of, member, numbers_to, star}
 use Rattle.sl_model.proofs.Examples.FactsShort.{text_of, up, value_of}
-use Rattle.sl_model.specs.Homes.{Copy, Pattern, added, at_container, at_iterator, at_none, copies_after}
+use Rattle.sl_model.specs.Outlines.Homes.{Copy, Pattern, added, at_container, at_iterator, at_none, copies_after}
 use Rattle.sl_specs.specs.declared.rows.algorithms.TheConstants as algorithms
 use Rattle.sl_specs.specs.declared.rows.sequences.TheConstants as sequence
 use Rattle.sl_syntax.specs.Typed.{Typed, assigns, container, declares, does, evaluates, gives_back, held, iterator, makes, moves_to, operands_from}

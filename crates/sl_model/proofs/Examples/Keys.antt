@@ -3,7 +3,7 @@ use Rattle.std.specs.Prelude.{◌≡◌, refl, [], ◌∷◌, Some, None, pos}
 use Rattle.sl_base.specs.declared.form.Form.TheVariants as f
 use Rattle.sl_specs.specs.declared.rows.associative.TheConstants as row
 use Rattle.sl_specs.specs.Table.{table}
-use Rattle.sl_model.specs.Values.{number, iterator, thrown}
+use Rattle.sl_model.specs.LibraryCalls.Values.{number, iterator, thrown}
 use Rattle.sl_model.proofs.Examples.Outcomes.{outcome, in_first, in_second, three, three_and_two, on_first}
 
 -- insert(x) of a new key puts it where the order does, and invalidates nothing

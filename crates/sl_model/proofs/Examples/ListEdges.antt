@@ -1,6 +1,6 @@
 -- Lists of numbers at their edges, each worked out by hand: what is one, which numbers it has, and at which offset bytes are bad.
 use Rattle.std.proofs.Common.{◌≡◌, refl, arith, true, [], ◌∷◌, pos, negsuc, codes}
-use Rattle.sl_model.specs.Lists.{words_of, int_of, pick_of, ListOf, begins_list, BadAt, at_byte, at_end}
+use Rattle.sl_model.specs.Reports.Lists.{words_of, int_of, pick_of, ListOf, begins_list, BadAt, at_byte, at_end}
 
 -- blanks part words, of all four kinds, and stand at both ends
 words_between_blanks : words_of (32 ∷ 49 ∷ 9 ∷ 50 ∷ 51 ∷ 13 ∷ 10 ∷ 45 ∷ 52 ∷ 32 ∷ 32 ∷ []) ≡ codes "1" ∷ codes "23" ∷ codes "-4" ∷ []

@@ -5,7 +5,7 @@ use Rattle.std.proofs.Common.{is_some, refl, ap, ◌∙◌, subst, arith, length
 use Rattle.std.specs.List.{list_all}
 use Rattle.std.proofs.lemmas.List.{length-replicate, take-replicate}
 use Rattle.std.proofs.Math.Seq.{take-append_seam, take-length}
-use Rattle.sl_model.specs.Lists.{LIST_NUMBERS, LIST_BYTES, words_of, int_of, is_list, begins_list, BadAt, at_byte}
+use Rattle.sl_model.specs.Reports.Lists.{LIST_NUMBERS, LIST_BYTES, words_of, int_of, is_list, begins_list, BadAt, at_byte}
 use Rattle.sl_model.proofs.ListParts.{told, parts_of}
 use Rattle.sl_model.proofs.ListLaws.{in_parts, from_parts, not_true}
 

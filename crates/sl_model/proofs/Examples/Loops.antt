@@ -12,8 +12,8 @@ use Rattle.sl_syntax.specs.Typed.{literal, held, arithmetic, comparison, increme
 use Rattle.sl_syntax.specs.Typed.{evaluates, assigns, updates, moves_to, unset_scalar, set_scalar, no_first, declares_first, does_first, block}
 use Rattle.sl_syntax.specs.Typed.{declares, choice, while, for, range_for, break, continue, gives_back, does, Stmt, Typed}
 use Rattle.sl_specs.specs.Table.{table}
-use Rattle.sl_model.specs.Ends.{Done, Trapped, OutOfSteps}
-use Rattle.sl_model.specs.Run.{run}
+use Rattle.sl_model.specs.Runs.Ends.{Done, Trapped, OutOfSteps}
+use Rattle.sl_model.specs.Runs.Run.{run}
 use Rattle.sl_model.proofs.Examples.Short.{at, head, all, vector, push, start, deref, main_of, text_of, alone, finish, trap}
 
 -- the body of the first loop of `no_test`

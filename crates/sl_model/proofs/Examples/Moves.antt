@@ -4,8 +4,8 @@ use Rattle.sl_base.specs.declared.form.Form.TheVariants as f
 use Rattle.sl_syntax.specs.declared.operator.Comparison.TheVariants as c
 use Rattle.sl_syntax.specs.declared.typed.operator.Operator.{Operator}
 use Rattle.sl_syntax.specs.declared.typed.operator.Operator.TheVariants as o
-use Rattle.sl_model.specs.Containers.{Memory}
-use Rattle.sl_model.specs.Values.{Value, number, iterator, LibOut, trapped}
+use Rattle.sl_model.specs.Memory.Containers.{Memory}
+use Rattle.sl_model.specs.LibraryCalls.Values.{Value, number, iterator, LibOut, trapped}
 use Rattle.sl_model.proofs.Examples.Outcomes.{Outcome, outcome, in_first, three, three_and_two, by_operator}
 
 -- a vector of 10, 20 and 30

@@ -8,8 +8,8 @@ use Rattle.sl_syntax.specs.declared.typed.step.Fix.TheVariants.{Prefix}
 use Rattle.sl_syntax.specs.declared.typed.step.Step.TheVariants.{Down}
 use Rattle.sl_syntax.specs.Typed.{literal, held, convert, negate, logical_not, arithmetic, comparison, increment, scalar, test, text, number, reads}
 use Rattle.sl_syntax.specs.Typed.{prints, assigns, updates, set_scalar, declares, choice, gives_back, does, Typed}
-use Rattle.sl_model.specs.Ends.{Done, Language}
-use Rattle.sl_model.specs.Run.{run}
+use Rattle.sl_model.specs.Runs.Ends.{Done, Language}
+use Rattle.sl_model.specs.Runs.Run.{run}
 use Rattle.sl_model.proofs.Examples.Short.{at, main_of, text_of, finish}
 
 -- int main() {

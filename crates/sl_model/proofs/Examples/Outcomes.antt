@@ -5,10 +5,10 @@ use Rattle.sl_base.specs.declared.form.Form.{Form}
 use Rattle.sl_syntax.specs.declared.typed.callee.Callee.TheVariants as callees
 use Rattle.sl_syntax.specs.declared.typed.operator.Operator.{Operator}
 use Rattle.sl_model.specs.Numbers.{truth}
-use Rattle.sl_model.specs.Containers.{Cell, Memory, keys, locate, locate_refer, element}
-use Rattle.sl_model.specs.Edits.{numbers}
-use Rattle.sl_model.specs.Values.{Value, number, iterator, pair, two, element_at, LibOut, gives}
-use Rattle.sl_model.specs.Library.{lib}
+use Rattle.sl_model.specs.Memory.Containers.{Cell, Memory, keys, locate, locate_refer, element}
+use Rattle.sl_model.specs.Memory.Edits.{numbers}
+use Rattle.sl_model.specs.LibraryCalls.Values.{Value, number, iterator, pair, two, element_at, LibOut, gives}
+use Rattle.sl_model.specs.LibraryCalls.Library.{lib}
 
 -- what a call comes to
 pub record Outcome : Type 0 where

@@ -9,8 +9,8 @@ use Rattle.sl_syntax.specs.declared.typed.step.Step.TheVariants.{Up, Down}
 use Rattle.sl_syntax.specs.Typed.{literal, held, logical_not, logical_and, logical_or, arithmetic, comparison, increment, scalar, read, test, text}
 use Rattle.sl_syntax.specs.Typed.{endline, number, reads, prints, evaluates, updates, unset_scalar, set_scalar, declares_first, declares, choice}
 use Rattle.sl_syntax.specs.Typed.{choice_else, for, does, Typed}
-use Rattle.sl_model.specs.Ends.{Done, Language}
-use Rattle.sl_model.specs.Run.{run}
+use Rattle.sl_model.specs.Runs.Ends.{Done, Language}
+use Rattle.sl_model.specs.Runs.Run.{run}
 use Rattle.sl_model.proofs.Examples.Short.{at, main_of, text_of, alone, finish}
 
 -- int main() {

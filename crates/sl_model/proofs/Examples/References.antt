@@ -17,8 +17,8 @@ use Rattle.sl_syntax.specs.Typed.{evaluates, assigns, updates, set_iterator, bin
 use Rattle.sl_specs.specs.declared.rows.sequences.TheConstants as sequences
 use Rattle.sl_specs.specs.declared.rows.associative.TheConstants as keyed
 use Rattle.sl_specs.specs.Table.{table}
-use Rattle.sl_model.specs.Ends.{Done, Trapped}
-use Rattle.sl_model.specs.Run.{run}
+use Rattle.sl_model.specs.Runs.Ends.{Done, Trapped}
+use Rattle.sl_model.specs.Runs.Run.{run}
 use Rattle.sl_model.proofs.Examples.Short.{at, head, all, vector, push, start, alone, finish, trap}
 
 -- a container without elements, by its form and its constructor's row, at its type

@@ -13,8 +13,8 @@ use Rattle.sl_syntax.specs.Typed.{literal, held, iterator, convert, call, own_ca
 use Rattle.sl_syntax.specs.Typed.{number, prints, evaluates, assigns, set_iterator, makes, block, declares, choice_else, range_for, does}
 use Rattle.sl_syntax.specs.Typed.{Typed}
 use Rattle.sl_specs.specs.Table.{table}
-use Rattle.sl_model.specs.Ends.{Done, Thrown}
-use Rattle.sl_model.specs.Run.{run}
+use Rattle.sl_model.specs.Runs.Ends.{Done, Thrown}
+use Rattle.sl_model.specs.Runs.Run.{run}
 use Rattle.sl_model.proofs.Examples.Short.{at, head, all, finish}
 
 -- query map.size() of an empty one: done

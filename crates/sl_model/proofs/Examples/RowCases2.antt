@@ -15,8 +15,8 @@ use Rattle.sl_syntax.specs.Typed.{literal, held, iterator, convert, negate, comp
 use Rattle.sl_syntax.specs.Typed.{none, with, test, text, number, prints, evaluates, set_scalar, set_iterator, makes, block, declares}
 use Rattle.sl_syntax.specs.Typed.{choice, choice_else, range_for, gives_back, does, Typed}
 use Rattle.sl_specs.specs.Table.{table}
-use Rattle.sl_model.specs.Ends.{Done}
-use Rattle.sl_model.specs.Run.{run}
+use Rattle.sl_model.specs.Runs.Ends.{Done}
+use Rattle.sl_model.specs.Runs.Run.{run}
 use Rattle.sl_model.proofs.Examples.Short.{at, head, all, finish}
 
 -- query unordered_set.constructor(f, l) own form: done

@@ -17,8 +17,8 @@ use Rattle.sl_syntax.specs.Typed.{literal, held, iterator, convert, logical_not,
 use Rattle.sl_syntax.specs.Typed.{first, second, container, scalar, reference, element, none, with, test, text, number, prints, evaluates}
 use Rattle.sl_syntax.specs.Typed.{moves_to, set_scalar, set_iterator, makes, block, declares, choice, range_for, gives_back, does, Typed}
 use Rattle.sl_specs.specs.Table.{table}
-use Rattle.sl_model.specs.Ends.{Done, Trapped}
-use Rattle.sl_model.specs.Run.{run}
+use Rattle.sl_model.specs.Runs.Ends.{Done, Trapped}
+use Rattle.sl_model.specs.Runs.Run.{run}
 use Rattle.sl_model.proofs.Examples.Short.{at, head, all, finish, trap}
 
 -- operator <= of vector, good: done

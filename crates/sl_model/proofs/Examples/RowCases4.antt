@@ -15,8 +15,8 @@ use Rattle.sl_syntax.specs.Typed.{literal, held, iterator, convert, negate, logi
 use Rattle.sl_syntax.specs.Typed.{reference, element, none, with, test, text, endline, number, prints, evaluates, assigns, unset_scalar}
 use Rattle.sl_syntax.specs.Typed.{set_scalar, set_iterator, binds_reference, makes, block, declares, choice_else, range_for, does, Typed}
 use Rattle.sl_specs.specs.Table.{table}
-use Rattle.sl_model.specs.Ends.{Done, Trapped}
-use Rattle.sl_model.specs.Run.{run}
+use Rattle.sl_model.specs.Runs.Ends.{Done, Trapped}
+use Rattle.sl_model.specs.Runs.Run.{run}
 use Rattle.sl_model.proofs.Examples.Short.{at, head, all, finish, trap}
 
 -- random program, straight: done (7)

@@ -19,8 +19,8 @@ use Rattle.sl_syntax.specs.Typed.{own_call, first, second, container, scalar, re
 use Rattle.sl_syntax.specs.Typed.{prints, evaluates, moves_to, set_scalar, set_iterator, binds_reference, makes, declares_first, block}
 use Rattle.sl_syntax.specs.Typed.{declares, choice_else, for, range_for, gives_back, does, Typed}
 use Rattle.sl_specs.specs.Table.{table}
-use Rattle.sl_model.specs.Ends.{Done, Trapped}
-use Rattle.sl_model.specs.Run.{run}
+use Rattle.sl_model.specs.Runs.Ends.{Done, Trapped}
+use Rattle.sl_model.specs.Runs.Run.{run}
 use Rattle.sl_model.proofs.Examples.Short.{at, head, all, finish, trap}
 
 -- random program, branch: done (10)

@@ -15,8 +15,8 @@ use Rattle.sl_syntax.specs.Typed.{literal, held, iterator, convert, negate, logi
 use Rattle.sl_syntax.specs.Typed.{container, scalar, element, none, with, test, text, endline, number, reads, prints, evaluates, moves_to}
 use Rattle.sl_syntax.specs.Typed.{unset_scalar, set_scalar, set_iterator, makes, block, declares, choice, does, Typed}
 use Rattle.sl_specs.specs.Table.{table}
-use Rattle.sl_model.specs.Ends.{Done, Trapped}
-use Rattle.sl_model.specs.Run.{run}
+use Rattle.sl_model.specs.Runs.Ends.{Done, Trapped}
+use Rattle.sl_model.specs.Runs.Run.{run}
 use Rattle.sl_model.proofs.Examples.Short.{at, head, all, finish, trap}
 
 -- random program, input: done (30)

@@ -16,8 +16,8 @@ use Rattle.sl_syntax.specs.Typed.{literal, held, iterator, convert, logical_not,
 use Rattle.sl_syntax.specs.Typed.{element, none, with, test, text, number, prints, evaluates, updates, moves_to, unset_scalar, set_scalar}
 use Rattle.sl_syntax.specs.Typed.{set_iterator, binds_reference, makes, block, declares, choice_else, range_for, does, Typed}
 use Rattle.sl_specs.specs.Table.{table}
-use Rattle.sl_model.specs.Ends.{Done, Trapped}
-use Rattle.sl_model.specs.Run.{run}
+use Rattle.sl_model.specs.Runs.Ends.{Done, Trapped}
+use Rattle.sl_model.specs.Runs.Run.{run}
 use Rattle.sl_model.proofs.Examples.Short.{at, head, all, finish, trap}
 
 -- needs of list.splice(p, c, f, l): none: done

@@ -17,8 +17,8 @@ use Rattle.sl_syntax.specs.Typed.{reference, element, none, with, test, text, en
 use Rattle.sl_syntax.specs.Typed.{moves_to, unset_scalar, set_scalar, set_iterator, binds_reference, makes, block, declares, choice, while}
 use Rattle.sl_syntax.specs.Typed.{range_for, does, Typed}
 use Rattle.sl_specs.specs.Table.{table}
-use Rattle.sl_model.specs.Ends.{Done, Trapped}
-use Rattle.sl_model.specs.Run.{run}
+use Rattle.sl_model.specs.Runs.Ends.{Done, Trapped}
+use Rattle.sl_model.specs.Runs.Run.{run}
 use Rattle.sl_model.proofs.Examples.Short.{at, head, all, finish, trap}
 
 -- kills of list.swap(c) other: end ie: trap

@@ -6,14 +6,14 @@ use Rattle.sl_syntax.specs.declared.typed.callee.Callee.TheVariants as callees
 use Rattle.sl_syntax.specs.declared.typed.operator.Operator.TheVariants as operators
 use Rattle.sl_specs.specs.Table.{table}
 use Rattle.sl_specs.specs.declared.class.Class.TheVariants.{AllAndEnd}
-use Rattle.sl_model.specs.Containers.{Cell, Grave, Memory, empty_memory, end_from, locate, killer, refer_killer, key_part}
-use Rattle.sl_model.specs.Values.{Value, nothing, number, iterator, element_at, Args, trapped, thrown, gives, unbuilt, no_value}
-use Rattle.sl_model.specs.Situation.{Situation, place_of}
-use Rattle.sl_model.specs.Operands.{an_iterator}
-use Rattle.sl_model.specs.Needs.{dereference_fails, first_failure}
-use Rattle.sl_model.specs.Actions.{Effect, keeps, edits, Stop, never, exception, too_many, nothing as no_answer}
-use Rattle.sl_model.specs.Rows.{of_first, Row, call_name}
-use Rattle.sl_model.specs.Library.{row_out, lib}
+use Rattle.sl_model.specs.Memory.Containers.{Cell, Grave, Memory, empty_memory, end_from, locate, killer, refer_killer, key_part}
+use Rattle.sl_model.specs.LibraryCalls.Values.{Value, nothing, number, iterator, element_at, Args, trapped, thrown, gives, unbuilt, no_value}
+use Rattle.sl_model.specs.LibraryCalls.Situation.{Situation, place_of}
+use Rattle.sl_model.specs.LibraryCalls.Operands.{an_iterator}
+use Rattle.sl_model.specs.LibraryCalls.Needs.{dereference_fails, first_failure}
+use Rattle.sl_model.specs.LibraryCalls.Actions.{Effect, keeps, edits, Stop, never, exception, too_many, nothing as no_answer}
+use Rattle.sl_model.specs.LibraryCalls.Rows.{of_first, Row, call_name}
+use Rattle.sl_model.specs.LibraryCalls.Library.{row_out, lib}
 
 -- a call at site 9
 abbrev pub call : Option ℕ → List Value → Args

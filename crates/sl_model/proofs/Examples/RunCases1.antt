@@ -12,8 +12,8 @@ use Rattle.sl_syntax.specs.declared.typed.step.Step.TheVariants.{Up}
 use Rattle.sl_syntax.specs.Typed.{literal, held, convert, negate, increment, call, own_call, scalar, element, none, with, number, prints}
 use Rattle.sl_syntax.specs.Typed.{evaluates, updates, set_scalar, makes, block, declares, does, Typed}
 use Rattle.sl_specs.specs.Table.{table}
-use Rattle.sl_model.specs.Ends.{Trapped, Language, Thrown}
-use Rattle.sl_model.specs.Run.{run}
+use Rattle.sl_model.specs.Runs.Ends.{Trapped, Language, Thrown}
+use Rattle.sl_model.specs.Runs.Run.{run}
 use Rattle.sl_model.proofs.Examples.Short.{at, head, all, finish, trap}
 
 -- no return value, bool: language fault

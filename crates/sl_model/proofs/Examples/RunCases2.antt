@@ -16,8 +16,8 @@ use Rattle.sl_syntax.specs.Typed.{literal, held, iterator, convert, logical_not,
 use Rattle.sl_syntax.specs.Typed.{reference, element, none, with, text, number, prints, evaluates, updates, moves_to, set_scalar}
 use Rattle.sl_syntax.specs.Typed.{set_iterator, binds_reference, makes, block, declares, range_for, does, Typed}
 use Rattle.sl_specs.specs.Table.{table}
-use Rattle.sl_model.specs.Ends.{Trapped}
-use Rattle.sl_model.specs.Run.{run}
+use Rattle.sl_model.specs.Runs.Ends.{Trapped}
+use Rattle.sl_model.specs.Runs.Run.{run}
 use Rattle.sl_model.proofs.Examples.Short.{at, head, all, finish, trap}
 
 -- operator != right of unordered_set, invalid: trap

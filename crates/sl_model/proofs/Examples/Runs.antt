@@ -11,9 +11,9 @@ use Rattle.sl_syntax.specs.Typed.{does, no_more, followed, Typed}
 use Rattle.sl_syntax.specs.declared.subset.Stmt.TheVariants.{Vector, PushBack, Begin, Dereference}
 use Rattle.sl_syntax.specs.SubsetView.{main_of}
 use Rattle.sl_specs.specs.Table.{table}
-use Rattle.sl_model.specs.Values.{thrown, faulted, unbuilt}
-use Rattle.sl_model.specs.Ends.{Done, Trapped, OutOfSteps, Language, Thrown, NoMeaning}
-use Rattle.sl_model.specs.Run.{run, run_over}
+use Rattle.sl_model.specs.LibraryCalls.Values.{thrown, faulted, unbuilt}
+use Rattle.sl_model.specs.Runs.Ends.{Done, Trapped, OutOfSteps, Language, Thrown, NoMeaning}
+use Rattle.sl_model.specs.Runs.Run.{run, run_over}
 use Rattle.sl_model.proofs.Examples.Short.{at, head, finish, trap}
 
 -- int main() {}

@@ -15,9 +15,9 @@ use Rattle.sl_syntax.specs.Typed.{Expr, literal, held, call, own_call, compariso
 use Rattle.sl_syntax.specs.Typed.{evaluates, assigns, set_scalar, makes, declares_first, block, declares, for, range_for, does, no_more, followed}
 use Rattle.sl_syntax.specs.Typed.{Function, Typed}
 use Rattle.sl_specs.specs.Table.{table}
-use Rattle.sl_model.specs.Good.{AreApart}
-use Rattle.sl_model.specs.Shapes.{Signature, lib_shape, lib_makes, signature_of}
-use Rattle.sl_model.specs.Scoped.{Counts, InExpr, AsksWell, IsScopedFunction, IsScoped}
+use Rattle.sl_model.specs.Runs.Good.{AreApart}
+use Rattle.sl_model.specs.Typing.Shapes.{Signature, lib_shape, lib_makes, signature_of}
+use Rattle.sl_model.specs.Typing.Scoped.{Counts, InExpr, AsksWell, IsScopedFunction, IsScoped}
 use Rattle.sl_model.proofs.Examples.Short.{at, head}
 use Rattle.sl_model.proofs.Examples.Runs.{growth}
 use Rattle.sl_model.proofs.Examples.References.{named_behind_clear, keys_added}

@@ -12,8 +12,8 @@ use Rattle.sl_syntax.specs.Typed.{literal, held, arithmetic, comparison, increme
 use Rattle.sl_syntax.specs.Typed.{evaluates, assigns, moves_to, set_scalar, declares_first, block, declares, choice, while, for, break, gives_back}
 use Rattle.sl_syntax.specs.Typed.{does, Stmt, Typed}
 use Rattle.sl_specs.specs.Table.{table}
-use Rattle.sl_model.specs.Ends.{Done, Trapped, OutOfSteps}
-use Rattle.sl_model.specs.Run.{run}
+use Rattle.sl_model.specs.Runs.Ends.{Done, Trapped, OutOfSteps}
+use Rattle.sl_model.specs.Runs.Run.{run}
 use Rattle.sl_model.proofs.Examples.Short.{at, head, all, vector, push, start, deref, read_from, main_of, text_of, alone, finish, trap}
 
 -- the innermost block of `shadows`

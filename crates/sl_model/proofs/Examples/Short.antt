@@ -11,7 +11,7 @@ use Rattle.sl_syntax.specs.declared.typed.operator.Operator.TheVariants as opera
 use Rattle.sl_syntax.specs.declared.typed.parameter.ParameterKind.TheVariants as parameter
 use Rattle.sl_syntax.specs.Typed.{Left, literal, held, iterator, call, element, none, with, evaluates, set_scalar, set_iterator, makes, Stmt, block}
 use Rattle.sl_syntax.specs.Typed.{declares, does, Stmts, no_more, followed, Function, Typed}
-use Rattle.sl_model.specs.Ends.{End, Finish, Trap}
+use Rattle.sl_model.specs.Runs.Ends.{End, Finish, Trap}
 
 -- a place
 abbrev pub at : ℕ → ℕ → Place

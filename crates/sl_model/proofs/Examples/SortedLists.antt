@@ -12,8 +12,8 @@ use Rattle.sl_syntax.specs.Typed.{Stmt, Typed}
 use Rattle.sl_specs.specs.declared.rows.algorithms.TheConstants as algorithms
 use Rattle.sl_specs.specs.declared.rows.sequences.TheConstants as row
 use Rattle.sl_specs.specs.Table.{table}
-use Rattle.sl_model.specs.Ends.{Done}
-use Rattle.sl_model.specs.Run.{run}
+use Rattle.sl_model.specs.Runs.Ends.{Done}
+use Rattle.sl_model.specs.Runs.Run.{run}
 use Rattle.sl_model.proofs.Examples.Outcomes.{outcome, in_first, three, on_first}
 use Rattle.sl_model.proofs.Examples.Short.{at, head, alone, finish}
 

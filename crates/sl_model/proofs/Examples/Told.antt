@@ -3,9 +3,9 @@ use Rattle.std.proofs.Common.{refl, arith}
 use Rattle.std.specs.Prelude.{◌≡◌, List, [], ◌∷◌, Some, None, codes}
 use Rattle.std.specs.Fmt.{digits}
 use Rattle.sl_specs.specs.Table.{table}
-use Rattle.sl_model.specs.Ends.{Trap}
-use Rattle.sl_model.specs.Covers.{Warning, CanTrap, Covers}
-use Rattle.sl_model.specs.Texts.{report_text}
+use Rattle.sl_model.specs.Runs.Ends.{Trap}
+use Rattle.sl_model.specs.Reports.Covers.{Warning, CanTrap, Covers}
+use Rattle.sl_model.specs.Reports.Texts.{report_text}
 use Rattle.sl_model.proofs.Examples.Short.{at, trap}
 use Rattle.sl_model.proofs.Examples.Runs.{growth}
 use Rattle.sl_model.proofs.Examples.References.{read_behind_clear}

@@ -17,8 +17,8 @@ use Rattle.sl_syntax.specs.declared.typed.variable.VariableKind.{VariableKind}
 use Rattle.sl_syntax.specs.declared.typed.variable.VariableKind.TheVariants as variables
 use Rattle.sl_syntax.specs.Typed.{Expr, literal, held, iterator, call, Left, scalar, element, none, with, Stmt, block, declares}
 use Rattle.sl_syntax.specs.Typed.{makes, set_iterator, does, evaluates, Function, Typed, operands_from, stmts_from}
-use Rattle.sl_model.specs.WellTyped.{has_few, has_main, has_types, has_no_alias, has_order, has_sites, has_numbers, has_names, has_variables}
-use Rattle.sl_model.specs.WellTyped.{has_constants, has_one_asker, WellTyped}
+use Rattle.sl_model.specs.Typing.WellTyped.{has_few, has_main, has_types, has_no_alias, has_order, has_sites, has_numbers, has_names, has_variables}
+use Rattle.sl_model.specs.Typing.WellTyped.{has_constants, has_one_asker, WellTyped}
 
 -- a part of being well typed
 pub data Part : Type 0 where

@@ -13,8 +13,8 @@ use Rattle.sl_syntax.specs.declared.typed.step.Fix.TheVariants as fixes
 use Rattle.sl_syntax.specs.declared.typed.variable.VariableKind.TheVariants as v
 use Rattle.sl_syntax.specs.Typed.{iterator, convert, move, own_call, container, none, with, read, not_read, reads, moves_to, unset_scalar, set_scalar}
 use Rattle.sl_syntax.specs.Typed.{set_iterator, declares, choice, while, range_for, does, Typed}
-use Rattle.sl_model.specs.WellTyped.{WellTyped}
-use Rattle.sl_model.specs.Decided.{Decided}
+use Rattle.sl_model.specs.Typing.WellTyped.{WellTyped}
+use Rattle.sl_model.specs.Reports.Decided.{Decided}
 use Rattle.sl_model.proofs.Examples.Trees.{at, on, on_site, off, appends, operator, int, value, calls, done, made, vector, pushed, body, body_at}
 use Rattle.sl_model.proofs.Examples.Trees.{function, main_of, whole, alone, behind_vector}
 use Rattle.sl_model.proofs.Examples.Deciding.{OwnCall, Input, HashBegin, HashStep, HashLoop, HashRange, HashErase, Leaving, Time, Tests, Small}

@@ -14,8 +14,8 @@ use Rattle.sl_syntax.specs.Typed.{literal, held, arithmetic, comparison, call, o
 use Rattle.sl_syntax.specs.Typed.{number, prints, evaluates, assigns, updates, moves_to, unset_scalar, set_scalar, set_iterator, makes, block}
 use Rattle.sl_syntax.specs.Typed.{declares, choice, while, break, continue, gives_back, does, Stmt, Typed}
 use Rattle.sl_specs.specs.Table.{table}
-use Rattle.sl_model.specs.Ends.{Done, Trapped, OutOfSteps, Language}
-use Rattle.sl_model.specs.Run.{run}
+use Rattle.sl_model.specs.Runs.Ends.{Done, Trapped, OutOfSteps, Language}
+use Rattle.sl_model.specs.Runs.Run.{run}
 use Rattle.sl_model.proofs.Examples.Short.{at, head, all, deref, finish, trap}
 
 -- the loop's body of `ways_out`

@@ -18,7 +18,7 @@ use Rattle.sl_syntax.specs.Typed.{literal, held, iterator, convert, negate, arit
 use Rattle.sl_syntax.specs.Typed.{container, scalar, reference, element, none, with, read, test, text, endline, number, prints, evaluates}
 use Rattle.sl_syntax.specs.Typed.{assigns, updates, unset_scalar, set_scalar, set_iterator, binds_reference, declares_first, declares}
 use Rattle.sl_syntax.specs.Typed.{choice, choice_else, while, for, range_for, break, continue, gives_back, does, Typed}
-use Rattle.sl_model.specs.WellTyped.{WellTyped}
+use Rattle.sl_model.specs.Typing.WellTyped.{WellTyped}
 use Rattle.sl_model.proofs.Examples.Trees.{well, broken, at, on, on_site, off, appends, operator, int, value, calls, element_of, star, done}
 use Rattle.sl_model.proofs.Examples.Trees.{made, vector, begun, pushed, body, body_at, main_of, whole, alone, behind_vector}
 

@@ -13,7 +13,7 @@ use Rattle.sl_syntax.specs.declared.typed.step.Fix.TheVariants as fixes
 use Rattle.sl_syntax.specs.declared.typed.variable.VariableKind.TheVariants as v
 use Rattle.sl_syntax.specs.Typed.{held, iterator, arithmetic, move, own_call, container, handed_scalar, scalar, none, with, test, updates}
 use Rattle.sl_syntax.specs.Typed.{set_scalar, set_iterator, declares, while, gives_back, does, Typed, operands_from}
-use Rattle.sl_model.specs.WellTyped.{WellTyped}
+use Rattle.sl_model.specs.Typing.WellTyped.{WellTyped}
 use Rattle.sl_model.proofs.Examples.Trees.{well, broken, at, on, on_site, off, operator, int, value, calls, element_of, star, done, made}
 use Rattle.sl_model.proofs.Examples.Trees.{vector, begun, pushed, body, body_at, function, main_of, whole}
 

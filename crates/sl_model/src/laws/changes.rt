@@ -1,9 +1,9 @@
 //! Where iterators and references stand after changes of containers.
 ghost use Rattle.std.specs.Prelude.{◌≡◌, ◌≢◌, ◌<◌, IsTrue, ℕ, false, length, slice_get, Some};
-ghost use Rattle.sl_model.specs.Containers.{Cont, Memory, Dropped, Lost, size};
-ghost use Rattle.sl_model.specs.Edits.{Change, after, after_two};
-ghost use Rattle.sl_model.specs.Origins.{ComesFrom, ComesOver, TakesNoneOver};
-ghost use Rattle.sl_model.specs.Good.{IsAt, IsSound, RefersTo};
+ghost use Rattle.sl_model.specs.Memory.Containers.{Cont, Memory, Dropped, Lost, size};
+ghost use Rattle.sl_model.specs.Memory.Edits.{Change, after, after_two};
+ghost use Rattle.sl_model.specs.Memory.Origins.{ComesFrom, ComesOver, TakesNoneOver};
+ghost use Rattle.sl_model.specs.Runs.Good.{IsAt, IsSound, RefersTo};
 
 /// After a change of a container, the iterators and references at an element stand where the element went, unless the
 /// change invalidates them; and the iterators at the end stand at the end. In a sound memory what is invalidated stands

@@ -4,7 +4,7 @@ ghost use Rattle.sl_specs.specs.declared.class.Class.{Class};
 ghost use Rattle.sl_specs.specs.declared.class.Class.TheVariants.{AllAndEnd, DequeErase, DequeInsert};
 ghost use Rattle.sl_specs.specs.declared.class.Class.TheVariants.{ErasedOnly, HashInsert, HashReserve};
 ghost use Rattle.sl_specs.specs.declared.class.Class.TheVariants.{VectorErase, VectorInsert, VectorReserve};
-ghost use Rattle.sl_model.specs.Classes.{Edit, Fits, kills, loses};
+ghost use Rattle.sl_model.specs.Memory.Classes.{Edit, Fits, kills, loses};
 
 /// Where a class invalidates the references to an element, it invalidates the iterators at it too.
 pub fn iterators_go_with_references()

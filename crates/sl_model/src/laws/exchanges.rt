@@ -2,12 +2,12 @@
 ghost use Rattle.std.specs.Prelude.{◌≡◌, ◌≢◌, ◌<◌, ◌≤◌, ◌+◌, ◌-◌, ℕ, slice_get, Some};
 ghost use Rattle.sl_base.specs.declared.form.Form.{Form};
 ghost use Rattle.sl_specs.specs.declared.class.Class.{Class};
-ghost use Rattle.sl_model.specs.Containers.{Cont, Dropped};
-ghost use Rattle.sl_model.specs.Situation.{Situation, own, own_size, index, container_of, their, their_size};
-ghost use Rattle.sl_model.specs.Effects.{does};
-ghost use Rattle.sl_model.specs.AccessActions.{swap};
-ghost use Rattle.sl_model.specs.ListActions.{merge, splices};
-ghost use Rattle.sl_model.specs.Good.{IsAt, RefersTo};
+ghost use Rattle.sl_model.specs.Memory.Containers.{Cont, Dropped};
+ghost use Rattle.sl_model.specs.LibraryCalls.Situation.{Situation, own, own_size, index, container_of, their, their_size};
+ghost use Rattle.sl_model.specs.LibraryCalls.Effects.{does};
+ghost use Rattle.sl_model.specs.LibraryCalls.AccessActions.{swap};
+ghost use Rattle.sl_model.specs.LibraryCalls.ListActions.{merge, splices};
+ghost use Rattle.sl_model.specs.Runs.Good.{IsAt, RefersTo};
 
 /// `swap` of two containers: what stood at an element of either stands at the same element of the other afterwards,
 /// iterators and references, and the past-the-end iterators of both are dropped.

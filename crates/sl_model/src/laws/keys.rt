@@ -1,13 +1,13 @@
 //! Keys stay in order.
 ghost use Rattle.std.specs.Prelude.{◌≡◌, IsTrue, ℕ, ℤ, List, false, true};
 ghost use Rattle.sl_syntax.specs.declared.typed.callee.Callee.{Callee};
-ghost use Rattle.sl_model.specs.Containers.{Cont, Memory, Part, empty_memory, end_from, keys, write_element};
-ghost use Rattle.sl_model.specs.Forms.{is_hash, is_keyed};
-ghost use Rattle.sl_model.specs.Orders.{is_ascending};
-ghost use Rattle.sl_model.specs.Values.{Args, Value, gives};
-ghost use Rattle.sl_model.specs.Library.{lib};
-ghost use Rattle.sl_model.specs.Good.{IsSound};
-ghost use Rattle.sl_model.specs.Orderly.{IsOrderly, IsOrderlyCont};
+ghost use Rattle.sl_model.specs.Memory.Containers.{Cont, Memory, Part, empty_memory, end_from, keys, write_element};
+ghost use Rattle.sl_model.specs.Memory.Forms.{is_hash, is_keyed};
+ghost use Rattle.sl_model.specs.Memory.Orders.{is_ascending};
+ghost use Rattle.sl_model.specs.LibraryCalls.Values.{Args, Value, gives};
+ghost use Rattle.sl_model.specs.LibraryCalls.Library.{lib};
+ghost use Rattle.sl_model.specs.Runs.Good.{IsSound};
+ghost use Rattle.sl_model.specs.Memory.Orderly.{IsOrderly, IsOrderlyCont};
 
 /// The keys of each set and map stand in strictly ascending order, those of each multiset and multimap in ascending
 /// order, those of each hash form once, and each element holds ints. That is so in the memory without containers, each

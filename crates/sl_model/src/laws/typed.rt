@@ -1,12 +1,12 @@
 //! What holds of each well typed text.
 ghost use Rattle.std.specs.Prelude.{ℕ, ℤ, List};
 ghost use Rattle.sl_syntax.specs.Typed.{Typed};
-ghost use Rattle.sl_model.specs.Covers.{HasMeaning};
-ghost use Rattle.sl_model.specs.Good.{IsGood};
-ghost use Rattle.sl_model.specs.Run.{end_state, main_out};
-ghost use Rattle.sl_model.specs.Scoped.{IsScoped};
-ghost use Rattle.sl_model.specs.Shapes.{lib_makes, lib_shape};
-ghost use Rattle.sl_model.specs.WellTyped.{WellTyped};
+ghost use Rattle.sl_model.specs.Reports.Covers.{HasMeaning};
+ghost use Rattle.sl_model.specs.Runs.Good.{IsGood};
+ghost use Rattle.sl_model.specs.Runs.Run.{end_state, main_out};
+ghost use Rattle.sl_model.specs.Typing.Scoped.{IsScoped};
+ghost use Rattle.sl_model.specs.Typing.Shapes.{lib_makes, lib_shape};
+ghost use Rattle.sl_model.specs.Typing.WellTyped.{WellTyped};
 
 /// In a well typed text each variable that is used is in scope, and each operand has the shape that is asked for. So
 /// each of its runs ends in a good state.

@@ -1,7 +1,7 @@
 -- What the analysis warns of, as warnings of a report.
 use Rattle.std.specs.Prelude.{◌≡◌, ℕ, List, [], map, Some, slice_get, codes}
 use Rattle.sl_base.specs.declared.failures.TheConstants.{INVALID_ITERATOR, END_ITERATOR}
-use Rattle.sl_model.specs.Covers.{Warning}
+use Rattle.sl_model.specs.Reports.Covers.{Warning}
 use Rattle.sl_tool.specs.declared.analysis.Warning.{Warning as WarningCode}
 use Rattle.sl_tool.specs.declared.analysis.Fault.{Fault}
 use Rattle.sl_tool.specs.declared.analysis.Fault.TheVariants.{InvalidIterator, EndIterator}

@@ -1,7 +1,7 @@
 -- What a change invalidates is among what was dropped after it.
 use Rattle.std.proofs.Common.{◌≡◌, ◌++◌, ℕ, Bool, List, IsTrue, Some, slice_get, zero-add, ap, ◌∙◌}
-use Rattle.sl_model.specs.Containers.{Grave, IsGrave, stamps, refers}
-use Rattle.sl_model.specs.Edits.{buried}
+use Rattle.sl_model.specs.Memory.Containers.{Grave, IsGrave, stamps, refers}
+use Rattle.sl_model.specs.Memory.Edits.{buried}
 use Rattle.sl_model.proofs.Buried.{killer_is, killer_before, buried_killer}
 use Rattle.sl_model.proofs.laws.dropped_has_its_site.Goals as goal
 

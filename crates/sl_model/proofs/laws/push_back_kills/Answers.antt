@@ -3,8 +3,8 @@ use Rattle.std.proofs.Common.{◌≡◌, false, Some}
 use Rattle.sl_specs.specs.Table.{table}
 use Rattle.sl_specs.specs.declared.class.Class.TheVariants.{VectorInsert}
 use Rattle.sl_specs.specs.declared.rows.sequences.TheConstants.{VECTOR_PUSH_BACK}
-use Rattle.sl_model.specs.SequenceActions.{push_back}
-use Rattle.sl_model.specs.Rows.{Row, row_numbered}
+use Rattle.sl_model.specs.LibraryCalls.SequenceActions.{push_back}
+use Rattle.sl_model.specs.LibraryCalls.Rows.{Row, row_numbered}
 use Rattle.sl_model.proofs.laws.push_back_kills.Goals as goal
 
 row_told : (r : Row) → row_numbered false VECTOR_PUSH_BACK ≡ Some r → (r.class ≡ VectorInsert) × (r.action ≡ push_back)

@@ -1,7 +1,7 @@
 -- The library keeps memory sound and orderly and states good, so each run does.
-use Rattle.sl_model.specs.Eval.{Out, Gives, Stops}
-use Rattle.sl_model.specs.Good.{IsSound}
-use Rattle.sl_model.specs.Run.{end_state, main_out}
+use Rattle.sl_model.specs.Runs.Eval.{Out, Gives, Stops}
+use Rattle.sl_model.specs.Runs.Good.{IsSound}
+use Rattle.sl_model.specs.Runs.Run.{end_state, main_out}
 use Rattle.sl_model.proofs.Keeps.{InOut}
 use Rattle.sl_model.proofs.RunGood.{end-good}
 use Rattle.sl_model.proofs.RunOrderly.{run-orderly}

@@ -1,5 +1,5 @@
 use Rattle.std.proofs.Common.{◌≡◌, ◌++◌, drop}
-use Rattle.sl_model.specs.Texts.{further_sites}
+use Rattle.sl_model.specs.Reports.Texts.{further_sites}
 use Rattle.sl_warnings.proofs.killers.push_further.Given as goal
 
 abbrev pub invariant-loop-killer : goal.invariant-loop-killer

@@ -1,7 +1,7 @@
 use Rattle.std.specs.Prelude.{codes}
 use Rattle.std.specs.Fmt.{decimal}
 use Rattle.std.proofs.Common.{[], ◌∷◌}
-use Rattle.sl_model.specs.Texts.{kind_text, killers_text, who_text}
+use Rattle.sl_model.specs.Reports.Texts.{kind_text, killers_text, who_text}
 use Rattle.sl_warnings.specs.Views.{sites_in}
 use Rattle.sl_warnings.proofs.LineLaws.{regrouped}
 use Rattle.sl_warnings.proofs.rendering.push_warning.Goals as goal

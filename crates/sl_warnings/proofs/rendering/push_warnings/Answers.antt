@@ -1,5 +1,5 @@
 use Rattle.std.proofs.Common.{arith, sym}
-use Rattle.sl_model.specs.Texts.{warning_line}
+use Rattle.sl_model.specs.Reports.Texts.{warning_line}
 use Rattle.sl_warnings.specs.Views.{warning_of}
 use Rattle.sl_warnings.proofs.LineLaws.{line-next, some-there}
 use Rattle.sl_warnings.proofs.rendering.push_warnings.Goals as goal

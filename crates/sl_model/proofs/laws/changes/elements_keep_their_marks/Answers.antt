@@ -1,7 +1,7 @@
 -- The changed container has the marks of what it took and kept, and none of those that it dropped.
 use Rattle.std.proofs.Common.{◌≡◌, ◌∙◌, ℕ, ◌+◌, List, Bool, IsTrue, Some, slice_get, ap, ◌++◌, zero-add}
-use Rattle.sl_model.specs.Containers.{Grave, IsGrave, size, stamps, refers}
-use Rattle.sl_model.specs.Edits.{buried, changed}
+use Rattle.sl_model.specs.Memory.Containers.{Grave, IsGrave, size, stamps, refers}
+use Rattle.sl_model.specs.Memory.Edits.{buried, changed}
 use Rattle.sl_model.proofs.Buried.{killer_is, killer_before, buried_killer}
 use Rattle.sl_model.proofs.After.{get-after-own}
 use Rattle.sl_model.proofs.Moved.{in_cont, refer_in_cont, iterator-stays, reference-stays, end-stays, stamp-gone, refer-gone}

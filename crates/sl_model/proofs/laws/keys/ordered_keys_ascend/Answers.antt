@@ -1,5 +1,5 @@
 -- Pairs in order make an ascending list.
-use Rattle.sl_model.specs.Containers.{keys}
+use Rattle.sl_model.specs.Memory.Containers.{keys}
 use Rattle.sl_model.proofs.Ascending.{order-ascends}
 use Rattle.sl_model.proofs.laws.keys.ordered_keys_ascend.Goals as goal
 

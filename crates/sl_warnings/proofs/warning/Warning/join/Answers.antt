@@ -1,6 +1,6 @@
 use Rattle.std.proofs.Common.{List, ℕ, ap}
 use Rattle.sl_warnings.specs.Views.{warning_of}
-use Rattle.sl_model.specs.Covers.{Warning}
+use Rattle.sl_model.specs.Reports.Covers.{Warning}
 use Rattle.sl_warnings.proofs.Sites.{sites_in-either}
 use Rattle.sl_warnings.proofs.warning.Warning.join.Goals as goal
 

@@ -1,0 +1,21 @@
+-- Facts, the rules that carry them through a text, and outlines.
+pub mod Facts
+pub mod FactsLeft
+pub mod FactRules
+pub mod FactsOfIterators
+pub mod FactsOfNumbers
+pub mod FactOperands
+pub mod FactsOfContainers
+pub mod FactsOfCalls
+pub mod FactsOfElements
+pub mod FactsOfFunctions
+pub mod FactSteps
+pub mod FactsOfExpressions
+pub mod FactScopes
+pub mod FactsOfEffects
+pub mod RangeUses
+pub mod Carry
+pub mod Outline
+pub mod Sources
+pub mod IteratorFlows
+pub mod Homes
