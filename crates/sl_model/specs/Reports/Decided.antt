@@ -176,7 +176,7 @@ abbrev pub is_without_meaning : End → Bool
 is_without_meaning (NoMeaning at) = true
 is_without_meaning e = false
 
--- at no moment of the run a container has more than 64 elements: over the library without the calls that leave more, it meets none that is missing
+-- at no moment of the run does a container have more than 64 elements: over the library without the calls that leave more, it meets none that is missing
 unfoldable pub stays_small : Typed → Bool
 unfolding table
 stays_small p = not (is_without_meaning (run_over (lib_within WINDOW) p [] [] decided_steps).end)
