@@ -28,7 +28,8 @@ returns-then-b c = record {
 
 pub returns : goal.returns
 returns c =
-    let span = sum_span c.args.a c.args.b c.exact_sums.result (omega (arith, ints)) (omega (arith, ints)) c.exact_sums.ensures.low c.exact_sums.ensures.high in
+    let span = sum_span c.args.a c.args.b c.exact_sums.result (omega (arith, ints)) (omega (arith, ints))
+    c.exact_sums.ensures.low c.exact_sums.ensures.high in
     record {
       outcome = span_outcome (λ (x y : ℤ). x +ℤ y) c.args.ty c.args.a c.args.b c.exact_sums.result c.results.result span c.results.ensures;
       ends = span_tight (λ (x y : ℤ). x +ℤ y) c.args.ty c.args.a c.args.b c.exact_sums.result c.results.result span c.results.ensures;

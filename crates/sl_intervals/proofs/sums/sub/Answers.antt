@@ -28,7 +28,8 @@ returns-then-b c = record {
 
 pub returns : goal.returns
 returns c =
-    let span = difference_span c.args.a c.args.b c.exact_differences.result (omega (arith, ints)) (omega (arith, ints)) c.exact_differences.ensures.low c.exact_differences.ensures.high in
+    let span = difference_span c.args.a c.args.b c.exact_differences.result (omega (arith, ints)) (omega (arith, ints))
+    c.exact_differences.ensures.low c.exact_differences.ensures.high in
     record {
       outcome = span_outcome (λ (x y : ℤ). x -ℤ y) c.args.ty c.args.a c.args.b c.exact_differences.result c.results.result span c.results.ensures;
       ends = span_tight (λ (x y : ℤ). x -ℤ y) c.args.ty c.args.a c.args.b c.exact_differences.result c.results.result span c.results.ensures;
