@@ -15,10 +15,10 @@ joined_holds a b r z m h = ⊎_elim
     h
 
 -- the low end of an interval that isn't empty, and its high end
-least_of : (a : Interval) (z : ℤ) → IsFilled a → IsAtLeast a z → z ≤ℤ a.low
+pub least_of : (a : Interval) (z : ℤ) → IsFilled a → IsAtLeast a z → z ≤ℤ a.low
 least_of a z f p = ⊎_elim (λ (e : IsEmpty a). absurd (omega (arith, ints))) (λ (h : z ≤ℤ a.low). h) p
 
-most_of : (a : Interval) (z : ℤ) → IsFilled a → IsAtMost a z → a.high ≤ℤ z
+pub most_of : (a : Interval) (z : ℤ) → IsFilled a → IsAtMost a z → a.high ≤ℤ z
 most_of a z f p = ⊎_elim (λ (e : IsEmpty a). absurd (omega (arith, ints))) (λ (h : a.high ≤ℤ z). h) p
 
 -- what bounds two intervals that aren't empty bounds their join
