@@ -14,21 +14,23 @@ joined_holds a b r z m h = ⊎_elim
     (λ (p : Holds b z). held_wider b r z m.low_second m.high_second p)
     h
 
--- the low end of an interval that isn't empty, and its high end
+-- what all members are at least, the low end of an interval that isn't empty is at least
 pub least_of : (a : Interval) (z : ℤ) → IsFilled a → IsAtLeast a z → z ≤ℤ a.low
 least_of a z f p = ⊎_elim (λ (e : IsEmpty a). absurd (omega (arith, ints))) (λ (h : z ≤ℤ a.low). h) p
 
+-- and what they are at most, its high end is at most
 pub most_of : (a : Interval) (z : ℤ) → IsFilled a → IsAtMost a z → a.high ≤ℤ z
 most_of a z f p = ⊎_elim (λ (e : IsEmpty a). absurd (omega (arith, ints))) (λ (h : a.high ≤ℤ z). h) p
 
--- what bounds two intervals that aren't empty bounds their join
+-- what bounds two intervals that aren't empty from below bounds their join
 pub joined_least : (a b r : Interval) (z : ℤ) → IsOuter a b r → IsFilled a → IsFilled b → IsAtLeast a z → IsAtLeast b z → IsAtLeast r z
 joined_least a b r z m f g p q = inr (m.low_most z (least_of a z f p) (least_of b z g q))
 
+-- and likewise from above
 pub joined_most : (a b r : Interval) (z : ℤ) → IsOuter a b r → IsFilled a → IsFilled b → IsAtMost a z → IsAtMost b z → IsAtMost r z
 joined_most a b r z m f g p q = inr (m.high_least z (most_of a z f p) (most_of b z g q))
 
--- and a type that has both has it
+-- a type that has both has their join
 pub joined_within : (ty : Scalar) (a b r : Interval) → IsOuter a b r → IsFilled a → IsFilled b → LiesIn ty a → LiesIn ty b → LiesIn ty r
 joined_within ty a b r m f g p q =
     let v = within_of ty a f p in
