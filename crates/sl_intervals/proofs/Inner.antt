@@ -4,7 +4,7 @@ use Rattle.std.proofs.lemmas.Int.{ints}
 use Rattle.sl_base.specs.declared.scalar.Scalar.{Scalar}
 use Rattle.sl_intervals.specs.declared.interval.Interval.{Interval}
 use Rattle.sl_intervals.specs.Intervals.{Holds, IsEmpty, IsWithin, LiesIn, IsAtLeast, IsAtMost}
-use Rattle.sl_intervals.specs.Means.Inner.{IsInner}
+use Rattle.sl_intervals.specs.Means.Ends.{IsInner}
 use Rattle.sl_intervals.proofs.Joined.{held_wider}
 
 both_held : (a b r : Interval) (z : ℤ) → IsInner a b r → Holds a z → Holds b z → Holds r z

@@ -24,3 +24,7 @@ within_of ty a f h = ⊎_elim (λ (e : IsEmpty a). absurd (omega (arith, ints)))
 -- what is empty isn't filled
 pub no_filled : (a : Interval) → IsEmpty a → IsFilled a → ⊥
 no_filled a e f = omega (arith, ints)
+
+-- and has no members
+pub no_member : (a : Interval) (z : ℤ) → IsEmpty a → Holds a z → ⊥
+no_member a z e h = let l = h.low in let m = h.high in omega (arith, ints)

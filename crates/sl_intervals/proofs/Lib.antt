@@ -3,6 +3,7 @@ mod Examples
 -- ## Ends of intervals
 pub mod Joined
 pub mod Inner
+pub mod Outer
 -- ## Size facts
 pub mod Table
 -- ## Widening

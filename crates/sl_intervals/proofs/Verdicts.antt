@@ -1,5 +1,6 @@
 -- Results in a row, settled in a type.
-use Rattle.std.proofs.Common.{◌≡◌, ◌≢◌, ◌↔◌, inl, inr, ℤ, pos, negsuc, ◌≤ℤ◌, ◌<ℤ◌, true, false, Bool, if◌then◌else◌, refl, ap, subst, ◌∙◌, arith}
+use Rattle.std.proofs.Common.{◌≡◌, ◌≢◌, ◌↔◌, inl, inr, ℤ, pos, negsuc, ◌-ℤ◌, ◌≤ℤ◌, ◌<ℤ◌, true, false, Bool, if◌then◌else◌}
+use Rattle.std.proofs.Common.{refl, ap, subst, ◌∙◌, arith}
 use Rattle.std.proofs.lemmas.Int.{ints, by_lt_z}
 use Rattle.sl_base.specs.declared.scalar.Scalar.{Scalar}
 use Rattle.sl_base.specs.declared.scalar.Scalar.TheVariants as kind
@@ -30,6 +31,13 @@ narrow kind.Int = record { low = omega (arith, ints); high = omega (arith, ints)
 narrow kind.Bool = record { low = omega (arith, ints); high = omega (arith, ints) }
 narrow kind.Size = record { low = omega (arith, ints); high = omega (arith, ints) }
 narrow kind.Diff = record { low = omega (arith, ints); high = omega (arith, ints) }
+
+-- how far apart two of them are
+pub short : (ty : Scalar) → (highest ty -ℤ lowest ty) ≤ℤ pos 18446744073709551615
+short kind.Int = omega (arith, ints)
+short kind.Bool = omega (arith, ints)
+short kind.Size = omega (arith, ints)
+short kind.Diff = omega (arith, ints)
 
 by_fit : (ty : Scalar) (z : ℤ) → ty ≢ kind.Size → settled ty z ≡ (if fits ty z then value z else fault 1)
 by_fit kind.Int z signed = refl

@@ -1,4 +1,4 @@
 -- What private steps of the operators give.
 pub mod Multiplying
 pub mod Dividing
-pub mod Inner
+pub mod Ends

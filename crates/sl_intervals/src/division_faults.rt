@@ -30,10 +30,9 @@ fn faults_at_zero(ty: Scalar, a: Interval, b: Interval) -> Sure
         return Sure::Always;
     }
     if a.high > least(ty) {
-        Sure::May
-    } else {
-        Sure::Always
+        return Sure::May;
     }
+    Sure::Always
 }
 
 /// Whether a division faults where all divisors are below 0.
@@ -50,17 +49,17 @@ fn faults_below_zero(ty: Scalar, a: Interval, b: Interval) -> Sure
     if b.high < -1 {
         return Sure::Never;
     }
-    if a.low > least(ty) {
+    let first = least(ty);
+    if a.low > first {
         return Sure::Never;
     }
     if b.low < -1 {
         return Sure::May;
     }
-    if a.high > least(ty) {
-        Sure::May
-    } else {
-        Sure::Always
+    if a.high > first {
+        return Sure::May;
     }
+    Sure::Always
 }
 
 /// Whether divisions of members by members fault: by 0, or of the type's least number by -1.

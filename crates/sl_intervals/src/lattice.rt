@@ -3,10 +3,27 @@ ghost use Rattle.std.specs.Prelude.{◌≡◌, ◌⊎◌, ◌↔◌, ℤ};
 ghost use Rattle.std.specs.Int.{int_min, int_max};
 ghost use Rattle.sl_base.specs.declared.scalar.Scalar.{Scalar};
 ghost use Rattle.sl_intervals.specs.Intervals.{Holds, IsEmpty, IsFilled, LiesIn, IsAtLeast, IsAtMost};
-ghost use Rattle.sl_intervals.specs.Means.Inner.{IsInner};
+ghost use Rattle.sl_intervals.specs.Means.Ends.{IsInner, IsOuter};
 
 use crate::interval::{Interval, between};
 use crate::numbers::{greater, lesser};
+
+/// The numbers from the lesser of two to the greater.
+pub fn ordered(x: i128, y: i128) -> Interval
+    ensures low { result.low ≡ int_min x y }
+    ensures high { result.high ≡ int_max x y }
+{
+    between(lesser(x, y), greater(x, y))
+}
+
+/// The numbers from the lesser low end to the greater high end.
+pub fn outer(a: Interval, b: Interval) -> Interval
+    ensures low { result.low ≡ int_min a.low b.low }
+    ensures high { result.high ≡ int_max a.high b.high }
+    ensures outer { IsOuter a b result }
+{
+    between(lesser(a.low, b.low), greater(a.high, b.high))
+}
 
 /// The least interval that holds all members of both.
 pub fn join(a: Interval, b: Interval) -> Interval
@@ -25,7 +42,7 @@ pub fn join(a: Interval, b: Interval) -> Interval
     if b.low > b.high {
         return a;
     }
-    between(lesser(a.low, b.low), greater(a.high, b.high))
+    outer(a, b)
 }
 
 /// The numbers from the greater low end to the lesser high end.

@@ -1,6 +1,6 @@
 //! Products of the members of intervals.
-ghost use Rattle.std.specs.Prelude.{◌≡◌, ◌≢◌, pos, ◌*ℤ◌, ◌≤ℤ◌, ◌<ℤ◌, true, false};
-ghost use Rattle.std.specs.Int.{int_min, int_max};
+ghost use Rattle.std.specs.Prelude.{◌≡◌, ◌≢◌, pos, ◌*ℤ◌, ◌≤ℤ◌, ◌<ℤ◌, true, false, FitsSigned};
+ghost use Rattle.std.specs.Int.{int_min, int_max, w128};
 ghost use Rattle.sl_base.specs.declared.scalar.Scalar.{Scalar};
 ghost use Rattle.sl_syntax.specs.declared.operator.Arithmetic.{Arithmetic};
 ghost use Rattle.sl_model.specs.Numbers.{converted, operated, lowest, highest};
@@ -10,11 +10,19 @@ ghost use Rattle.sl_intervals.specs.Outcomes.{IsOutcome};
 ghost use Rattle.sl_intervals.specs.Products.{least_product, greatest_product, IsPlain};
 
 use crate::interval::{Interval, between};
-use crate::numbers::{greater, lesser};
+use crate::lattice::{ordered, outer};
 use crate::outcome::{Outcome, no_outcome};
 use crate::settling::clamped;
 use crate::sure::Sure;
 use sl_base::Scalar;
+
+/// The product of two numbers that 128 bits have.
+fn product(x: i128, y: i128) -> i128
+    requires { FitsSigned w128 (x *ℤ y) }
+    ensures { result ≡ (x *ℤ y) }
+{
+    x * y
+}
 
 /// The products of the low end of the first, from the least to the greatest.
 fn products_of_low(a: Interval, b: Interval) -> Interval
@@ -22,9 +30,7 @@ fn products_of_low(a: Interval, b: Interval) -> Interval
     ensures low { result.low ≡ int_min (a.low *ℤ b.low) (a.low *ℤ b.high) }
     ensures high { result.high ≡ int_max (a.low *ℤ b.low) (a.low *ℤ b.high) }
 {
-    let first = a.low * b.low;
-    let second = a.low * b.high;
-    between(lesser(first, second), greater(first, second))
+    ordered(product(a.low, b.low), product(a.low, b.high))
 }
 
 /// The products of the high end of the first, from the least to the greatest.
@@ -33,20 +39,7 @@ fn products_of_high(a: Interval, b: Interval) -> Interval
     ensures low { result.low ≡ int_min (a.high *ℤ b.low) (a.high *ℤ b.high) }
     ensures high { result.high ≡ int_max (a.high *ℤ b.low) (a.high *ℤ b.high) }
 {
-    let first = a.high * b.low;
-    let second = a.high * b.high;
-    between(lesser(first, second), greater(first, second))
-}
-
-/// The numbers from the lesser low end to the greater high end.
-fn spanned(first: Interval, second: Interval) -> Interval
-    ensures low { result.low ≡ int_min first.low second.low }
-    ensures high { result.high ≡ int_max first.high second.high }
-{
-    between(
-        lesser(first.low, second.low),
-        greater(first.high, second.high),
-    )
+    ordered(product(a.high, b.low), product(a.high, b.high))
 }
 
 /// The numbers from the least to the greatest product of ends.
@@ -55,7 +48,7 @@ fn exact_products(a: Interval, b: Interval) -> Interval
     ensures low { result.low ≡ least_product a b }
     ensures high { result.high ≡ greatest_product a b }
 {
-    spanned(products_of_low(a, b), products_of_high(a, b))
+    outer(products_of_low(a, b), products_of_high(a, b))
 }
 
 /// The products of members, where none is taken modulo.

@@ -1,6 +1,12 @@
 use Rattle.std.proofs.Common.{arith}
-use Rattle.std.proofs.lemmas.Int.{ints}
+use Rattle.std.proofs.lemmas.Int.{ints, clamps}
 use Rattle.sl_intervals.proofs.lattice.inner.Goals as goal
+
+pub returns-clause-low : goal.returns-clause-low
+returns-clause-low c = omega (arith, ints, clamps)
+
+pub returns-clause-high : goal.returns-clause-high
+returns-clause-high c = omega (arith, ints, clamps)
 
 pub returns-clause-inner : goal.returns-clause-inner
 returns-clause-inner c = record {

@@ -4,7 +4,7 @@ use Rattle.std.specs.Int.{int_min, int_max}
 use Rattle.sl_base.specs.declared.scalar.Scalar.{Scalar}
 use Rattle.sl_syntax.specs.declared.operator.Arithmetic.TheVariants as operator
 use Rattle.sl_model.specs.Numbers.{operated, lowest, highest}
-use Rattle.sl_intervals.specs.Intervals.{IsEmpty}
+use Rattle.sl_intervals.specs.Intervals.{IsEmpty, IsWithin}
 use Rattle.sl_intervals.specs.Products.{least_product, greatest_product, IsPlain}
 use Rattle.sl_intervals.proofs.Joined.{within_of, no_filled}
 use Rattle.sl_intervals.proofs.Spanning.{no_members}
@@ -30,6 +30,14 @@ returns-then-b c =
       high = λ p f g. absurd (no_filled c.args.b none g);
     }
 
+pub size_products-requires : goal.size_products-requires
+size_products-requires c = record {
+  first = subst (λ (ty : Scalar). IsWithin ty c.args.a) c.in-Size.is (within_of c.args.ty c.args.a (omega (arith, ints)) c.requires.first);
+  second = subst (λ (ty : Scalar). IsWithin ty c.args.b) c.in-Size.is (within_of c.args.ty c.args.b (omega (arith, ints)) c.requires.second);
+  first_filled = omega (arith, ints);
+  second_filled = omega (arith, ints);
+}
+
 pub plain_products-requires : goal.plain_products-requires
 plain_products-requires c = record {
   number = c.requires.number;
@@ -38,6 +46,13 @@ plain_products-requires c = record {
   second = within_of c.args.ty c.args.b (omega (arith, ints)) c.requires.second;
   first_filled = omega (arith, ints);
   second_filled = omega (arith, ints);
+}
+
+pub returns-in_default : goal.returns-in_default
+returns-in_default c = record {
+  outcome = c.plain_products.ensures.outcome;
+  low = λ p f g. c.plain_products.ensures.low;
+  high = λ p f g. c.plain_products.ensures.high;
 }
 
 pub returns-in-Size-clause-low : goal.returns-in-Size-clause-low

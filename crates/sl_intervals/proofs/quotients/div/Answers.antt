@@ -2,7 +2,7 @@ use Rattle.std.proofs.Common.{inl, inr, arith}
 use Rattle.std.proofs.lemmas.Int.{ints}
 use Rattle.sl_syntax.specs.declared.operator.Arithmetic.TheVariants as operator
 use Rattle.sl_model.specs.Numbers.{operated}
-use Rattle.sl_intervals.specs.Intervals.{IsEmpty}
+use Rattle.sl_intervals.specs.Intervals.{IsEmpty, IsFilled}
 use Rattle.sl_intervals.proofs.Joined.{within_of, no_filled}
 use Rattle.sl_intervals.proofs.Divided.{low_quotient, high_quotient}
 use Rattle.sl_intervals.proofs.Spanning.{no_members, no_ends}
@@ -29,6 +29,18 @@ returns-then-b c =
           c.no_outcome-then-b.ensures.value;
       low = λ f g up above. absurd (no_filled c.args.b none g);
       high = λ f g up above. absurd (no_filled c.args.b none g);
+    }
+
+pub plain_quotients-requires : goal.plain_quotients-requires
+plain_quotients-requires c =
+    let f : IsFilled c.args.a = omega (arith, ints) in
+    let g : IsFilled c.args.b = omega (arith, ints) in
+    record {
+      number = c.requires.number;
+      first = within_of c.args.ty c.args.a f c.requires.first;
+      second = within_of c.args.ty c.args.b g c.requires.second;
+      first_filled = f;
+      second_filled = g;
     }
 
 pub returns-clause-low : goal.returns-clause-low

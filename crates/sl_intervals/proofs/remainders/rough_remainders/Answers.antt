@@ -7,6 +7,14 @@ pub returns-then-limit-eq0 : goal.returns-then-limit-eq0
 returns-then-limit-eq0 c = no_remainders c.args.a c.args.b c.empty.result (omega (arith, ints, clamps)) (omega (arith, ints, clamps))
     (omega (arith, ints))
 
+pub least_remainder-requires : goal.least_remainder-requires
+least_remainder-requires c = let l = c.requires.second.low in let h = c.requires.second.high in let o = c.requires.second.order in
+    record { low = omega (arith, ints, clamps); high = omega (arith, ints, clamps) }
+
+pub greatest_remainder-requires : goal.greatest_remainder-requires
+greatest_remainder-requires c = let l = c.requires.second.low in let h = c.requires.second.high in let o = c.requires.second.order in
+    record { low = omega (arith, ints, clamps); high = omega (arith, ints, clamps) }
+
 pub returns : goal.returns
 returns c =
     let fa = c.requires.first.order in let fb = c.requires.second.order in

@@ -26,12 +26,11 @@ returns-then-b c = record {
   ends = no_ends (operated operator.Subtract c.args.ty) c.args.a c.args.b c.no_outcome-then-b.result.value c.no_outcome-then-b.ensures.value;
 }
 
-pub returns-clause-outcome : goal.returns-clause-outcome
-returns-clause-outcome c = span_outcome (λ (x y : ℤ). x -ℤ y) c.args.ty c.args.a c.args.b c.exact_differences.result c.results.result
-    (difference_span c.args.a c.args.b c.exact_differences.result (omega (arith, ints)) (omega (arith, ints)) (omega (arith, ints))
-    (omega (arith, ints))) c.results.ensures
-
-pub returns-clause-ends : goal.returns-clause-ends
-returns-clause-ends c = span_tight (λ (x y : ℤ). x -ℤ y) c.args.ty c.args.a c.args.b c.exact_differences.result c.results.result
-    (difference_span c.args.a c.args.b c.exact_differences.result (omega (arith, ints)) (omega (arith, ints)) (omega (arith, ints))
-    (omega (arith, ints))) c.results.ensures
+pub returns : goal.returns
+returns c =
+    let span = difference_span c.args.a c.args.b c.exact_differences.result (omega (arith, ints)) (omega (arith, ints))
+    c.exact_differences.ensures.low c.exact_differences.ensures.high in
+    record {
+      outcome = span_outcome (λ (x y : ℤ). x -ℤ y) c.args.ty c.args.a c.args.b c.exact_differences.result c.results.result span c.results.ensures;
+      ends = span_tight (λ (x y : ℤ). x -ℤ y) c.args.ty c.args.a c.args.b c.exact_differences.result c.results.result span c.results.ensures;
+    }
