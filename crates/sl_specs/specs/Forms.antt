@@ -50,3 +50,22 @@ hashed = f.HashSet ∷ f.HashMap ∷ []
 -- those that hold equal keys
 abbrev pub both : List Form
 both = f.MultiSet ∷ f.MultiMap ∷ []
+
+-- its order is a hash order
+abbrev pub is_hash : Form → Bool
+is_hash f.HashSet = true
+is_hash f.HashMap = true
+is_hash form = false
+
+-- its elements are known by keys, and stand where these put them
+abbrev pub is_keyed : Form → Bool
+is_keyed f.Vector = false
+is_keyed f.Deque = false
+is_keyed f.List = false
+is_keyed form = true
+
+-- its iterators are random access iterators
+abbrev pub is_random_access : Form → Bool
+is_random_access f.Vector = true
+is_random_access f.Deque = true
+is_random_access form = false
