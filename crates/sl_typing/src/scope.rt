@@ -17,6 +17,8 @@ pub struct NamedVariable {
 /// What a call of a function of the text needs to know of it.
 #[derive(Drop)]
 pub struct FunctionHead {
+    /// Its place among the functions of the text, from 0.
+    pub number: u16,
     pub name: Name,
     pub parameters: Items<ParameterKind>,
     /// A function that gives nothing has none.
