@@ -4,7 +4,7 @@
 -- Restates the tables of ISO/IEC 14882:2017, [container.requirements], [sequence.reqmts], [associative.reqmts], [unord.req], [list.ops],
 -- [algorithms] and [iterator.operations] as far as types go, and [conv] (a number goes where a number of another type is asked for).
 -- Chosen here: the `x` of an algorithm is an int without a conversion; a list in braces has ints and bools; a range has two ends of one type.
-use Rattle.std.specs.Prelude.{ℕ, ◌==◌, nat_le, Bool, true, false, not, ◌&&◌, ◌||◌, List, [], ◌∷◌, map, take, drop}
+use Rattle.std.specs.Prelude.{ℕ, nat_le, Bool, true, false, not, ◌&&◌, ◌||◌, List, [], ◌∷◌, map, take, drop, if◌then◌else◌}
 use Rattle.std.specs.List.{list_all, list_any, sum}
 use Rattle.sl_base.specs.declared.form.Form.{Form}
 use Rattle.sl_base.specs.declared.scalar.Scalar.TheVariants as t
@@ -12,10 +12,9 @@ use Rattle.sl_specs.specs.declared.letter.Letter.{Letter}
 use Rattle.sl_specs.specs.declared.letter.Letter.TheVariants as l
 use Rattle.sl_specs.specs.Forms.{is_keyed}
 use Rattle.sl_typing.specs.declared.expr_type.ExprType.{ExprType}
-use Rattle.sl_typing.specs.declared.expr_type.ExprType.TheVariants as types
 use Rattle.sl_typing.specs.Types.{is_scalar, is_number, is_iterator, is_iterator_that, is_iterator_of, is_int_iterator, is_bidirectional, is_random}
 use Rattle.sl_typing.specs.Types.{is_container_that, is_container_of, is_const_container}
-use Rattle.sl_typing.specs.Signatures.{one, optional, range, width}
+use Rattle.sl_typing.specs.Signatures.{one, optional, range, width, appending}
 
 -- a letter stands for the two ends of a range
 abbrev pub is_range : Letter → Bool
@@ -93,6 +92,10 @@ abbrev pub letters_take : Form → List Letter → List ExprType → Bool
 letters_take form [] [] = true
 letters_take form [] us = false
 letters_take form (letter ∷ rest) us = letter_takes form letter (take (width letter us) us) && letters_take form rest (drop (width letter us) us)
+
+-- a letter as it stands where the call appends to a container in place of writing to an output, or doesn't
+abbrev pub letters_seen : Bool → List Letter → List Letter
+letters_seen appends letters = if appends then map appending letters else letters
 
 -- the first of these types passes a test
 abbrev pub first_is : (ExprType → Bool) → List ExprType → Bool

@@ -1,7 +1,7 @@
 -- Which row of the library's table a call means: it is found by the form of the object, the name and the arguments.
 --
 -- Restates ISO/IEC 14882:2017, [over.match.viable], for the calls that there are.
-use Rattle.std.specs.Prelude.{ℕ, ◌+◌, Bool, true, false, not, ◌&&◌, List, [], ◌∷◌, map, length, find, Option, Some, None, if◌then◌else◌}
+use Rattle.std.specs.Prelude.{ℕ, ◌+◌, Bool, true, false, ◌&&◌, List, [], ◌∷◌, length, Option, Some, None, if◌then◌else◌}
 use Rattle.std.specs.List.{list_any}
 use Rattle.std.specs.Str.{bytes_eq}
 use Rattle.sl_base.specs.declared.form.Form.{Form}
@@ -15,8 +15,8 @@ use Rattle.sl_specs.specs.Rows.{Row}
 use Rattle.sl_specs.specs.Table.{table, same_call}
 use Rattle.sl_specs.specs.Texts.{call_text}
 use Rattle.sl_typing.specs.declared.expr_type.ExprType.{ExprType}
-use Rattle.sl_typing.specs.Signatures.{is_output, appending}
-use Rattle.sl_typing.specs.Arguments.{takes_list, takes_count, letters_take}
+use Rattle.sl_typing.specs.Signatures.{is_output}
+use Rattle.sl_typing.specs.Arguments.{takes_list, takes_count, letters_take, letters_seen}
 
 -- a row with its number, which is its place in the table, from 0
 pub record Found : Type 0 where
@@ -65,13 +65,9 @@ has_algorithm name n = has_row (is_candidate None name n)
 abbrev pub member_row : Form → List ℕ → List ExprType → Option Found
 member_row form name us = first_row (λ r. is_candidate (Some form) name (length us) r && letters_take form r.letters us)
 
--- the letters of an algorithm: a container stands in place of an output where the call appends
-abbrev pub letters_for : Bool → Row → List Letter
-letters_for appends r = if appends then map appending r.letters else r.letters
-
 -- the row that a call of an algorithm means; no letter of an algorithm speaks of an object
 abbrev pub algorithm_row : Bool → List ℕ → List ExprType → Option Found
-algorithm_row appends name us = first_row (λ r. is_candidate None name (length us) r && letters_take f.Vector (letters_for appends r) us)
+algorithm_row appends name us = first_row (λ r. is_candidate None name (length us) r && letters_take f.Vector (letters_seen appends r.letters) us)
 
 -- the row is this call of a form
 abbrev pub is_row_of : Form → Call → Row → Bool
@@ -116,4 +112,16 @@ member_kills form name n = has_row (λ r. is_candidate (Some form) name n r && r
 
 -- a form's `[ ]` may
 abbrev pub subscript_kills : Form → Bool
-subscript_kills form = has_row (λ r. is_row_of form c.Subscript r && row_kills r)
+subscript_kills form = elim (subscript_row form) as (λ _. Bool) [ None ↦ false | Some x ↦ row_kills x.row ]
+
+-- some member of a form with this name and number of arguments changes its object
+abbrev pub form_member_changes : Form → List ℕ → ℕ → Bool
+form_member_changes form name n = has_row (λ r. is_candidate (Some form) name n r && r.changes)
+
+-- a form's `[ ]` does
+abbrev pub form_subscript_changes : Form → Bool
+form_subscript_changes form = elim (subscript_row form) as (λ _. Bool) [ None ↦ false | Some x ↦ x.row.changes ]
+
+-- the name of an algorithm
+abbrev pub is_algorithm_name : List ℕ → Bool
+is_algorithm_name name = has_row (is_called None name)

@@ -1,6 +1,6 @@
 -- The rules that an expression breaks, each with its place, in the order in which they are tried: the parts of a node before the node, in the order of
 -- the text, and at one node by ascending number. Whether what is called is known is tried at its name, before the arguments.
-use Rattle.std.specs.Prelude.{ℕ, ◌+◌, Bool, ◌&&◌, List, [], ◌∷◌, ◌++◌, if◌then◌else◌}
+use Rattle.std.specs.Prelude.{ℕ, ◌+◌, Bool, List, [], ◌∷◌, ◌++◌, if◌then◌else◌}
 use Rattle.sl_base.specs.declared.place.Place.{Place}
 use Rattle.sl_syntax.specs.declared.operator.Selector.{Selector}
 use Rattle.sl_syntax.specs.declared.operator.Selector.TheVariants as l

@@ -133,14 +133,21 @@ unfoldable mutual
 -- what a call needs to know of a function before which this is known
 abbrev pub head_of : Context → Function → FunctionHead
 head_of g f = record {
-  number = length g.scope.functions; name = f.name.name; parameters = map parameter_kind f.params; result = result_kind f.result;
+  number = length g.scope.functions;
+  name = f.name.name;
+  parameters = map parameter_kind f.params;
+  result = result_kind f.result;
 }
 
 -- before the parameters of a function: it is known itself
 abbrev pub before_parameters : Context → Function → Context
 before_parameters g f = record g {
   scope = record {
-    variables = []; outer = 0; functions = g.scope.functions ++ head_of g f ∷ []; result = result_kind f.result; in_loop = false;
+    variables = [];
+    outer = 0;
+    functions = g.scope.functions ++ head_of g f ∷ [];
+    result = result_kind f.result;
+    in_loop = false;
   };
   variables = [];
 }

@@ -2,7 +2,7 @@
 --
 -- Restates ISO/IEC 14882:2017, [conv.integral] and [conv.bool] where numbers meet, are handed over or stored: each conversion is a node.
 -- Chosen here: parentheses are no node. A call tells the names of its object and of each argument, where they are plain names, as far as the last one.
-use Rattle.std.specs.Prelude.{ℕ, ◌+◌, Bool, true, false, List, [], ◌∷◌, ◌++◌, flat_map, map, ℤ, pos, Option, Some, None, codes, if◌then◌else◌}
+use Rattle.std.specs.Prelude.{ℕ, ◌+◌, Bool, true, false, List, [], ◌∷◌, flat_map, map, ℤ, pos, Option, Some, None, codes, if◌then◌else◌}
 use Rattle.std.specs.Str.{bytes_eq}
 use Rattle.sl_base.specs.declared.place.Place.{Place}
 use Rattle.sl_base.specs.declared.scalar.Scalar.{Scalar}

@@ -8,11 +8,8 @@
 use Rattle.std.specs.Prelude.{ℕ, Bool, true, false, not, ◌&&◌, ◌||◌, List, [], ◌∷◌, ◌++◌, Option, Some, None, codes, if◌then◌else◌}
 use Rattle.std.specs.List.{list_any}
 use Rattle.std.specs.Str.{bytes_eq}
-use Rattle.sl_base.specs.declared.form.Form.{Form}
-use Rattle.sl_specs.specs.declared.call.Call.TheVariants as c
 use Rattle.sl_specs.specs.declared.letter.Letter.{Letter}
 use Rattle.sl_specs.specs.declared.letter.Letter.TheVariants as l
-use Rattle.sl_specs.specs.Rows.{Row}
 use Rattle.sl_syntax.specs.declared.operator.Access.TheVariants as a
 use Rattle.sl_syntax.specs.declared.operator.BinaryOperator.{BinaryOperator}
 use Rattle.sl_syntax.specs.declared.operator.BinaryOperator.TheVariants as b
@@ -27,7 +24,7 @@ use Rattle.sl_typing.specs.declared.expr_type.ExprType.TheVariants as types
 use Rattle.sl_typing.specs.declared.scope.FunctionHead.{FunctionHead}
 use Rattle.sl_typing.specs.declared.scope.Scope.{Scope}
 use Rattle.sl_typing.specs.Types.{is_number, is_container}
-use Rattle.sl_typing.specs.Candidates.{has_row, is_candidate, is_row_of}
+use Rattle.sl_typing.specs.Candidates.{has_row, is_candidate, form_subscript_changes, form_member_changes}
 use Rattle.sl_typing.specs.Scopes.{type_of_name, function_named, is_among}
 use Rattle.sl_typing.specs.TypeOf.{size, appends, type_of}
 use Rattle.sl_typing.specs.Looks.{bare_name}
@@ -120,7 +117,7 @@ prefix_deeds op x = nothing_done
 
 -- `[ ]` of a form puts in a key that isn't there
 abbrev pub subscript_changes : ExprType → Bool
-subscript_changes (types.Container access form) = has_row (λ r. is_row_of form c.Subscript r && r.changes)
+subscript_changes (types.Container access form) = form_subscript_changes form
 subscript_changes u = false
 
 -- what `[ ]` does by itself
@@ -129,7 +126,7 @@ subscript_deeds g x = if subscript_changes (type_of g x) then changing (bare_nam
 
 -- a member call of a name and so many arguments changes its object
 abbrev pub member_changes : ExprType → List ℕ → ℕ → Bool
-member_changes (types.Container access form) name n = has_row (λ r. is_candidate (Some form) name n r && r.changes)
+member_changes (types.Container access form) name n = form_member_changes form name n
 member_changes u name n = false
 
 -- a member call that changes its object changes the containers that it is given too

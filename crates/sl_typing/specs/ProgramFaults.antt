@@ -4,7 +4,7 @@
 -- Restates ISO/IEC 14882:2017, [basic.start.main], [basic.scope.declarative] (names that are declared twice) and [vector.overview] and its like (an
 -- iterator type is called `iterator` or `const_iterator`).
 -- Chosen here: which names are the library's, the limits, and that a second function of a name is the one that its own body calls.
-use Rattle.std.specs.Prelude.{ℕ, ◌+◌, ◌==◌, Bool, true, false, not, ◌&&◌, ◌||◌, List, [], ◌∷◌, ◌++◌, length, Option, Some, None, is_some, codes}
+use Rattle.std.specs.Prelude.{ℕ, ◌+◌, ◌==◌, Bool, true, false, not, ◌&&◌, ◌||◌, List, [], ◌∷◌, ◌++◌, length, None, is_some, codes}
 use Rattle.std.specs.List.{list_any}
 use Rattle.sl_base.specs.declared.limits.TheConstants.{FUNCTIONS, PARAMETERS}
 use Rattle.sl_base.specs.declared.place.Place.{Place}
@@ -17,7 +17,7 @@ use Rattle.sl_syntax.specs.declared.tree.function.ResultType.TheVariants as r
 use Rattle.sl_syntax.specs.Tree.{Function, Program}
 use Rattle.sl_typing.specs.declared.fault.Fault.{Fault}
 use Rattle.sl_typing.specs.declared.rules.TheConstants as rule
-use Rattle.sl_typing.specs.Candidates.{has_row, is_called}
+use Rattle.sl_typing.specs.Candidates.{is_algorithm_name}
 use Rattle.sl_typing.specs.Scopes.{function_named, is_iterator_name, name_of_parameter, parameter_kind, type_of_kind, is_among}
 use Rattle.sl_typing.specs.Contexts.{Context, declare}
 use Rattle.sl_typing.specs.Sites.{declares_container}
@@ -65,7 +65,7 @@ is_main_head result params = false
 -- the name is one of the library's: of an algorithm, or one that all containers have
 abbrev pub is_library_name : List ℕ → Bool
 is_library_name name =
-    has_row (is_called None name) || is_among name (codes "begin" ∷ codes "end" ∷ codes "size" ∷ codes "empty" ∷ codes "swap" ∷ [])
+    is_algorithm_name name || is_among name (codes "begin" ∷ codes "end" ∷ codes "size" ∷ codes "empty" ∷ codes "swap" ∷ [])
 
 -- those of a function: its result, its parameters, its body, its closing brace, and its own
 abbrev pub function_faults : Context → Function → List Fault

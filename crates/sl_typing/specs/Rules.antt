@@ -27,11 +27,11 @@ use Rattle.sl_typing.specs.declared.standing.Standing.{Standing}
 use Rattle.sl_typing.specs.declared.standing.Standing.TheVariants as standing
 use Rattle.sl_typing.specs.Types.{is_const, is_iterator, is_bidirectional, is_random, is_const_container}
 use Rattle.sl_typing.specs.Signatures.{is_equality}
-use Rattle.sl_typing.specs.Arguments.{letters_write_const, letters_are_weak}
-use Rattle.sl_typing.specs.Candidates.{Found, has_member, has_algorithm, member_row, algorithm_row, letters_for, subscript_row}
+use Rattle.sl_typing.specs.Arguments.{letters_seen, letters_write_const, letters_are_weak}
+use Rattle.sl_typing.specs.Candidates.{has_member, has_algorithm, member_row, algorithm_row, subscript_row}
 use Rattle.sl_typing.specs.Scopes.{variable_named, function_named, is_among}
 use Rattle.sl_typing.specs.TypeOf.{size, is_back_inserter, appends, type_of, types_of}
-use Rattle.sl_typing.specs.Looks.{is_plain, plain_name, is_left_side}
+use Rattle.sl_typing.specs.Looks.{is_plain, plain_name}
 use Rattle.sl_typing.specs.Sites.{is_site, at_word}
 use Rattle.sl_typing.specs.Order.{subscript_changes}
 
@@ -94,7 +94,7 @@ member_writes_const u name us = false
 abbrev pub algorithm_writes_const : Bool → List ℕ → List ExprType → Bool
 algorithm_writes_const appends name us = elim (algorithm_row appends name us) as (λ _. Bool) [
   | None ↦ false
-  | Some x ↦ letters_write_const (letters_for appends x.row) us
+  | Some x ↦ letters_write_const (letters_seen appends x.row.letters) us
 ]
 
 -- an operator before its operand that writes it
@@ -170,7 +170,7 @@ is_weak_binary op u = false
 abbrev pub algorithm_is_weak : Bool → List ℕ → List ExprType → Bool
 algorithm_is_weak appends name us = elim (algorithm_row appends name us) as (λ _. Bool) [
   | None ↦ false
-  | Some x ↦ letters_are_weak (letters_for appends x.row) us
+  | Some x ↦ letters_are_weak (letters_seen appends x.row.letters) us
 ]
 
 -- weaker iterator: `--` of an iterator of a hash form, and what random access iterators alone have

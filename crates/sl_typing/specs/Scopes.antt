@@ -3,7 +3,7 @@
 -- Restates ISO/IEC 14882:2017, [basic.scope.block] and [basic.scope.hiding] (the variable of the innermost scope counts), [dcl.fct] (parameters).
 -- Chosen here: variables are numbered by how many of their sort are in scope: scalars, containers, and iterators with references; how many there
 -- may be.
-use Rattle.std.specs.Prelude.{ℕ, nat_lt, nat_le, Bool, true, false, ◌&&◌, ◌||◌, List, [], ◌∷◌, ◌++◌, length, drop, reverse, find, count_by, Option, Some, None}
+use Rattle.std.specs.Prelude.{ℕ, nat_lt, nat_le, Bool, true, false, ◌&&◌, ◌||◌, List, [], ◌∷◌, ◌++◌, drop, reverse, find, count_by, Option, Some, None}
 use Rattle.std.specs.List.{list_any}
 use Rattle.std.specs.Str.{bytes_eq}
 use Rattle.sl_base.specs.declared.limits.TheConstants.{CONTAINERS, ITERATORS, SCALARS}

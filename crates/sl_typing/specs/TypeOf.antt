@@ -4,9 +4,8 @@
 -- to; [dcl.init.ref]; for calls of the library the tables of [container.requirements], [algorithms] and [iterator.operations].
 -- Chosen here: what breaks a rule may have any type, since that rule is the refusal. A call of `std::back_inserter` has the type of its container, and
 -- an algorithm that appends gives nothing.
-use Rattle.std.specs.Prelude.{ℕ, ◌+◌, Bool, true, false, not, ◌&&◌, ◌||◌, List, [], ◌∷◌, length, Option, Some, None, codes, if◌then◌else◌}
+use Rattle.std.specs.Prelude.{ℕ, ◌+◌, Bool, true, false, not, ◌&&◌, ◌||◌, List, [], ◌∷◌, Option, Some, None, codes, if◌then◌else◌}
 use Rattle.std.specs.Str.{bytes_eq}
-use Rattle.sl_base.specs.declared.form.Form.{Form}
 use Rattle.sl_base.specs.declared.form.Form.TheVariants as f
 use Rattle.sl_base.specs.declared.scalar.Scalar.TheVariants as t
 use Rattle.sl_specs.specs.declared.return_type.ReturnType.{ReturnType}
@@ -27,7 +26,7 @@ use Rattle.sl_typing.specs.declared.scope.FunctionHead.{FunctionHead}
 use Rattle.sl_typing.specs.declared.scope.Scope.{Scope}
 use Rattle.sl_typing.specs.Types.{is_const, value_type, scalar_of, common}
 use Rattle.sl_typing.specs.Signatures.{first_type, result_type}
-use Rattle.sl_typing.specs.Candidates.{Found, has_output, member_row, algorithm_row}
+use Rattle.sl_typing.specs.Candidates.{has_output, member_row, algorithm_row}
 use Rattle.sl_typing.specs.Scopes.{type_of_name, function_named, type_of_kind}
 
 -- how many expressions there are

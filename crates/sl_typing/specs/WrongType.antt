@@ -5,7 +5,7 @@
 -- bool are wrong, and so is `a.assign(n, x)` where x looks as an element of a may, and what isn't a plain name where one is asked: before a call of a
 -- member and `->`, in `std::advance`, and for a reference. The element of a range-for over a map stands before `.first` and `.second` alone, and so does
 -- a call of `equal_range`.
-use Rattle.std.specs.Prelude.{ℕ, Bool, true, false, not, ◌&&◌, ◌||◌, List, [], ◌∷◌, Option, Some, None, is_none, codes, if◌then◌else◌}
+use Rattle.std.specs.Prelude.{ℕ, Bool, true, false, not, ◌&&◌, ◌||◌, List, ◌∷◌, Option, Some, None, is_none, codes}
 use Rattle.std.specs.List.{list_any}
 use Rattle.std.specs.Str.{bytes_eq}
 use Rattle.sl_base.specs.declared.form.Form.{Form}

@@ -3,11 +3,13 @@
 
 mod expr_type;
 mod fault;
+mod forms;
 pub mod rules;
 mod scope;
 mod standing;
 
-pub use expr_type::ExprType;
+pub use expr_type::{ExprType, common, is_const, same_scalar};
 pub use fault::Fault;
+pub use forms::{is_hash, is_keyed, is_map, is_random_access, same_form};
 pub use scope::{FunctionHead, NamedVariable, Scope};
 pub use standing::Standing;
