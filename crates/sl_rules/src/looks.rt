@@ -1,5 +1,5 @@
 //! What an expression is by its look.
-ghost use Rattle.std.specs.Prelude.{◌≡◌, ◌∷◌, [], option_map};
+ghost use Rattle.std.specs.Prelude.{◌≡◌, option_map};
 ghost use Rattle.sl_syntax.specs.TreeView.{expr_of};
 ghost use Rattle.sl_typing.specs.Looks as spec;
 ghost use Rattle.sl_typing.specs.TypeOf.{is_back_inserter};
@@ -37,7 +37,7 @@ pub fn is_plain(e: &Expr) -> bool
 
 /// The name that it is, also one in parentheses.
 pub fn bare_name(e: &Expr) -> Option<&Name>
-    ensures { list_of result ≡ spec.bare_name (expr_of e.now) }
+    ensures { list_of (option_map (λ n. n.now) result) ≡ spec.bare_name (expr_of e.now) }
 {
     match e {
         Expr::Name(name) => Some(&name.name),

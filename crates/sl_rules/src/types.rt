@@ -1,5 +1,5 @@
 //! The types of expressions.
-ghost use Rattle.std.specs.Prelude.{◌≡◌, ◌≤◌, length, IfSome, OnNone};
+ghost use Rattle.std.specs.Prelude.{◌≡◌};
 ghost use Rattle.sl_syntax.specs.TreeView.{expr_of, exprs_of};
 ghost use Rattle.sl_typing.specs.TypeOf as spec;
 
