@@ -2,9 +2,9 @@
 --
 -- Restates the tables of ISO/IEC 14882:2017, [container.requirements], [sequence.reqmts], [associative.reqmts], [unord.req], [list.ops],
 -- [algorithms], [iterator.operations] and [iterator.requirements] as far as types, constness and the kinds of iterators go.
--- Chosen here: a range has two ends of one type. Which letters a call has and what it gives stands in the table of the library. `it += n` and
--- `std::advance(it, n)` give nothing, since they stand as effects alone. The call of `back_inserter` is no call of the tree: an algorithm that
--- appends has the container in place of its output.
+-- Chosen here: which letters a call has and what it gives stands in the table of the library. `it += n` and `std::advance(it, n)` give nothing, since
+-- they stand as effects alone. The call of `back_inserter` is no call of the tree: an algorithm that appends has the container in place of its
+-- output.
 use Rattle.std.specs.Prelude.{ℕ, Bool, true, false, not, ◌&&◌, List, [], ◌∷◌, map, take, drop, Option, Some, None, is_some, if◌then◌else◌}
 use Rattle.std.specs.List.{list_any}
 use Rattle.sl_base.specs.declared.form.Form.{Form}
