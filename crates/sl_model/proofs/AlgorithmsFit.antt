@@ -16,6 +16,9 @@ use Rattle.sl_specs.specs.MultiLines.{multi_lines}
 use Rattle.sl_specs.specs.AlgorithmRows.{algorithm, algorithm_rows}
 use Rattle.sl_specs.specs.Table.{table}
 use Rattle.sl_syntax.specs.declared.typed.callee.Callee.TheVariants as callees
+use Rattle.sl_typing.specs.declared.expr_type.ExprType.{ExprType}
+use Rattle.sl_typing.specs.Types.{has_type, is_iterator}
+use Rattle.sl_typing.specs.Signatures.{first_type, last_type, result_type}
 use Rattle.sl_model.specs.Memory.Containers.{Memory}
 use Rattle.sl_model.specs.LibraryCalls.Values.{Shape, a_number, a_stamp}
 use Rattle.sl_model.specs.LibraryCalls.Situation.{Situation}
@@ -23,9 +26,7 @@ use Rattle.sl_model.specs.LibraryCalls.Actions.{Answer}
 use Rattle.sl_model.specs.LibraryCalls.Library.{value_in}
 use Rattle.sl_model.specs.Runs.Good.{IsSound}
 use Rattle.sl_model.specs.LibraryCalls.Rows.{Object, of_first, Row, algorithm_shape, algorithm_row, meaning_of}
-use Rattle.sl_model.specs.Typing.WellTypedTypes.{ExprType}
-use Rattle.sl_model.specs.Typing.WellTypedTypes.{has_type, is_iterator}
-use Rattle.sl_model.specs.Typing.WellTypedCalls.{fits, first_type, last_type, result_type, is_advance}
+use Rattle.sl_model.specs.Typing.WellTypedCalls.{fits, is_advance}
 use Rattle.sl_model.proofs.Placing.{IsPlaced}
 use Rattle.sl_model.proofs.Tells.{AllOf, all_at, all_rows_on, shape_of_answer, memory_after, Tells}
 use Rattle.sl_model.proofs.TableRows.{all_table}

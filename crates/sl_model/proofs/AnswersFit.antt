@@ -5,6 +5,10 @@ use Rattle.std.specs.List.{slice_get}
 use Rattle.sl_base.specs.declared.form.Form.{Form}
 use Rattle.sl_specs.specs.declared.return_type.ReturnType.{ReturnType}
 use Rattle.sl_specs.specs.declared.return_type.ReturnType.TheVariants as returns
+use Rattle.sl_typing.specs.declared.expr_type.ExprType.{ExprType}
+use Rattle.sl_typing.specs.declared.expr_type.ExprType.TheVariants as types
+use Rattle.sl_typing.specs.Types.{is_iterator}
+use Rattle.sl_typing.specs.Signatures.{first_type, last_type, result_type}
 use Rattle.sl_model.specs.Memory.Containers.{Memory}
 use Rattle.sl_model.specs.LibraryCalls.Values.{Value, nothing as no_result, number, iterator, pair, two, scalar_at, container_at, element_at}
 use Rattle.sl_model.specs.LibraryCalls.Values.{a_number, a_stamp, a_pair, two_stamps, an_element}
@@ -14,9 +18,6 @@ use Rattle.sl_model.specs.LibraryCalls.Actions.{Answer, nothing, gives_number, g
 use Rattle.sl_model.specs.LibraryCalls.Rows.{of_first, Row, shape_of_return}
 use Rattle.sl_model.specs.LibraryCalls.Library.{value_in}
 use Rattle.sl_model.specs.Runs.Good.{IsSound}
-use Rattle.sl_model.specs.Typing.WellTypedTypes.{ExprType, no_type, empty_type, scalar_type, element_type, iterator_type, iterator_and_bool, two_iterators}
-use Rattle.sl_model.specs.Typing.WellTypedTypes.{container_type, handed_type, int_reference, entry_reference, is_iterator}
-use Rattle.sl_model.specs.Typing.WellTypedCalls.{first_type, last_type, result_type}
 use Rattle.sl_model.proofs.Called.{IsCalled}
 use Rattle.sl_model.proofs.Placing.{IsPlaced}
 use Rattle.sl_model.proofs.Tells.{shape_of_answer, memory_after}
@@ -141,17 +142,17 @@ module _ (s : Situation) (a : ℕ) (t : Memory) (kept : KeepsForms [] s.memory t
   -- what is of the type of the operand, where that is one of iterators
   pub operand_type_given : (u : ExprType) (answer : Answer) → is_iterator u ≡ true → Fits s.memory u (argument s a)
       → shape_of_answer answer ≡ a_stamp → OperandStands of_first s a answer → IsPlaced t answer → IsGiven t u (value_in t answer)
-  operand_type_given no_type answer is fits e stood placed = absurd (cc)
-  operand_type_given empty_type answer is fits e stood placed = tt
-  operand_type_given (scalar_type r) answer is fits e stood placed = absurd (cc)
-  operand_type_given (element_type w) answer is fits e stood placed = absurd (cc)
-  operand_type_given (iterator_type b x) answer is fits e stood placed = moved_given x answer e stood placed fits
-  operand_type_given (iterator_and_bool x) answer is fits e stood placed = absurd (cc)
-  operand_type_given (two_iterators b x) answer is fits e stood placed = absurd (cc)
-  operand_type_given (container_type access x) answer is fits e stood placed = absurd (cc)
-  operand_type_given (handed_type r) answer is fits e stood placed = absurd (cc)
-  operand_type_given (int_reference w) answer is fits e stood placed = absurd (cc)
-  operand_type_given (entry_reference w) answer is fits e stood placed = absurd (cc)
+  operand_type_given types.Wrong answer is fits e stood placed = absurd (cc)
+  operand_type_given types.Nothing answer is fits e stood placed = tt
+  operand_type_given (types.Scalar r) answer is fits e stood placed = absurd (cc)
+  operand_type_given (types.Element w) answer is fits e stood placed = absurd (cc)
+  operand_type_given (types.Iterator b x) answer is fits e stood placed = moved_given x answer e stood placed fits
+  operand_type_given (types.IteratorAndBool x) answer is fits e stood placed = absurd (cc)
+  operand_type_given (types.IteratorPair b x) answer is fits e stood placed = absurd (cc)
+  operand_type_given (types.Container access x) answer is fits e stood placed = absurd (cc)
+  operand_type_given (types.Handed r) answer is fits e stood placed = absurd (cc)
+  operand_type_given (types.IntReference w) answer is fits e stood placed = absurd (cc)
+  operand_type_given (types.EntryReference w) answer is fits e stood placed = absurd (cc)
 
 -- ## The first and the last of the operands
 

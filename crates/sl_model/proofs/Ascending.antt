@@ -3,7 +3,7 @@ use Rattle.std.proofs.Common.{◌≡◌, ◌&&◌, Bool, true, false, IsTrue, Li
 use Rattle.std.proofs.lemmas.Int.{ints}
 use Rattle.sl_base.specs.declared.form.Form.{Form}
 use Rattle.sl_base.specs.declared.form.Form.TheVariants as f
-use Rattle.sl_model.specs.Memory.Forms.{is_hash, is_keyed}
+use Rattle.sl_specs.specs.Forms.{is_hash, is_keyed}
 use Rattle.sl_model.specs.Memory.Orders.{is_ascending}
 use Rattle.sl_model.specs.Memory.Orderly.{EachPair, AreInOrder}
 

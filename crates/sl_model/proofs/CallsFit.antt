@@ -8,12 +8,15 @@ use Rattle.sl_specs.specs.Rows.{Row as TableRow}
 use Rattle.sl_specs.specs.Table.{table}
 use Rattle.sl_syntax.specs.declared.typed.callee.Callee.{Callee}
 use Rattle.sl_syntax.specs.declared.typed.callee.Callee.TheVariants as callees
+use Rattle.sl_typing.specs.declared.expr_type.ExprType.{ExprType}
+use Rattle.sl_typing.specs.declared.expr_type.ExprType.TheVariants as types
+use Rattle.sl_typing.specs.Types.{has_type, is_const}
+use Rattle.sl_typing.specs.Signatures.{is_output, appending, first_type, result_type, row_at, is_constructor, is_algorithm}
 use Rattle.sl_model.specs.LibraryCalls.Situation.{Situation}
 use Rattle.sl_model.specs.LibraryCalls.Operators.{operator_name}
 use Rattle.sl_model.specs.LibraryCalls.Rows.{Row, meaning_of, row_of_operator, row_of}
-use Rattle.sl_model.specs.Typing.WellTypedTypes.{ExprType, empty_type, container_type, Scope, variable_type, has_type, is_const}
-use Rattle.sl_model.specs.Typing.WellTypedCalls.{is_output, appending, first_type, result_type, row_at, is_constructor, may_be_called, member_type}
-use Rattle.sl_model.specs.Typing.WellTypedCalls.{is_algorithm, algorithm_type, row_type, appending_type, fits, operator_type, call_type}
+use Rattle.sl_model.specs.Typing.WellTypedScopes.{Scope, variable_type}
+use Rattle.sl_model.specs.Typing.WellTypedCalls.{may_be_called, member_type, algorithm_type, row_type, appending_type, fits, operator_type, call_type}
 use Rattle.sl_model.specs.Typing.WellTypedCalls.{is_moving_row, is_moving}
 use Rattle.sl_model.proofs.Passing.{first_of_both, second_of_both}
 use Rattle.sl_model.proofs.TypedOperands.{only_holds, only_rest}
@@ -39,7 +42,7 @@ module _ (n : ℕ) (r : TableRow) (us : List ExprType) (s : Situation) (there : 
 
   -- a member of an object of a type
   member_fits : (u : ExprType) → has_type (member_type r u us) ≡ true → RowGives (meaning_of false r) s (member_type r u us)
-  member_fits (container_type access x) has =
+  member_fits (types.Container access x) has =
       let all = only_holds
       (same_object r.form (Some x) && not (is_constructor r) && may_be_called r.changes access && fits x r.letters us)
       (result_type r.gives (is_const access) x us) has in
@@ -62,7 +65,7 @@ appending_fits : (o : Option TableRow) (us : List ExprType) (r : Row) (s : Situa
     → RowGives r s (appending_type o us)
 appending_fits None us r s has = absurd (cc)
 appending_fits (Some x) us r s has =
-    only_given (is_algorithm x && list_any is_output x.letters && fits f.Vector (map appending x.letters) us) empty_type r s has tt
+    only_given (is_algorithm x && list_any is_output x.letters && fits f.Vector (map appending x.letters) us) types.Nothing r s has tt
 
 -- ## By what is called
 
@@ -98,7 +101,7 @@ advance_fits g None us has = second_of_both (is_algorithm advance_row) (fits f.V
 advance_fits g (Some x) us has = absurd (no_member (variable_type g.containers x) has)
   where
     no_member : (u : ExprType) → has_type (member_type advance_row u us) ≡ true → ⊥
-    no_member (container_type access y) h = cc
+    no_member (types.Container access y) h = cc
     no_member u h = cc
 
 -- a typed call that moves a variable gives an iterator of its type

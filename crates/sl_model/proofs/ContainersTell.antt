@@ -6,12 +6,13 @@ use Rattle.std.proofs.lemmas.List.{length-map}
 use Rattle.sl_base.specs.declared.form.Form.{Form}
 use Rattle.sl_base.specs.declared.form.Form.TheVariants as f
 use Rattle.sl_specs.specs.declared.class.Class.{Class}
+use Rattle.sl_specs.specs.Forms.{is_hash}
 use Rattle.sl_specs.specs.ContainerLines.{container_lines}
 use Rattle.sl_specs.specs.MultiLines.{multi_lines}
 use Rattle.sl_model.specs.Memory.Containers.{Cont, Memory, size, keys}
 use Rattle.sl_model.specs.Memory.Classes.{Edit}
 use Rattle.sl_model.specs.Memory.Edits.{old, new, numbers, change_of, after}
-use Rattle.sl_model.specs.Memory.Forms.{is_hash, holds_equal_keys}
+use Rattle.sl_model.specs.Memory.Forms.{holds_equal_keys}
 use Rattle.sl_model.specs.Memory.Orders.{index_of_key}
 use Rattle.sl_model.specs.Memory.Schedule.{scattered, hash_place, after_picks, pick, pick_at}
 use Rattle.sl_model.specs.LibraryCalls.Situation.{Situation, own, own_size, their, their_size, container_of, index, range_size, int_of, count_of, item}

@@ -5,13 +5,13 @@ use Rattle.std.proofs.lemmas.Bool.Decides.{nat_tests}
 use Rattle.std.proofs.lemmas.List.{length-map}
 use Rattle.sl_base.specs.declared.limits.TheConstants.{ELEMENTS}
 use Rattle.sl_specs.specs.declared.class.Class.{Class}
+use Rattle.sl_specs.specs.Forms.{is_hash}
 use Rattle.sl_model.specs.Memory.Containers.{Cont, size, keys}
 use Rattle.sl_model.specs.Memory.Edits.{Source, old, theirs, new, numbers, olds, theirs_from}
 use Rattle.sl_model.specs.Memory.Orders.{same, first_places_after, first_places, other_places, sorted_entries}
 use Rattle.sl_model.specs.Memory.Rearrangements.{retained, among, exchanged, received, given}
 use Rattle.sl_model.specs.LibraryCalls.ListActions.{entries, merged}
 use Rattle.sl_model.specs.LibraryCalls.Effects.{key_change, key_order, key_place, is_full}
-use Rattle.sl_model.specs.Memory.Forms.{is_hash}
 use Rattle.sl_model.specs.Memory.Schedule.{scattered, put_at, after_picks}
 use Rattle.sl_model.proofs.Places.{times, own_places, their_places, CountsFair, CountsFairSide}
 use Rattle.sl_model.proofs.Counts.{in_turn, InTurn, one_of, lower, higher, own-append, their-append, own-old, their-old, own-theirs}

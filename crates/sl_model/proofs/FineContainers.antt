@@ -8,12 +8,12 @@ use Rattle.sl_base.specs.declared.form.Form.{Form}
 use Rattle.sl_base.specs.declared.form.Form.TheVariants as f
 use Rattle.sl_base.specs.declared.limits.TheConstants.{ELEMENTS}
 use Rattle.sl_specs.specs.declared.class.Class.{Class}
+use Rattle.sl_specs.specs.Forms.{is_hash}
 use Rattle.sl_specs.specs.ContainerLines.{container_lines}
 use Rattle.sl_specs.specs.MultiLines.{multi_lines}
 use Rattle.sl_model.specs.Memory.Classes.{Edit, Fits}
 use Rattle.sl_model.specs.Memory.Containers.{Cell, Cont, Memory, size, cont_at, keys, items}
 use Rattle.sl_model.specs.Memory.Edits.{numbers}
-use Rattle.sl_model.specs.Memory.Forms.{is_hash}
 use Rattle.sl_model.specs.LibraryCalls.Needs.{is_range, is_position_inside, fails_if, place_fails, element_fails, range_fails, first_failure}
 use Rattle.sl_model.specs.LibraryCalls.Operands.{Sort, an_iterator, a_container, are_of}
 use Rattle.sl_model.specs.Memory.Orders.{same, first_of_key, how_many, sorted_places, first_places, other_places}

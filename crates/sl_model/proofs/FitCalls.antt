@@ -16,6 +16,9 @@ use Rattle.sl_syntax.specs.declared.typed.callee.Callee.{Callee}
 use Rattle.sl_syntax.specs.declared.typed.parameter.ParameterKind.{ParameterKind}
 use Rattle.sl_syntax.specs.declared.typed.parameter.ParameterKind.TheVariants as parameters
 use Rattle.sl_syntax.specs.Typed.{Function, Typed}
+use Rattle.sl_typing.specs.declared.expr_type.ExprType.{ExprType}
+use Rattle.sl_typing.specs.declared.expr_type.ExprType.TheVariants as types
+use Rattle.sl_typing.specs.Types.{has_type, is_scalar}
 use Rattle.sl_model.specs.Memory.Containers.{Memory}
 use Rattle.sl_model.specs.LibraryCalls.Values.{Value, nothing, number, iterator, scalar_at, container_at, Lib}
 use Rattle.sl_model.specs.Runs.Ends.{Language}
@@ -26,8 +29,7 @@ use Rattle.sl_model.specs.Runs.Exec.{Flow, Next, Broke, Continued, Returned, Ove
 use Rattle.sl_model.specs.Runs.Calls.{fell, body_gives, of_function, parameters_in, world_of, call_of}
 use Rattle.sl_model.specs.Typing.Shapes.{Shape, Signature, signature_of, shape_of_result}
 use Rattle.sl_model.specs.Typing.Scoped.{Counts, no_counts, with_parameters as counts_with, InStmt, IsScoped}
-use Rattle.sl_model.specs.Typing.WellTypedTypes.{ExprType, scalar_type, element_type, iterator_type, container_type, handed_type, Scope, is_within}
-use Rattle.sl_model.specs.Typing.WellTypedTypes.{has_type, is_scalar}
+use Rattle.sl_model.specs.Typing.WellTypedScopes.{Scope, is_within}
 use Rattle.sl_model.specs.Typing.WellTypedExpressions.{goes_to, go_to, type_given}
 use Rattle.sl_model.specs.Typing.WellTypedStatements.{is_typed_stmt, with_parameter, with_parameters, no_variables, is_block, is_typed_function}
 use Rattle.sl_model.specs.Typing.WellTyped.{WellTyped}
@@ -70,7 +72,7 @@ record IsBound (g : Scope) (ks : List Kind) (d : Stack) (m : Memory) (s : State)
 
 -- a scalar goes to a parameter by reference
 scalar_goes : (s : Scalar) (u : ExprType) (m : Memory) (v : Value) → goes_to (parameters.Reference s) u ≡ true → Fits m u v → IsScalarAt v
-scalar_goes s (handed_type r) m v t h = h
+scalar_goes s (types.Handed r) m v t h = h
 scalar_goes s u m v t h = absurd (cc)
 
 -- a container of one form is of the other
@@ -80,10 +82,10 @@ form_goes x y m v t h = subst (λ (z : Form). IsContainerOf m z v) (sym (one_for
 -- a container goes to a parameter of its form
 container_goes : (access : Access) (x : Form) (u : ExprType) (m : Memory) (v : Value) → goes_to (parameters.Container access x) u ≡ true → Fits m u v
     → IsContainerOf m x v
-container_goes a.Const x (container_type a.Whole y) m v t h = form_goes x y m v t h
-container_goes a.Const x (container_type a.Const y) m v t h = form_goes x y m v t h
-container_goes a.Whole x (container_type a.Whole y) m v t h = form_goes x y m v t h
-container_goes a.Elements x (container_type access y) m v t h = form_goes x y m v t h
+container_goes a.Const x (types.Container a.Whole y) m v t h = form_goes x y m v t h
+container_goes a.Const x (types.Container a.Const y) m v t h = form_goes x y m v t h
+container_goes a.Whole x (types.Container a.Whole y) m v t h = form_goes x y m v t h
+container_goes a.Elements x (types.Container access y) m v t h = form_goes x y m v t h
 container_goes access x u m v t h = absurd (cc)
 
 module _ (d : Stack) (g : Scope) (ks : List Kind) (s : State) where
@@ -127,7 +129,7 @@ module _ (d : Stack) (g : Scope) (ks : List Kind) (s : State) where
       scalars = h.scope.scalars;
       conts_high = h.scope.conts_high;
       iters_high = h.scope.iters_high;
-      containers = conts_with d.conts g.containers s.frame.conts (container_type access x) l
+      containers = conts_with d.conts g.containers s.frame.conts (types.Container access x) l
           (form_known (with_iters ks d) s l x h.scope.conts_high h.stacks n) h.scope.containers;
       iterators = h.scope.iterators;
     };
@@ -146,7 +148,7 @@ module _ (d : Stack) (g : Scope) (ks : List Kind) (s : State) where
       iters_high = one_higher ks (iterator_of x) (length s.iters) h.scope.iters_high
           ∙ sym (one_higher s.iters (iterator_at stamp) (length s.iters) refl);
       containers = h.scope.containers;
-      iterators = iters_new ks g.iterators s.frame.iters (iterator_of x) (iterator_type b x) (length s.iters)
+      iterators = iters_new ks g.iterators s.frame.iters (iterator_of x) (types.Iterator b x) (length s.iters)
           (last_there ks (iterator_of x) (length s.iters) h.scope.iters_high) h.scope.iterators;
     };
     stacks = new_pointer-fits (with_iters ks d) s.memory s.iters (iterator_of x) (iterator_at stamp) h.scope.iters_high n h.stacks;
@@ -239,8 +241,8 @@ fit_fell : (d : Stack) (m : Bool) (f : Function) (s : State) → (m ≡ true →
 fit_fell d true f s main h = (number_given (type_given f.result) (main refl), h)
   where
     number_given : (u : ExprType) → is_scalar t.Int u ≡ true → Fits s.memory u (number (pos 0))
-    number_given (scalar_type r) e = tt
-    number_given (element_type w) e = tt
+    number_given (types.Scalar r) e = tt
+    number_given (types.Element w) e = tt
     number_given u e = absurd (cc)
 fit_fell d false f s main h = by_result f.result
   where
@@ -268,7 +270,7 @@ function_parts p h e = let g = with_parameters h.parameters (no_variables p) in
       second_of_both (is_block h.body && has_type (type_given h.result) && is_within g) (is_typed_stmt g h.result false h.body) e,
     )
 
-module _ (l : Lib) (types : FitsTypes l) (shape : Callee → Shape) (makes_one : Callee → Bool)
+module _ (l : Lib) (lib_fits : FitsTypes l) (shape : Callee → Shape) (makes_one : Callee → Bool)
     (lib_keeps : KeepsGood shape makes_one l) (p : Typed) (typed : WellTyped p) (scoped : IsScoped shape makes_one p) where
   -- the result of `main` is an int
   main_int : (f : ℕ) (h : Function) → slice_get p.functions f ≡ Some h → (f == p.main) ≡ true → is_scalar t.Int (type_given h.result) ≡ true
@@ -283,7 +285,7 @@ module _ (l : Lib) (types : FitsTypes l) (shape : Callee → Shape) (makes_one :
       subst (λ (o : Option Function). OutFits d (type_given h.result) (of_function (f == p.main) o (world_of l p (call_of l k p)) s)) (sym there)
       (let parts = function_parts p h (function_is_typed p typed f h there) in
       fit_given d (f == p.main) h (exec (world_of l p (call_of l k p)) h.body s) (main_int f h there)
-      (fit_exec (world_of l p (call_of l k p)) (signature_of shape makes_one p) lib_keeps (at_call_of shape makes_one l lib_keeps p scoped k) types
+      (fit_exec (world_of l p (call_of l k p)) (signature_of shape makes_one p) lib_keeps (at_call_of shape makes_one l lib_keeps p scoped k) lib_fits
       (own-fits p (world_of l p (call_of l k p)) (signature_of shape makes_one p) refl (λ n x e. ap parameters_in e) (fit_bodies k))
       h.result (shape_of_result h.result) parts.0 h.body false (level_of s) (with_parameters h.parameters (no_variables p)) d s
       (sym (functions_with_parameters h.parameters (no_variables p))) scope

@@ -5,10 +5,12 @@ use Rattle.sl_syntax.specs.declared.operator.Access.TheVariants as a
 use Rattle.sl_syntax.specs.declared.typed.head.Head.{Head}
 use Rattle.sl_syntax.specs.Typed.{Operands, element, Declaration, unset_scalar, set_scalar, set_iterator, binds_reference, makes, First, no_first}
 use Rattle.sl_syntax.specs.Typed.{declares_first, does_first}
+use Rattle.sl_typing.specs.declared.expr_type.ExprType.{ExprType}
+use Rattle.sl_typing.specs.declared.expr_type.ExprType.TheVariants as types
+use Rattle.sl_typing.specs.Types.{has_type, only, is_iterator}
 use Rattle.sl_model.specs.Memory.Containers.{Memory}
 use Rattle.sl_model.specs.Runs.State.{State, Pointer}
-use Rattle.sl_model.specs.Typing.WellTypedTypes.{ExprType, element_type, iterator_type, container_type, Scope, has_type, only}
-use Rattle.sl_model.specs.Typing.WellTypedTypes.{is_iterator}
+use Rattle.sl_model.specs.Typing.WellTypedScopes.{Scope}
 use Rattle.sl_model.specs.Typing.WellTypedCalls.{call_type}
 use Rattle.sl_model.specs.Typing.WellTypedExpressions.{only_element, is_arrow, is_variable, type_of, type_of_left, types_of}
 use Rattle.sl_model.specs.Typing.WellTypedStatements.{is_typed_declaration, reference_to, behind, is_typed_first, behind_first}
@@ -20,7 +22,7 @@ use Rattle.sl_model.proofs.StackScopes.{conts_new, iters_new, numbers_with, last
 
 -- the kind of an iterator of a type, and that of a reference for what is none
 abbrev pub kind_in : ExprType → Kind
-kind_in (iterator_type b form) = iterator_of form
+kind_in (types.Iterator b form) = iterator_of form
 kind_in u = a_reference
 
 -- the forms behind a declaration
@@ -86,13 +88,13 @@ before_begun g (does_first e) d s h = h
 
 -- an iterator that comes into scope is of its kind
 new_kind : (ks : List Kind) (u : ExprType) (n : ℕ) → is_iterator u ≡ true → length ks ≡ n → IterFits (ks ++ kind_in u ∷ []) u n
-new_kind ks (iterator_type b form) n t e = last_there ks (iterator_of form) n e
+new_kind ks (types.Iterator b form) n t e = last_there ks (iterator_of form) n e
 new_kind ks u n t e = absurd (cc)
 
 -- a reference is
 new_reference : (ks : List Kind) (b : Bool) (u : ExprType) (n : ℕ) → has_type (only b (only_element u)) ≡ true → length ks ≡ n
     → IterFits (ks ++ a_reference ∷ []) (reference_to (only b (only_element u))) n
-new_reference ks true (element_type w) n t e = last_there ks a_reference n e
+new_reference ks true (types.Element w) n t e = last_there ks a_reference n e
 new_reference ks false u n t e = absurd (cc)
 new_reference ks true u n t e = absurd (cc)
 
@@ -144,7 +146,7 @@ scope_declared L g fs ks (makes form hd ops) t q = record {
   scalars = q.scalars;
   conts_high = one_higher fs form L.conts q.conts_high;
   iters_high = q.iters_high;
-  containers = conts_new fs g.containers L.frame.conts form (container_type a.Whole form) L.conts (last_there fs form L.conts q.conts_high)
+  containers = conts_new fs g.containers L.frame.conts form (types.Container a.Whole form) L.conts (last_there fs form L.conts q.conts_high)
       q.containers;
   iterators = q.iterators;
 }

@@ -10,6 +10,9 @@ use Rattle.sl_base.specs.declared.form.Form.{Form}
 use Rattle.sl_base.specs.declared.scalar.Scalar.{Scalar}
 use Rattle.sl_specs.specs.Forms.{same_form}
 use Rattle.sl_syntax.specs.declared.operator.Arithmetic.{Arithmetic}
+use Rattle.sl_typing.specs.declared.expr_type.ExprType.{ExprType}
+use Rattle.sl_typing.specs.declared.expr_type.ExprType.TheVariants as types
+use Rattle.sl_typing.specs.Types.{has_type, is_scalar, is_number, is_written, is_iterator, same_iterators, same_answer}
 use Rattle.sl_model.specs.Numbers.{is_zero, converted, operated}
 use Rattle.sl_syntax.specs.declared.typed.callee.Callee.{Callee}
 use Rattle.sl_syntax.specs.declared.typed.callee.Callee.TheVariants as callees
@@ -28,9 +31,7 @@ use Rattle.sl_model.specs.Runs.Exec.{Next, Meaning, flow_of, on_number, on_stamp
 use Rattle.sl_model.specs.Runs.Exec.{declared, begun, ended}
 use Rattle.sl_model.specs.Typing.Shapes.{Shape, a_number, an_element, Gift, a_value, Signature, gift_of, gifts_of}
 use Rattle.sl_model.specs.Typing.Scoped.{InExpr, InLeft, InCond, InPrinted, InPrint, InEffect, InDeclaration, InFirst, InLast}
-use Rattle.sl_model.specs.Typing.WellTypedTypes.{ExprType, empty_type, iterator_type, Scope, variable_type, has_type, is_scalar, is_number, is_written}
-use Rattle.sl_model.specs.Typing.WellTypedTypes.{works_in}
-use Rattle.sl_model.specs.Typing.WellTypedTypes.{is_iterator, same_iterators, same_answer}
+use Rattle.sl_model.specs.Typing.WellTypedScopes.{Scope, variable_type, works_in}
 use Rattle.sl_model.specs.Typing.WellTypedExpressions.{type_of, type_of_left, types_of}
 use Rattle.sl_model.specs.Typing.WellTypedStatements.{may_stand_alone, assigns_others, is_written_left, takes, is_typed_cond, is_typed_item, is_typed_effect}
 use Rattle.sl_model.specs.Typing.WellTypedStatements.{is_typed_last, is_making, is_typed_declaration, is_typed_first}
@@ -61,7 +62,7 @@ set_kind d m held l x a_reference there fits h = absurd fits
 
 -- where the first is, one of the second's kind is
 same_kind : (ks : List Kind) (u v : ExprType) (l : ℕ) → same_iterators u v ≡ true → IterFits ks u l → slice_get ks l ≡ Some (kind_in v)
-same_kind ks (iterator_type b x) (iterator_type c y) l h k =
+same_kind ks (types.Iterator b x) (types.Iterator c y) l h k =
     let e : x ≡ y = one_form x y (second_of_both (same_answer b c) (same_form x y) h) in k ∙ ap (λ z. Some (iterator_of z)) e
 same_kind ks u v l h k = absurd (cc)
 
@@ -83,11 +84,11 @@ module _ (due : Option ParameterKind) (d : Stack) where
   -- what follows an iterator of a type
   pub fit_stamp : (L : Level) (e : Stack) (u : ExprType) (go : ℕ → Meaning) (v : Value) (s : State) → is_iterator u ≡ true → Fits s.memory u v
       → ((x : ℕ) → Holds s.memory (kind_in u) (Some (iterator_at x)) → FlowFits due d e (go x s)) → FlowFits due d e (on_stamp go v s)
-  fit_stamp L e (iterator_type b form) go v s t h k = fit_on_stamp due L d e form go v s h k
+  fit_stamp L e (types.Iterator b form) go v s t h k = fit_on_stamp due L d e form go v s h k
   fit_stamp L e u go v s t h k = absurd (cc)
 
 module _ (w : World) (sig : Signature) (lib_keeps : KeepsGood sig.shape sig.makes w.lib) (own_keeps : OwnKeepsGood sig w)
-    (types : FitsTypes w.lib) (own_fits : OwnFits sig w) (due : Option ParameterKind) (shape : Shape) (L : Level) (g : Scope)
+    (lib_fits : FitsTypes w.lib) (own_fits : OwnFits sig w) (due : Option ParameterKind) (shape : Shape) (L : Level) (g : Scope)
     (known : sig.functions ≡ g.functions) (d : Stack) (q : ScopeFits L g d.conts d.iters) where
   -- what follows an expression
   pub fit_of_value : (e : Stack) (a : Expr) (go : Value → Meaning) (s : State) → InExpr sig (counts_of L.frame) a
@@ -95,7 +96,7 @@ module _ (w : World) (sig : Signature) (lib_keeps : KeepsGood sig.shape sig.make
       → ((v : Value) (s : State) → Gave L d.used (gift_of sig a) v s → Fits s.memory (type_of g a) v → StacksFit d s → FlowFits due d e (go v s))
       → Now L d.used s → StacksFit d s → FlowFits due d e (flow_of (eval w a s) go)
   fit_of_value e a go s i t k h f = fit_value due L d e (gift_of sig a) (Of (type_of g a)) (eval w a s) go
-      (at_eval w sig lib_keeps own_keeps L a d.used s i h) (fit_eval w sig lib_keeps own_keeps types own_fits L g known a d s q i t h f) k
+      (at_eval w sig lib_keeps own_keeps L a d.used s i h) (fit_eval w sig lib_keeps own_keeps lib_fits own_fits L g known a d s q i t h f) k
 
   -- what follows an expression that gives a number
   fit_of_number : (e : Stack) (a : Expr) (go : ℤ → Meaning) (s : State) → InExpr sig (counts_of L.frame) a → has_type (type_of g a) ≡ true
@@ -141,7 +142,7 @@ module _ (w : World) (sig : Signature) (lib_keeps : KeepsGood sig.shape sig.make
       → ((v : Value) (s : State) → Gave L d.used (gift_of_left l) v s → IsPlace v → StacksFit d s → FlowFits due d d (go v s))
       → Now L d.used s → StacksFit d s → FlowFits due d d (flow_of (reach w l s) go)
   fit_of_left l go s i t k h f = fit_value due L d d (gift_of_left l) APlace (reach w l s) go
-      (at_reach w sig lib_keeps own_keeps L l d.used s i h) (fit_reach w sig lib_keeps own_keeps types own_fits L g known l d s q i t h f) k
+      (at_reach w sig lib_keeps own_keeps L l d.used s i h) (fit_reach w sig lib_keeps own_keeps lib_fits own_fits L g known l d s q i t h f) k
 
   -- the end of an assignment with an operator
   fit_finish : (op : Arithmetic) (ty left_ty : Scalar) (at : Place) (l : Left) (y : ℤ) (v : Value) (s : State)
@@ -193,11 +194,12 @@ module _ (w : World) (sig : Signature) (lib_keeps : KeepsGood sig.shape sig.make
       fit_of_stamp d a (λ stamp s. Next (set_iterator_at (iter_of s it) stamp s)) s i.1.1 (typed_by is_iterator refl (type_of g a) stands) stands
       (λ x s holds j f. set_kind d s.memory s.iters (iter_of s it) x (kind_in (type_of g a))
       (same_kind d.iters (variable_type g.iterators it) (type_of g a) (iter_of s it) t
-      (kind_of w sig lib_keeps own_keeps types own_fits L g known d it s q i.0 j)) holds f) h f
+      (kind_of w sig lib_keeps own_keeps lib_fits own_fits L g known d it s q i.0 j)) holds f) h f
 
   -- the container that a call made
-  fit_made : (form : Form) (hd : Head) (vs : List Value) (n : ℕ) (o : LibOut) (s : State) → Now L d.used s → IsMeant (form ∷ []) s.memory empty_type o
-      → StacksFit d s → FlowFits due d (one_cont form d) (flow_of (settle_call hd vs o s) (λ v t. Next (new_container n t)))
+  fit_made : (form : Form) (hd : Head) (vs : List Value) (n : ℕ) (o : LibOut) (s : State) → Now L d.used s
+      → IsMeant (form ∷ []) s.memory types.Nothing o → StacksFit d s
+      → FlowFits due d (one_cont form d) (flow_of (settle_call hd vs o s) (λ v t. Next (new_container n t)))
   fit_made form hd vs n (trapped kind a) s h i f = tt
   fit_made form hd vs n thrown s h i f = tt
   fit_made form hd vs n (faulted x) s h i f = tt
@@ -209,7 +211,8 @@ module _ (w : World) (sig : Signature) (lib_keeps : KeepsGood sig.shape sig.make
       → OutsAt L d.used gifts o → OutsFit d us o
       → FlowFits due d (one_cont form d) (flow_of (then_call o (use_library w.lib hd)) (λ v t. Next (new_container n t)))
   fit_make gifts us form hd n (AllGive vs s) t h i = fit_made form hd vs n _ s h.now
-      (types.makes form hd.callee hd.object us (record { site = site_of hd; object = option_map (cont_of s) hd.object; values = vs }) s.memory s.picks
+      (lib_fits.makes form hd.callee hd.object us (record { site = site_of hd; object = option_map (cont_of s) hd.object; values = vs })
+      s.memory s.picks
       t
       (ap (option_map (cont_of s)) (making_object form hd.callee hd.object us t))
       (record { sound = h.now.good.sound; used = h.used; fit = i.0 })) i.1
@@ -228,13 +231,13 @@ module _ (w : World) (sig : Signature) (lib_keeps : KeepsGood sig.shape sig.make
   fit_declared (binds_reference hd ops) s i t h f = fit_value due L d (one_iter a_reference d) (a_value an_element) IsElement
       (then_call (eval_all w ops s) (use_library w.lib hd)) (binds_to hd.place)
       (at_reach w sig lib_keeps own_keeps L (element hd ops) d.used s i h)
-      (fit_place w sig lib_keeps own_keeps types own_fits L g known hd ops d s q i.1 t h f)
+      (fit_place w sig lib_keeps own_keeps lib_fits own_fits L g known hd ops d s q i.1 t h f)
       (λ v s j there f. fit_binds due d hd.place v s (iters_here L g d d.used s q j.now) there f)
   fit_declared (makes form hd ops) s i t h f =
       let all = making_known form hd.callee hd.object (types_of g ops) t in
       fit_make (gifts_of sig ops) (types_of g ops) form hd (length s.memory.conts) (eval_all w ops s) t
       (at_all w sig lib_keeps own_keeps L ops d.used s i.1 h)
-      (fit_all w sig lib_keeps own_keeps types own_fits L g known ops d s q i.1 all.0 h f)
+      (fit_all w sig lib_keeps own_keeps lib_fits own_fits L g known ops d s q i.1 all.0 h f)
 
   -- the first part of a `for`
   pub fit_begun : (head : First) (s : State) → InFirst sig (counts_of L.frame) head → is_typed_first g head ≡ true → Now L d.used s → StacksFit d s

@@ -8,6 +8,9 @@ use Rattle.sl_base.specs.declared.form.Form.{Form}
 use Rattle.sl_base.specs.declared.scalar.Scalar.{Scalar}
 use Rattle.sl_base.specs.declared.scalar.Scalar.TheVariants as sorts
 use Rattle.sl_syntax.specs.declared.operator.Arithmetic.TheVariants as o
+use Rattle.sl_typing.specs.declared.expr_type.ExprType.{ExprType}
+use Rattle.sl_typing.specs.declared.expr_type.ExprType.TheVariants as types
+use Rattle.sl_typing.specs.Types.{has_type, only, is_scalar, is_number, is_written, is_arithmetic, is_iterator}
 use Rattle.sl_model.specs.Numbers.{is_zero, converted, operated, compared, truth}
 use Rattle.sl_syntax.specs.declared.typed.element.ElementPart.{ElementPart}
 use Rattle.sl_syntax.specs.declared.typed.element.ElementPart.TheVariants as parts
@@ -26,8 +29,7 @@ use Rattle.sl_model.specs.Runs.Eval.{moved_to, chosen, part_used, found_use, use
 use Rattle.sl_model.specs.Runs.Good.{AreApart}
 use Rattle.sl_model.specs.Typing.Shapes.{a_number, Gift, a_value, Signature, gift_of, gifts_of, AllSuit, containers_in}
 use Rattle.sl_model.specs.Typing.Scoped.{InExpr, InLeft, InOperands, HasObject}
-use Rattle.sl_model.specs.Typing.WellTypedTypes.{ExprType, scalar_type, element_type, iterator_type, int_reference, entry_reference, Scope}
-use Rattle.sl_model.specs.Typing.WellTypedTypes.{variable_type, has_type, only, is_scalar, is_number, is_written, is_arithmetic, are_comparable, is_iterator}
+use Rattle.sl_model.specs.Typing.WellTypedScopes.{Scope, variable_type, are_comparable}
 use Rattle.sl_model.specs.Typing.WellTypedCalls.{call_type, is_moving}
 use Rattle.sl_model.specs.Typing.WellTypedExpressions.{is_literal, only_value, only_element, type_of_use, go_to, type_given, function_type, is_arrow}
 use Rattle.sl_model.specs.Typing.WellTypedExpressions.{is_variable, type_of, type_of_left, types_of}
@@ -66,27 +68,27 @@ frame_here L n s h = ap (λ (l : Level). l.frame) h.level
 -- a part of a reference that has a type is of one
 use_kind : (ks : List Kind) (part : ElementPart) (u : ExprType) (l : ℕ) → has_type (type_of_use part u) ≡ true → IterFits ks u l
     → slice_get ks l ≡ Some a_reference
-use_kind ks parts.Whole (int_reference w) l t h = h
-use_kind ks parts.First (entry_reference w) l t h = h
-use_kind ks parts.Second (entry_reference w) l t h = h
+use_kind ks parts.Whole (types.IntReference w) l t h = h
+use_kind ks parts.First (types.EntryReference w) l t h = h
+use_kind ks parts.Second (types.EntryReference w) l t h = h
 use_kind ks part u l t h = absurd (cc)
 
 -- and is an element
 use_number : (part : ElementPart) (u : ExprType) → has_type (type_of_use part u) ≡ true → IsNumberType (type_of_use part u)
-use_number parts.Whole (int_reference w) t = tt
-use_number parts.First (entry_reference w) t = tt
-use_number parts.Second (entry_reference w) t = tt
+use_number parts.Whole (types.IntReference w) t = tt
+use_number parts.First (types.EntryReference w) t = tt
+use_number parts.Second (types.EntryReference w) t = tt
 use_number part u t = absurd (cc)
 
 -- an element is a number
 element_number : (b : Bool) (u : ExprType) → has_type (only b (only_element u)) ≡ true → IsNumberType (only b (only_element u))
-element_number true (element_type w) t = tt
+element_number true (types.Element w) t = tt
 element_number false u t = absurd (cc)
 element_number true u t = absurd (cc)
 
 -- what a call gives, where an element is asked for
 given_element : (b : Bool) (u : ExprType) (m : Memory) (v : Value) → has_type (only b (only_element u)) ≡ true → IsGiven m u v → IsElement m v
-given_element true (element_type w) m v t h = h
+given_element true (types.Element w) m v t h = h
 given_element false u m v t h = absurd (cc)
 given_element true u m v t h = absurd (cc)
 
@@ -96,7 +98,7 @@ element_place m (element_at j k part) h = tt
 element_place m v h = absurd h
 
 -- what a moved variable gives is of the type of the call
-moved_as : (form : Form) (b : Bool) (u : ExprType) (m : Memory) (v : Value) → IsMoveType (iterator_type b form) u → IsIteratorOf m form v
+moved_as : (form : Form) (b : Bool) (u : ExprType) (m : Memory) (v : Value) → IsMoveType (types.Iterator b form) u → IsIteratorOf m form v
     → Fits m u v
 moved_as form b u m v (inl e) h = subst (λ (x : ExprType). Fits m x v) (sym e) h
 moved_as form b u m v (inr e) h = subst (λ (x : ExprType). Fits m x v) (sym e) tt
@@ -115,7 +117,7 @@ fit_used d at name part (reference_to refer bound) s h f =
 fit_used d at name part (iterator_at stamp) s h f = absurd h
 
 module _ (w : World) (sig : Signature) (lib_keeps : KeepsGood sig.shape sig.makes w.lib) (own_keeps : OwnKeepsGood sig w)
-    (types : FitsTypes w.lib) (own_fits : OwnFits sig w) (L : Level) (g : Scope) (known : sig.functions ≡ g.functions) where
+    (lib_fits : FitsTypes w.lib) (own_fits : OwnFits sig w) (L : Level) (g : Scope) (known : sig.functions ≡ g.functions) where
   -- what is in scope is where its type says
   abbrev Scoped : Stack → Type 0
   Scoped d = ScopeFits L g d.conts d.iters
@@ -138,7 +140,7 @@ module _ (w : World) (sig : Signature) (lib_keeps : KeepsGood sig.shape sig.make
   -- an iterator in scope
   fit_iterator : (d : Stack) (u : ExprType) (l : ℕ) (s : State) → is_iterator u ≡ true → IterFits d.iters u l → StacksFit d s
       → Fits s.memory u (iterator (stamp_held s l))
-  fit_iterator d (iterator_type b form) l s t k f = iterator-held d s.memory s.iters l form k f
+  fit_iterator d (types.Iterator b form) l s t k f = iterator-held d s.memory s.iters l form k f
   fit_iterator d u l s t k f = absurd (cc)
 
   -- the object of a call
@@ -152,7 +154,7 @@ module _ (w : World) (sig : Signature) (lib_keeps : KeepsGood sig.shape sig.make
       → has_type (call_type g hd.callee hd.object us) ≡ true → HasObject (counts_of L.frame) hd.object → Now L d.used s → AllUsed s.memory.fresh vs
       → AllFit s.memory us vs → StacksFit d s → OutHas (λ m v. IsGiven m (call_type g hd.callee hd.object us) v) d (use_library w.lib hd vs s)
   fit_library d hd us vs s q moves t i h used fits f = fit_settle L d (call_type g hd.callee hd.object us) hd vs _ s h f
-      (types.calls g hd.callee hd.object us (record { site = site_of hd; object = option_map (cont_of s) hd.object; values = vs }) s.memory s.picks
+      (lib_fits.calls g hd.callee hd.object us (record { site = site_of hd; object = option_map (cont_of s) hd.object; values = vs }) s.memory s.picks
       moves t (fit_object d hd.object s q i h f) (record { sound = h.good.sound; used = used; fit = fits }))
 
   -- the left side of an element
@@ -173,21 +175,21 @@ module _ (w : World) (sig : Signature) (lib_keeps : KeepsGood sig.shape sig.make
       → HasObject (counts_of L.frame) hd.object → Now L d.used s → AllUsed s.memory.fresh vs → AllFit s.memory us vs → StacksFit d s
       → OutFits d (call_type g hd.callee hd.object (u ∷ us))
       (then_eval (use_library w.lib hd (iterator (stamp_of s it) ∷ vs) s) (moved_to x (iter_of s it) (stamp_of s it)))
-  fit_move d x it hd (iterator_type b form) us vs s q low makes_none k stands moves t i h used fits f =
-      fit_then L (from_now d s) d (a_value (sig.shape hd.callee)) (λ m v. IsGiven m (iterator_type b form) v)
-      (Of (call_type g hd.callee hd.object (iterator_type b form ∷ us))) (use_library w.lib hd (iterator (stamp_of s it) ∷ vs) s)
+  fit_move d x it hd (types.Iterator b form) us vs s q low makes_none k stands moves t i h used fits f =
+      fit_then L (from_now d s) d (a_value (sig.shape hd.callee)) (λ m v. IsGiven m (types.Iterator b form) v)
+      (Of (call_type g hd.callee hd.object (types.Iterator b form ∷ us))) (use_library w.lib hd (iterator (stamp_of s it) ∷ vs) s)
       (moved_to x (iter_of s it) (stamp_of s it))
       (at_library L s.memory.fresh sig.shape sig.makes w.lib lib_keeps hd (iterator (stamp_of s it) ∷ vs) s makes_none (old_used, used)
       (now_again L d.used s h))
-      (fit_settle L (from_now d s) (iterator_type b form) hd (iterator (stamp_of s it) ∷ vs) _ s (now_again L d.used s h) (now-fits d s f)
-      (types.moves g hd.callee hd.object (iterator_type b form) us
+      (fit_settle L (from_now d s) (types.Iterator b form) hd (iterator (stamp_of s it) ∷ vs) _ s (now_again L d.used s h) (now-fits d s f)
+      (lib_fits.moves g hd.callee hd.object (types.Iterator b form) us
       (record { site = site_of hd; object = option_map (cont_of s) hd.object; values = iterator (stamp_of s it) ∷ vs }) s.memory s.picks moves t
       (fit_object d hd.object s q i h f)
       (record { sound = h.good.sound; used = (old_used, used); fit = (old_fits, fits) })))
-      (λ v r j given later. out_as (λ m y. IsIteratorOf m form y) (Of (call_type g hd.callee hd.object (iterator_type b form ∷ us))) d
+      (λ v r j given later. out_as (λ m y. IsIteratorOf m form y) (Of (call_type g hd.callee hd.object (types.Iterator b form ∷ us))) d
       (moved_to x (iter_of s it) (stamp_of s it) v r)
-      (λ m y. moved_as form b (call_type g hd.callee hd.object (iterator_type b form ∷ us)) m y
-      (move_type g hd.callee hd.object (iterator_type b form) us moves t))
+      (λ m y. moved_as form b (call_type g hd.callee hd.object (types.Iterator b form ∷ us)) m y
+      (move_type g hd.callee hd.object (types.Iterator b form) us moves t))
       (fit_moved L d x (iter_of s it) (stamp_of s it) form v r k (later.fit form (stamp_of s it) old_used old_fits) given
       (then-fits d s r h.later f later)))
     where
@@ -195,7 +197,7 @@ module _ (w : World) (sig : Signature) (lib_keeps : KeepsGood sig.shape sig.make
       old_used = stamp_used L d.used s it low h
 
       old_fits : IsIteratorOf s.memory form (iterator (stamp_of s it))
-      old_fits = fit_iterator d (iterator_type b form) (iter_of s it) s refl k f
+      old_fits = fit_iterator d (types.Iterator b form) (iter_of s it) s refl k f
   fit_move d x it hd u us vs s q low makes_none k stands moves t i h used fits f = absurd (cc)
 
   -- a call of a function of the text
@@ -238,32 +240,32 @@ module _ (w : World) (sig : Signature) (lib_keeps : KeepsGood sig.shape sig.make
     -- each expression
     pub fit_eval : (e : Expr) (d : Stack) (s : State) → Scoped d → InExpr sig (counts_of L.frame) e → has_type (type_of g e) ≡ true
         → Now L d.used s → StacksFit d s → OutFits d (type_of g e) (eval w e s)
-    fit_eval (literal ty z) d s q i t h f = numbered_only (is_literal ty z) (scalar_type ty) d (eval w (literal ty z) s) t tt (tt, f)
+    fit_eval (literal ty z) d s q i t h f = numbered_only (is_literal ty z) (types.Scalar ty) d (eval w (literal ty z) s) t tt (tt, f)
     fit_eval (held l) d s q i t h f = numbered (type_of_left g l) d (eval w (held l) s) (left_number l d q t)
         (fit_then L d d (gift_of_left l) APlace ANumber (reach w l s) _ (at_reach w sig lib_keeps own_keeps L l d.used s i h)
         (fit_reach l d s q i t h f) (λ v s j p k. fit_read L d (name_place l) v s p k))
     fit_eval (iterator_held x) d s q i t h f =
         let u = variable_type g.iterators x in let stands = only_holds (is_iterator u) u t in
         (fits_only (is_iterator u) u s.memory (iterator (stamp_of s x)) t (fit_iterator d u (iter_of s x) s stands (kind_of d x s q i h) f), f)
-    fit_eval (convert ty a) d s q i t h f = numbered_only (is_number (type_of g a)) (scalar_type ty) d (eval w (convert ty a) s) t tt
+    fit_eval (convert ty a) d s q i t h f = numbered_only (is_number (type_of g a)) (types.Scalar ty) d (eval w (convert ty a) s) t tt
         (behind d a ANumber (λ z s. Gives (number (converted ty z)) s) s i h
         (fit_eval a d s q i (typed_by is_number refl (type_of g a) (converted_number g ty a t)) h f) (λ z s j k. (tt, k)))
-    fit_eval (negate ty at a) d s q i t h f = numbered_only (is_arithmetic ty && is_scalar ty (type_of g a)) (scalar_type ty) d
+    fit_eval (negate ty at a) d s q i t h f = numbered_only (is_arithmetic ty && is_scalar ty (type_of g a)) (types.Scalar ty) d
         (eval w (negate ty at a) s) t tt
         (behind d a ANumber (λ z s. answered at (operated o.Subtract ty (pos 0) z) s) s i h
         (fit_eval a d s q i (typed_by (is_scalar ty) refl (type_of g a) (negated_number g ty at a t).1) h f)
         (λ z s j k. fit_answer L d at (operated o.Subtract ty (pos 0) z) s k))
-    fit_eval (logical_not at a) d s q i t h f = numbered_only (is_number (type_of g a)) (scalar_type sorts.Bool) d (eval w (logical_not at a) s) t tt
+    fit_eval (logical_not at a) d s q i t h f = numbered_only (is_number (type_of g a)) (types.Scalar sorts.Bool) d (eval w (logical_not at a) s) t tt
         (behind d a ANumber (λ z s. Gives (number (truth (is_zero z))) s) s i h
         (fit_eval a d s q i (typed_by is_number refl (type_of g a) (inverted_number g at a t)) h f) (λ z s j k. (tt, k)))
-    fit_eval (logical_and at a b) d s q i t h f = numbered_only (is_number (type_of g a) && is_number (type_of g b)) (scalar_type sorts.Bool) d
+    fit_eval (logical_and at a b) d s q i t h f = numbered_only (is_number (type_of g a) && is_number (type_of g b)) (types.Scalar sorts.Bool) d
         (eval w (logical_and at a b) s) t tt
         (behind d a ANumber (λ z s. branch (is_zero z) (Gives (number (pos 0))) (λ s. then_number (eval w b s) whether) s) s i.0 h
         (fit_eval a d s q i.0 (typed_by is_number refl (type_of g a) (numbers_of_and g at a b t).0) h f)
         (λ z s j k. fit_branch L d ANumber (is_zero z) (Gives (number (pos 0))) (λ s. then_number (eval w b s) whether) s (tt, k)
         (behind d b ANumber whether s i.1 j
         (fit_eval b d s q i.1 (typed_by is_number refl (type_of g b) (numbers_of_and g at a b t).1) j k) (λ z s j k. (tt, k)))))
-    fit_eval (logical_or at a b) d s q i t h f = numbered_only (is_number (type_of g a) && is_number (type_of g b)) (scalar_type sorts.Bool) d
+    fit_eval (logical_or at a b) d s q i t h f = numbered_only (is_number (type_of g a) && is_number (type_of g b)) (types.Scalar sorts.Bool) d
         (eval w (logical_or at a b) s) t tt
         (behind d a ANumber (λ z s. branch (is_zero z) (λ s. then_number (eval w b s) whether) (Gives (number (pos 1))) s) s i.0 h
         (fit_eval a d s q i.0 (typed_by is_number refl (type_of g a) (numbers_of_or g at a b t).0) h f)
@@ -271,14 +273,14 @@ module _ (w : World) (sig : Signature) (lib_keeps : KeepsGood sig.shape sig.make
         (behind d b ANumber whether s i.1 j
         (fit_eval b d s q i.1 (typed_by is_number refl (type_of g b) (numbers_of_or g at a b t).1) j k) (λ z s j k. (tt, k))) (tt, k)))
     fit_eval (arithmetic op ty at a b) d s q i t h f =
-        numbered_only (is_arithmetic ty && is_scalar ty (type_of g a) && is_scalar ty (type_of g b)) (scalar_type ty) d
+        numbered_only (is_arithmetic ty && is_scalar ty (type_of g a) && is_scalar ty (type_of g b)) (types.Scalar ty) d
         (eval w (arithmetic op ty at a b) s) t tt
         (behind d a ANumber (λ x s. then_number (eval w b s) (λ y s. answered at (operated op ty x y) s)) s i.0 h
         (fit_eval a d s q i.0 (typed_by (is_scalar ty) refl (type_of g a) (calculated_numbers g op ty at a b t).1) h f)
         (λ x s j k. behind d b ANumber (λ y s. answered at (operated op ty x y) s) s i.1 j
         (fit_eval b d s q i.1 (typed_by (is_scalar ty) refl (type_of g b) (calculated_numbers g op ty at a b t).2) j k)
         (λ y s j k. fit_answer L d at (operated op ty x y) s k)))
-    fit_eval (comparison c at a b) d s q i t h f = numbered_only (are_comparable (type_of g a) (type_of g b)) (scalar_type sorts.Bool) d
+    fit_eval (comparison c at a b) d s q i t h f = numbered_only (are_comparable (type_of g a) (type_of g b)) (types.Scalar sorts.Bool) d
         (eval w (comparison c at a b) s) t tt
         (behind d a ANumber (λ x s. then_number (eval w b s) (λ y s. Gives (number (truth (compared c x y))) s)) s i.0 h
         (fit_eval a d s q i.0 (comparable_first (type_of g a) (type_of g b) (compared_numbers g c at a b t)) h f)
@@ -286,7 +288,7 @@ module _ (w : World) (sig : Signature) (lib_keeps : KeepsGood sig.shape sig.make
         (fit_eval b d s q i.1 (comparable_second (type_of g a) (type_of g b) (compared_numbers g c at a b t)) j k) (λ y s j k. (tt, k))))
     fit_eval (increment step x ty at l) d s q i t h f =
         let typed = typed_by (is_scalar ty) refl (type_of_left g l) (stepped_number g step x ty at l t).1 in
-        numbered_only (is_arithmetic ty && is_scalar ty (type_of_left g l) && is_written (type_of_left g l)) (scalar_type ty) d
+        numbered_only (is_arithmetic ty && is_scalar ty (type_of_left g l) && is_written (type_of_left g l)) (types.Scalar ty) d
         (eval w (increment step x ty at l) s) t tt
         (fit_then L d d (gift_of_left l) APlace ANumber (reach w l s)
         (λ at_l s. then_number (read_at (name_place l) at_l s) (increased step x ty at at_l)) (at_reach w sig lib_keeps own_keeps L l d.used s i h)
@@ -296,7 +298,7 @@ module _ (w : World) (sig : Signature) (lib_keeps : KeepsGood sig.shape sig.make
     fit_eval (move x it hd ops) d s q i t h f =
         let u = variable_type g.iterators it in let parts = moving_call g x it hd ops t in
         let all = call_known g hd.callee hd.object (u ∷ types_of g ops) parts.1 in
-        let stands = types.moving g hd.callee hd.object u (types_of g ops) parts.0 parts.1 in
+        let stands = lib_fits.moving g hd.callee hd.object u (types_of g ops) parts.0 parts.1 in
         out_as (Of (call_type g hd.callee hd.object (u ∷ types_of g ops))) (Of (type_of g (move x it hd ops))) d (eval w (move x it hd ops) s)
         (λ m v. fits_only (is_moving hd.callee) (call_type g hd.callee hd.object (u ∷ types_of g ops)) m v t)
         (fit_call L d (gifts_of sig ops) (types_of g ops) (Of (call_type g hd.callee hd.object (u ∷ types_of g ops))) (eval_all w ops s)

@@ -11,6 +11,9 @@ use Rattle.sl_syntax.specs.declared.typed.parameter.ParameterKind.{ParameterKind
 use Rattle.sl_syntax.specs.declared.typed.parameter.ParameterKind.TheVariants as parameters
 use Rattle.sl_syntax.specs.Typed.{Expr, Stmt, block, declares, choice, choice_else, while, for, range_for, break, continue, gives_back, does, Stmts}
 use Rattle.sl_syntax.specs.Typed.{no_more, followed}
+use Rattle.sl_typing.specs.declared.expr_type.ExprType.{ExprType}
+use Rattle.sl_typing.specs.declared.expr_type.ExprType.TheVariants as types
+use Rattle.sl_typing.specs.Types.{has_type, is_scalar, goes_into}
 use Rattle.sl_model.specs.Memory.Containers.{Memory}
 use Rattle.sl_model.specs.LibraryCalls.Values.{Value, nothing}
 use Rattle.sl_model.specs.Runs.State.{Frame, State, cont_of, new_scalar}
@@ -19,8 +22,7 @@ use Rattle.sl_model.specs.Runs.Exec.{Next, Broke, Continued, Returned, and_then,
 use Rattle.sl_model.specs.Runs.Exec.{begun, ended, loop, takes_number, takes_element, over_range, range_start, exec, exec_all}
 use Rattle.sl_model.specs.Typing.Shapes.{Shape, Signature}
 use Rattle.sl_model.specs.Typing.Scoped.{Counts, InCond, InLast, IsPart, InStmt, InStmts, AsksWell}
-use Rattle.sl_model.specs.Typing.WellTypedTypes.{ExprType, scalar_type, element_type, iterator_type, container_type, Scope, is_within, variable_type}
-use Rattle.sl_model.specs.Typing.WellTypedTypes.{has_type, is_scalar, goes_into}
+use Rattle.sl_model.specs.Typing.WellTypedScopes.{Scope, is_within, variable_type}
 use Rattle.sl_model.specs.Typing.WellTypedExpressions.{goes_to, type_given, type_of}
 use Rattle.sl_model.specs.Typing.WellTypedStatements.{is_typed_cond, is_typed_last, is_typed_declaration, behind, is_typed_first, behind_first}
 use Rattle.sl_model.specs.Typing.WellTypedStatements.{may_go_over, in_range, is_typed_return, is_typed_stmt, are_typed_stmts}
@@ -47,13 +49,13 @@ use Rattle.sl_model.proofs.FitRange.{fit_takes_number, fit_takes_element, fit_ov
 
 -- a number that is given back is one
 pub given_number : (s : Scalar) (u : ExprType) (m : Memory) (v : Value) → is_scalar s u ≡ true → Fits m u v → IsNumber v
-given_number s (scalar_type r) m v t h = h
-given_number s (element_type w) m v t h = h
+given_number s (types.Scalar r) m v t h = h
+given_number s (types.Element w) m v t h = h
 given_number s u m v t h = absurd (cc)
 
 -- an iterator that goes where one of a form is asked for is of the form
 pub given_iterator : (b : Bool) (x : Form) (u : ExprType) (m : Memory) (v : Value) → goes_into b x u ≡ true → Fits m u v → IsIteratorOf m x v
-given_iterator b x (iterator_type c y) m v t h =
+given_iterator b x (types.Iterator c y) m v t h =
     subst (λ (z : Form). IsIteratorOf m z v) (sym (one_form x y (first_of_both (same_form x y) _ t))) h
 given_iterator b x u m v t h = absurd (cc)
 
@@ -85,11 +87,11 @@ returned_fits g (Some k) a m v given t h = goes_fits k (type_of g a) m v given t
 form_there : (fs : List Form) (m : Memory) (u : ExprType) (l : ℕ)
     → ((l : ℕ) (form : Form) → slice_get fs l ≡ Some form → slice_get (forms_of m) l ≡ Some form) → ContFits fs u l
     → slice_get (forms_of m) l ≡ Some (form_in u)
-form_there fs m (container_type access form) l keep h = keep l form h
+form_there fs m (types.Container access form) l keep h = keep l form h
 form_there fs m u l keep h = absurd h
 
 module _ (w : World) (sig : Signature) (lib_keeps : KeepsGood sig.shape sig.makes w.lib) (own_keeps : OwnKeepsGood sig w)
-    (types : FitsTypes w.lib) (own_fits : OwnFits sig w) (due : Option ParameterKind) (shape : Shape)
+    (lib_fits : FitsTypes w.lib) (own_fits : OwnFits sig w) (due : Option ParameterKind) (shape : Shape)
     (given : has_type (type_given due) ≡ true) where
   -- a part of a statement stays at its level
   good_part : (a : Stmt) (L : Level) (n : ℕ) → IsPart a → InStmt sig shape (counts_of L.frame) a → (s : State) → Now L n s
@@ -123,7 +125,8 @@ module _ (w : World) (sig : Signature) (lib_keeps : KeepsGood sig.shape sig.make
       (new_scalar t.Int None (range_start (cont_of s x) s))) (conts_here L g d d.used s q h) (iters_here L g d d.used s q h)
       (flow_as due e e d d (over_range w at name (length s.iters) (length s.iters + 1) (takes_number at (length s.scalars) (exec w a))
       (new_scalar t.Int None (range_start (cont_of s x) s))) (before_hidden form d) (before_hidden form d)
-      (fit_over w sig lib_keeps types due shape M e at name (length s.iters) (length s.iters + 1) form (takes_number at (length s.scalars) (exec w a))
+      (fit_over w sig lib_keeps lib_fits due shape M e at name (length s.iters) (length s.iters + 1) form
+      (takes_number at (length s.scalars) (exec w a))
       (first_hidden w sig lib_keeps own_keeps shape d.used L s h) (second_hidden w sig lib_keeps own_keeps shape d.used L s h) well
       (first_known d.iters form (length s.iters) (iters_here L g d d.used s q h)) (second_known d.iters form (length s.iters)
       (iters_here L g d d.used s q h))
@@ -145,7 +148,7 @@ module _ (w : World) (sig : Signature) (lib_keeps : KeepsGood sig.shape sig.make
       (range_start (cont_of s x) s)) (conts_here L g d d.used s q h) (iters_here L g d d.used s q h)
       (flow_as due e e d d (over_range w at name (length s.iters) (length s.iters + 1) (takes_element at (exec w a))
       (range_start (cont_of s x) s)) (before_hidden form d) (before_hidden form d)
-      (fit_over w sig lib_keeps types due shape M e at name (length s.iters) (length s.iters + 1) form (takes_element at (exec w a))
+      (fit_over w sig lib_keeps lib_fits due shape M e at name (length s.iters) (length s.iters + 1) form (takes_element at (exec w a))
       (first_hidden w sig lib_keeps own_keeps shape d.used L s h) (second_hidden w sig lib_keeps own_keeps shape d.used L s h) well
       (first_known d.iters form (length s.iters) (iters_here L g d d.used s q h)) (second_known d.iters form (length s.iters)
       (iters_here L g d d.used s q h))
@@ -168,12 +171,12 @@ module _ (w : World) (sig : Signature) (lib_keeps : KeepsGood sig.shape sig.make
         let condition = first_of_both (is_typed_cond g k) (is_typed_stmt g due inside a) typed in
         let body = second_of_both (is_typed_cond g k) (is_typed_stmt g due inside a) typed in
         fit_tick due L d d (λ s. tested w k s (λ v. either_way v (exec w a) Next))
-        (fit_tested w sig lib_keeps own_keeps types own_fits due shape L g known d q k i.0 condition (λ v. either_way v (exec w a) Next)
+        (fit_tested w sig lib_keeps own_keeps lib_fits own_fits due shape L g known d q k i.0 condition (λ v. either_way v (exec w a) Next)
         (λ v. fit_either due L d d v (exec w a) Next (λ s j f. fit_exec a inside L g d s known q i.1.1 body j f) (λ s j f. f))) s h f
     fit_exec (choice_else k a b) inside L g d s known q i typed h f =
         let parts = three_parts (is_typed_cond g k) (is_typed_stmt g due inside a) (is_typed_stmt g due inside b) typed in
         fit_tick due L d d (λ s. tested w k s (λ v. either_way v (exec w a) (exec w b)))
-        (fit_tested w sig lib_keeps own_keeps types own_fits due shape L g known d q k i.0 parts.0 (λ v. either_way v (exec w a) (exec w b))
+        (fit_tested w sig lib_keeps own_keeps lib_fits own_fits due shape L g known d q k i.0 parts.0 (λ v. either_way v (exec w a) (exec w b))
         (λ v. fit_either due L d d v (exec w a) (exec w b) (λ s j f. fit_exec a inside L g d s known q i.1.0.1 parts.1 j f)
         (λ s j f. fit_exec b inside L g d s known q i.1.1.1 parts.2 j f))) s h f
     fit_exec (while number k a) inside L g d s known q i typed h f =
@@ -181,7 +184,7 @@ module _ (w : World) (sig : Signature) (lib_keeps : KeepsGood sig.shape sig.make
         let body = second_of_both (is_typed_cond g k) (is_typed_stmt g due true a) typed in
         fit_tick due L d d (loop (tested w k) (exec w a) Next)
         (λ s j f. fit_turns due L d shape (suc s.steps) (tested w k) (exec w a) Next (good_part a L d.used i.1.0 i.1.1) (λ s l. l)
-        (fit_tested w sig lib_keeps own_keeps types own_fits due shape L g known d q k i.0 condition)
+        (fit_tested w sig lib_keeps own_keeps lib_fits own_fits due shape L g known d q k i.0 condition)
         (λ s l f. fit_exec a true L g d s known q i.1.1 body l f) (λ s l f. f) s j f) s h f
     fit_exec (for number head k last a) inside L g d s known q i typed h f =
         let r = behind_first head g in let M = level_begun head L in let e = stack_begun g head d in
@@ -195,13 +198,13 @@ module _ (w : World) (sig : Signature) (lib_keeps : KeepsGood sig.shape sig.make
         (iters_here L g d d.used s q j)
         (fit_after due L d e d shape L (Now M d.used) (Now L d.used) (begun w head s) (loop (tested w k) (exec w a) (ended w last))
         (at_begun w sig lib_keeps own_keeps shape L d.used head s i.0 j)
-        (fit_begun w sig lib_keeps own_keeps types own_fits due shape L g known d q head s i.0 parts.0 j f)
+        (fit_begun w sig lib_keeps own_keeps lib_fits own_fits due shape L g known d q head s i.0 parts.0 j f)
         (λ s l f. flow_as due e e d d (loop (tested w k) (exec w a) (ended w last) s) (before_begun g head d) (before_begun g head d)
         (fit_turns due M e shape (suc s.steps) (tested w k) (exec w a) (ended w last) (good_part a M d.used i.1.1.1.0 in_body)
         (λ s l. at_ended w sig lib_keeps own_keeps shape M d.used last s in_last l)
-        (fit_tested w sig lib_keeps own_keeps types own_fits due shape M r functions e there k in_cond parts.2)
+        (fit_tested w sig lib_keeps own_keeps lib_fits own_fits due shape M r functions e there k in_cond parts.2)
         (λ s l f. fit_exec a true M r e s functions there in_body parts.4 l f)
-        (λ s l f. fit_ended w sig lib_keeps own_keeps types own_fits due shape M r functions e there last s in_last parts.3 l f) s l f)))) s h f
+        (λ s l f. fit_ended w sig lib_keeps own_keeps lib_fits own_fits due shape M r functions e there last s in_last parts.3 l f) s l f)))) s h f
     fit_exec (range_for number taken.Value x at name a) inside L g d s known q i typed h f =
         let u = variable_type g.containers x in let r = in_range taken.Value u g in let M = level_range taken.Value L in
         let parts = three_parts (may_go_over taken.Value u) (is_within r) (is_typed_stmt r due true a) typed in
@@ -229,10 +232,10 @@ module _ (w : World) (sig : Signature) (lib_keeps : KeepsGood sig.shape sig.make
     fit_exec (gives_back None) inside L g d s known q i typed h f =
         fit_tick due L d d (Returned nothing) (λ s j f. (nothing_fits g due s.memory typed, f)) s h f
     fit_exec (gives_back (Some a)) inside L g d s known q i typed h f = fit_tick due L d d (λ s. flow_of (eval w a s) Returned)
-        (λ s j f. fit_of_value w sig lib_keeps own_keeps types own_fits due shape L g known d q d a Returned s i.1 (returned_typed g due a typed)
+        (λ s j f. fit_of_value w sig lib_keeps own_keeps lib_fits own_fits due shape L g known d q d a Returned s i.1 (returned_typed g due a typed)
         (λ v s l fits f. (returned_fits g due a s.memory v given typed fits, f)) j f) s h f
     fit_exec (does e) inside L g d s known q i typed h f = fit_tick due L d d (affect w e)
-        (λ s j f. fit_affect w sig lib_keeps own_keeps types own_fits due shape L g known d q e s i typed j f) s h f
+        (λ s j f. fit_affect w sig lib_keeps own_keeps lib_fits own_fits due shape L g known d q e s i typed j f) s h f
 
     -- statements and declarations in turn
     pub fit_exec_all : (all : Stmts) (inside : Bool) (L : Level) (g : Scope) (d : Stack) (s : State) → sig.functions ≡ g.functions
@@ -245,7 +248,7 @@ module _ (w : World) (sig : Signature) (lib_keeps : KeepsGood sig.shape sig.make
         fit_after due L d e d shape L (Now M d.used) (Now L d.used) (exec w (declares x) s) (exec_all w rest)
         (at_exec w sig lib_keeps own_keeps shape d.used (declares x) L s i.0 h)
         (fit_tick due L d e (declared w x)
-        (λ s j f. fit_declared w sig lib_keeps own_keeps types own_fits due shape L g known d q x s i.0 parts.0 j f) s h f)
+        (λ s j f. fit_declared w sig lib_keeps own_keeps lib_fits own_fits due shape L g known d q x s i.0 parts.0 j f) s h f)
         (λ s j f. flow_as due e e d d (exec_all w rest s) (before_declared g x d) (before_declared g x d)
         (fit_exec_all rest inside M r e s (known ∙ sym (functions_behind x g)) (scope_declared L g d.conts d.iters x parts.0 q)
         (subst (λ (c : Counts). InStmts sig shape c rest) (sym (counts_declared x L)) i.1) parts.2 j f))

@@ -11,17 +11,20 @@ use Rattle.sl_syntax.specs.declared.typed.callee.Callee.{Callee}
 use Rattle.sl_syntax.specs.declared.typed.callee.Callee.TheVariants as callees
 use Rattle.sl_syntax.specs.declared.typed.operator.Operator.{Operator}
 use Rattle.sl_syntax.specs.declared.typed.operator.Operator.TheVariants as operators
+use Rattle.sl_typing.specs.declared.expr_type.ExprType.{ExprType}
+use Rattle.sl_typing.specs.declared.expr_type.ExprType.TheVariants as types
+use Rattle.sl_typing.specs.Types.{has_type, only, is_const}
+use Rattle.sl_typing.specs.Signatures.{result_type, row_at}
 use Rattle.sl_model.specs.Typing.WellTypedExpressions.{only_element}
 use Rattle.sl_model.proofs.TypedOperands.{typed_by}
-use Rattle.sl_model.specs.Typing.WellTypedTypes.{ExprType, no_type, empty_type, iterator_type, container_type, Scope, has_type, only, variable_type}
-use Rattle.sl_model.specs.Typing.WellTypedTypes.{is_const}
-use Rattle.sl_model.specs.Typing.WellTypedCalls.{call_type, row_type, member_type, result_type, operator_type, row_at, is_advance, is_moving}
-use Rattle.sl_model.specs.Typing.WellTypedCalls.{is_moving_operator, is_moving_row}
+use Rattle.sl_model.specs.Typing.WellTypedScopes.{Scope, variable_type}
+use Rattle.sl_model.specs.Typing.WellTypedCalls.{call_type, row_type, member_type, operator_type, is_advance, is_moving, is_moving_operator}
+use Rattle.sl_model.specs.Typing.WellTypedCalls.{is_moving_row}
 use Rattle.sl_model.proofs.Passing.{passes_at}
 
 -- a type is the one, or that of nothing
 abbrev pub IsMoveType : ExprType → ExprType → Type 0
-IsMoveType u v = (v ≡ u) ⊎ (v ≡ empty_type)
+IsMoveType u v = (v ≡ u) ⊎ (v ≡ types.Nothing)
 
 -- a type behind a condition that holds is the type
 pub only_is : (b : Bool) (u : ExprType) → has_type (only b u) ≡ true → only b u ≡ u
@@ -59,30 +62,30 @@ row_silent n row there moves = nothing_is row.gives
 
 -- the type of a call of such a row on an object
 member_empty : (row : Row) (u : ExprType) (us : List ExprType) → row.gives ≡ r.Nothing → has_type (member_type row u us) ≡ true
-    → member_type row u us ≡ empty_type
-member_empty row (container_type access x) us e h =
+    → member_type row u us ≡ types.Nothing
+member_empty row (types.Container access x) us e h =
     only_is _ (result_type row.gives (is_const access) x us) h ∙ ap (λ y. result_type y (is_const access) x us) e
 member_empty row u us e h = absurd (cc)
 
 -- of a row, if it is there
 row_empty : (g : Scope) (row : Row) (object : Option ℕ) (us : List ExprType) → row.gives ≡ r.Nothing
-    → has_type (row_type g (Some row) object us) ≡ true → row_type g (Some row) object us ≡ empty_type
+    → has_type (row_type g (Some row) object us) ≡ true → row_type g (Some row) object us ≡ types.Nothing
 row_empty g row None us e h = only_is _ (result_type row.gives false f.Vector us) h ∙ ap (λ y. result_type y false f.Vector us) e
 row_empty g row (Some x) us e h = member_empty row (variable_type g.containers x) us e h
 
 -- of a row with a number
 numbered_empty : (g : Scope) (n : ℕ) (found : Option Row) (object : Option ℕ) (us : List ExprType) → row_at n ≡ found
-    → is_moving_row found ≡ true → has_type (row_type g found object us) ≡ true → row_type g found object us ≡ empty_type
+    → is_moving_row found ≡ true → has_type (row_type g found object us) ≡ true → row_type g found object us ≡ types.Nothing
 numbered_empty g n None object us there m h = absurd (cc)
 numbered_empty g n (Some row) object us there m h = row_empty g row object us (row_silent n row there m) h
 
 -- the type of an operator that moves a variable
 operator_moves : (o : Operator) (u : ExprType) (us : List ExprType) → is_moving_operator o ≡ true → has_type (operator_type o (u ∷ us)) ≡ true
     → IsMoveType u (operator_type o (u ∷ us))
-operator_moves operators.Increment (iterator_type b x) [] m h = inl refl
-operator_moves operators.Decrement (iterator_type b x) [] m h = inl (only_is _ (iterator_type b x) h)
-operator_moves operators.AddAssign (iterator_type b x) (v ∷ []) m h = inr (only_is _ empty_type h)
-operator_moves operators.SubtractAssign (iterator_type b x) (v ∷ []) m h = inr (only_is _ empty_type h)
+operator_moves operators.Increment (types.Iterator b x) [] m h = inl refl
+operator_moves operators.Decrement (types.Iterator b x) [] m h = inl (only_is _ (types.Iterator b x) h)
+operator_moves operators.AddAssign (types.Iterator b x) (v ∷ []) m h = inr (only_is _ types.Nothing h)
+operator_moves operators.SubtractAssign (types.Iterator b x) (v ∷ []) m h = inr (only_is _ types.Nothing h)
 operator_moves o u us m h = absurd (cc)
 
 -- behind a condition
@@ -99,17 +102,17 @@ move_type g (callees.Operator o) object u us m h =
 move_type g callee object u us m h = absurd (cc)
 
 -- behind a condition there is no element where there is none
-no_element_behind : (b : Bool) (u : ExprType) → only_element u ≡ no_type → has_type (only_element (only b u)) ≡ true → ⊥
-no_element_behind true u e h = let r : has_type no_type ≡ true = subst (λ (x : ExprType). has_type x ≡ true) e h in absurd (cc)
+no_element_behind : (b : Bool) (u : ExprType) → only_element u ≡ types.Wrong → has_type (only_element (only b u)) ≡ true → ⊥
+no_element_behind true u e h = let r : has_type types.Wrong ≡ true = subst (λ (x : ExprType). has_type x ≡ true) e h in absurd (cc)
 no_element_behind false u e h = absurd (cc)
 
 -- an operator that moves a variable gives no element
 operator_gives_none : (o : Operator) (us : List ExprType) → is_moving_operator o ≡ true → (b : Bool)
     → has_type (only_element (only b (operator_type o us))) ≡ true → ⊥
-operator_gives_none operators.Increment (iterator_type c x ∷ []) m b h = no_element_behind b (iterator_type c x) refl h
-operator_gives_none operators.Decrement (iterator_type c x ∷ []) m true h = no_element_behind _ (iterator_type c x) refl h
-operator_gives_none operators.AddAssign (iterator_type c x ∷ v ∷ []) m true h = no_element_behind _ empty_type refl h
-operator_gives_none operators.SubtractAssign (iterator_type c x ∷ v ∷ []) m true h = no_element_behind _ empty_type refl h
+operator_gives_none operators.Increment (types.Iterator c x ∷ []) m b h = no_element_behind b (types.Iterator c x) refl h
+operator_gives_none operators.Decrement (types.Iterator c x ∷ []) m true h = no_element_behind _ (types.Iterator c x) refl h
+operator_gives_none operators.AddAssign (types.Iterator c x ∷ v ∷ []) m true h = no_element_behind _ types.Nothing refl h
+operator_gives_none operators.SubtractAssign (types.Iterator c x ∷ v ∷ []) m true h = no_element_behind _ types.Nothing refl h
 operator_gives_none o us m true h = absurd (cc)
 operator_gives_none o us m false h = absurd (cc)
 
@@ -119,7 +122,7 @@ moving_gives_none : (g : Scope) (callee : Callee) (object : Option ℕ) (us : Li
 moving_gives_none g (callees.Row n) object us m h =
     let typed = typed_by (λ x. has_type (only_element x)) refl (row_type g (row_at n) object us) h in
     let none = numbered_empty g n (row_at n) object us refl m typed in
-    let r : has_type (only_element empty_type) ≡ true = subst (λ (x : ExprType). has_type (only_element x) ≡ true) none h in absurd (cc)
+    let r : has_type (only_element types.Nothing) ≡ true = subst (λ (x : ExprType). has_type (only_element x) ≡ true) none h in absurd (cc)
 moving_gives_none g (callees.Operator o) object us m h = operator_gives_none o us m (not (is_some object)) h
 moving_gives_none g callee object us m h = absurd (cc)
 

@@ -3,6 +3,9 @@ use Rattle.std.proofs.Common.{◌≡◌, ℕ, Bool, true, false, List, [], ◌�
 use Rattle.std.specs.Prelude.{ℤ, pos, slice_get}
 use Rattle.sl_base.specs.declared.place.Place.{Place}
 use Rattle.sl_base.specs.declared.form.Form.{Form}
+use Rattle.sl_typing.specs.declared.expr_type.ExprType.{ExprType}
+use Rattle.sl_typing.specs.declared.expr_type.ExprType.TheVariants as types
+use Rattle.sl_typing.specs.Types.{has_type, only}
 use Rattle.sl_model.specs.Numbers.{Answer, value, fault}
 use Rattle.sl_syntax.specs.declared.typed.head.Head.{Head}
 use Rattle.sl_syntax.specs.declared.typed.step.Fix.{Fix}
@@ -14,8 +17,6 @@ use Rattle.sl_model.specs.Runs.State.{State, scalar_value}
 use Rattle.sl_model.specs.Runs.Eval.{Out, Gives, Stops, Outs, AllGive, OneStops, then_eval, with_number, then_number, add_value, then_rest, then_call}
 use Rattle.sl_model.specs.Runs.Eval.{branch, answered, if_set, read_at, settle_call, moved_to, chosen, first_of, second_of}
 use Rattle.sl_model.specs.Typing.Shapes.{Gift}
-use Rattle.sl_model.specs.Typing.WellTypedTypes.{ExprType, scalar_type, element_type, iterator_and_bool, two_iterators, container_type}
-use Rattle.sl_model.specs.Typing.WellTypedTypes.{has_type, only}
 use Rattle.sl_model.specs.Typing.WellTypedExpressions.{only_value, handed, type_of_first, type_of_second}
 use Rattle.sl_model.proofs.Fitting.{forms_of, StampFits, IsNumber, IsIteratorOf, IsPairOf, AreTwoOf, Fits, AllFit, IsGiven, IsMeant}
 use Rattle.sl_model.proofs.Levels.{Level, Now}
@@ -68,8 +69,8 @@ fits_only false u m v h fits = absurd (cc)
 
 -- a number fits the type of a number
 pub number_fits : (u : ExprType) (m : Memory) (v : Value) → IsNumberType u → IsNumber v → Fits m u v
-number_fits (scalar_type s) m v h n = n
-number_fits (element_type w) m v h n = n
+number_fits (types.Scalar s) m v h n = n
+number_fits (types.Element w) m v h n = n
 number_fits u m v h n = absurd h
 
 -- what leaves a number leaves one of a type of numbers
@@ -83,12 +84,12 @@ numbered_only b u d o t h i = out_as ANumber (Of (only b u)) d o (λ m v n. fits
 
 -- what a call gives fits its type, where that isn't an element
 pub given_value : (u : ExprType) (m : Memory) (v : Value) → has_type (only_value u) ≡ true → IsGiven m u v → Fits m (only_value u) v
-given_value (element_type w) m v t h = absurd (cc)
+given_value (types.Element w) m v t h = absurd (cc)
 given_value u m v t h = h
 
 -- a scalar variable fits the type of what is handed over
 pub handed_fits : (u : ExprType) (m : Memory) (l : ℕ) → has_type (handed u) ≡ true → Fits m (handed u) (scalar_at l)
-handed_fits (scalar_type s) m l h = tt
+handed_fits (types.Scalar s) m l h = tt
 handed_fits u m l h = absurd (cc)
 
 -- the first part of an iterator and a bool
@@ -103,8 +104,8 @@ first_of_two m form v h = absurd h
 
 -- the first part fits its type
 pub first_fits : (u : ExprType) (m : Memory) (v : Value) → has_type (type_of_first u) ≡ true → Fits m u v → Fits m (type_of_first u) (first_of v)
-first_fits (iterator_and_bool form) m v t h = first_of_pair m form v h
-first_fits (two_iterators b form) m v t h = first_of_two m form v h
+first_fits (types.IteratorAndBool form) m v t h = first_of_pair m form v h
+first_fits (types.IteratorPair b form) m v t h = first_of_two m form v h
 first_fits u m v t h = absurd (cc)
 
 -- the second part of an iterator and a bool
@@ -120,14 +121,14 @@ second_of_two m form v h = absurd h
 -- the second part fits its type
 pub second_fits : (u : ExprType) (m : Memory) (v : Value) → has_type (type_of_second u) ≡ true → Fits m u v
     → Fits m (type_of_second u) (second_of v)
-second_fits (iterator_and_bool form) m v t h = second_of_pair m form v h
-second_fits (two_iterators b form) m v t h = second_of_two m form v h
+second_fits (types.IteratorAndBool form) m v t h = second_of_pair m form v h
+second_fits (types.IteratorPair b form) m v t h = second_of_two m form v h
 second_fits u m v t h = absurd (cc)
 
 -- a container that is where one of its form is fits its type
 pub container_fits : (fs : List Form) (m : Memory) (u : ExprType) (l : ℕ)
     → ((l : ℕ) (form : Form) → slice_get fs l ≡ Some form → slice_get (forms_of m) l ≡ Some form) → ContFits fs u l → Fits m u (container_at l)
-container_fits fs m (container_type access form) l keep h = keep l form h
+container_fits fs m (types.Container access form) l keep h = keep l form h
 container_fits fs m u l keep h = absurd h
 
 -- one of two numbers is one

@@ -8,6 +8,7 @@ use Rattle.sl_base.specs.declared.place.Place.{Place}
 use Rattle.sl_base.specs.declared.form.Form.{Form}
 use Rattle.sl_base.specs.declared.form.Form.TheVariants as f
 use Rattle.sl_base.specs.declared.scalar.Scalar.TheVariants as t
+use Rattle.sl_specs.specs.Forms.{is_keyed}
 use Rattle.sl_syntax.specs.declared.operator.Comparison.TheVariants as c
 use Rattle.sl_syntax.specs.declared.typed.callee.Callee.TheVariants as callees
 use Rattle.sl_syntax.specs.declared.typed.element.Taken.{Taken}
@@ -15,7 +16,9 @@ use Rattle.sl_syntax.specs.declared.typed.element.Taken.TheVariants as taken
 use Rattle.sl_syntax.specs.declared.typed.operator.Operator.TheVariants as operators
 use Rattle.sl_syntax.specs.declared.typed.parameter.ParameterKind.{ParameterKind}
 use Rattle.sl_syntax.specs.Written.{is_map}
-use Rattle.sl_model.specs.Memory.Forms.{is_keyed}
+use Rattle.sl_typing.specs.declared.expr_type.ExprType.{ExprType}
+use Rattle.sl_typing.specs.declared.expr_type.ExprType.TheVariants as types
+use Rattle.sl_typing.specs.Types.{is_const}
 use Rattle.sl_model.specs.Numbers.{is_zero}
 use Rattle.sl_model.specs.Memory.Containers.{Cont, Memory, size, stamps, begin_of, end_of}
 use Rattle.sl_model.specs.LibraryCalls.Values.{Value}
@@ -26,8 +29,7 @@ use Rattle.sl_model.specs.Runs.Exec.{over_range, range_start}
 use Rattle.sl_model.specs.Runs.Good.{IsSound}
 use Rattle.sl_model.specs.Typing.Shapes.{Shape, a_number, a_stamp, an_element, a_value, Signature}
 use Rattle.sl_model.specs.Typing.Scoped.{AsksWell}
-use Rattle.sl_model.specs.Typing.WellTypedTypes.{ExprType, scalar_type, element_type, iterator_type, container_type, int_reference, entry_reference, Scope}
-use Rattle.sl_model.specs.Typing.WellTypedTypes.{is_const}
+use Rattle.sl_model.specs.Typing.WellTypedScopes.{Scope}
 use Rattle.sl_model.specs.Typing.WellTypedStatements.{in_range}
 use Rattle.sl_model.proofs.Getting.{get_map, got_map, get_left, get_within}
 use Rattle.sl_model.proofs.Columns.{stamp_of_end}
@@ -80,7 +82,7 @@ end_fits m j form sound e = by_cont (got_map (λ (x : Cont). x.form) m.conts j f
 
 -- the form in the type of a container
 abbrev pub form_in : ExprType → Form
-form_in (container_type access form) = form
+form_in (types.Container access form) = form
 form_in u = f.Vector
 
 -- the kinds with the two hidden iterators of a range-for
@@ -129,40 +131,40 @@ second_known ks form n e = last_there (ks ++ iterator_of form ∷ []) (iterator_
 
 -- a reference to an element, with a key or without one
 either_reference : (ks : List Kind) (b p r : Bool) (n : ℕ) → slice_get ks n ≡ Some a_reference
-    → IterFits ks (if b then entry_reference p else int_reference r) n
+    → IterFits ks (if b then types.EntryReference p else types.IntReference r) n
 either_reference ks true p r n h = h
 either_reference ks false p r n h = h
 
 -- what is in scope in the body of a range-for is where its type says
 pub scope_range : (L : Level) (g : Scope) (fs : List Form) (ks : List Kind) (how : Taken) (u : ExprType) (l : ℕ) → ContFits fs u l
     → ScopeFits L g fs ks → ScopeFits (level_range how L) (in_range how u g) fs (iters_range how (form_in u) ks)
-scope_range L g fs ks taken.Value (container_type access form) l there q = record {
+scope_range L g fs ks taken.Value (types.Container access form) l there q = record {
   scalars = numbers_with g.scalars t.Int q.scalars;
   conts_high = q.conts_high;
   iters_high = one_higher (ks ++ iterator_of form ∷ []) (iterator_of form) (L.iters + 1) (one_higher ks (iterator_of form) L.iters q.iters_high);
   containers = q.containers;
-  iterators = iters_new (ks ++ iterator_of form ∷ []) (g.iterators ++ iterator_type (is_const access) form ∷ []) (L.frame.iters ++ L.iters ∷ [])
-      (iterator_of form) (iterator_type (is_const access) form) (L.iters + 1)
+  iterators = iters_new (ks ++ iterator_of form ∷ []) (g.iterators ++ types.Iterator (is_const access) form ∷ []) (L.frame.iters ++ L.iters ∷ [])
+      (iterator_of form) (types.Iterator (is_const access) form) (L.iters + 1)
       (last_there (ks ++ iterator_of form ∷ []) (iterator_of form) (L.iters + 1) (one_higher ks (iterator_of form) L.iters q.iters_high))
-      (iters_new ks g.iterators L.frame.iters (iterator_of form) (iterator_type (is_const access) form) L.iters
+      (iters_new ks g.iterators L.frame.iters (iterator_of form) (types.Iterator (is_const access) form) L.iters
       (last_there ks (iterator_of form) L.iters q.iters_high) q.iterators);
 }
-scope_range L g fs ks taken.Reference (container_type access form) l there q = record {
+scope_range L g fs ks taken.Reference (types.Container access form) l there q = record {
   scalars = q.scalars;
   conts_high = q.conts_high;
   iters_high = one_higher (iters_hidden form ks) a_reference ((L.iters + 1) + 1) hidden_high;
   containers = q.containers;
   iterators = iters_new (iters_hidden form ks)
-      ((g.iterators ++ iterator_type (is_const access) form ∷ []) ++ iterator_type (is_const access) form ∷ [])
+      ((g.iterators ++ types.Iterator (is_const access) form ∷ []) ++ types.Iterator (is_const access) form ∷ [])
       ((L.frame.iters ++ L.iters ∷ []) ++ (L.iters + 1) ∷ []) a_reference
-      (if is_map form then entry_reference (not (is_const access)) else int_reference (not (is_const access) && not (is_keyed form)))
+      (if is_map form then types.EntryReference (not (is_const access)) else types.IntReference (not (is_const access) && not (is_keyed form)))
       ((L.iters + 1) + 1)
       (either_reference (iters_hidden form ks ++ a_reference ∷ []) (is_map form) (not (is_const access)) (not (is_const access)
       && not (is_keyed form)) ((L.iters + 1) + 1) (last_there (iters_hidden form ks) a_reference ((L.iters + 1) + 1) hidden_high))
-      (iters_new (ks ++ iterator_of form ∷ []) (g.iterators ++ iterator_type (is_const access) form ∷ []) (L.frame.iters ++ L.iters ∷ [])
-      (iterator_of form) (iterator_type (is_const access) form) (L.iters + 1)
+      (iters_new (ks ++ iterator_of form ∷ []) (g.iterators ++ types.Iterator (is_const access) form ∷ []) (L.frame.iters ++ L.iters ∷ [])
+      (iterator_of form) (types.Iterator (is_const access) form) (L.iters + 1)
       (last_there (ks ++ iterator_of form ∷ []) (iterator_of form) (L.iters + 1) (one_higher ks (iterator_of form) L.iters q.iters_high))
-      (iters_new ks g.iterators L.frame.iters (iterator_of form) (iterator_type (is_const access) form) L.iters
+      (iters_new ks g.iterators L.frame.iters (iterator_of form) (types.Iterator (is_const access) form) L.iters
       (last_there ks (iterator_of form) L.iters q.iters_high) q.iterators));
 }
   where
@@ -194,7 +196,7 @@ module _ (due : Option ParameterKind) (shape : Shape) (L : Level) (d : Stack) wh
       iters_here : length d.iters ≡ length s.iters
       iters_here = iters ∙ sym (ap (λ (l : Level). l.iters) h.now.level)
 
-module _ (w : World) (sig : Signature) (lib_keeps : KeepsGood sig.shape sig.makes w.lib) (types : FitsTypes w.lib) (due : Option ParameterKind)
+module _ (w : World) (sig : Signature) (lib_keeps : KeepsGood sig.shape sig.makes w.lib) (lib_fits : FitsTypes w.lib) (due : Option ParameterKind)
     (shape : Shape) (L : Level) (d : Stack) where
   -- a range-for
   pub fit_over : (at : Place) (name b e : ℕ) (form : Form) (takes : Value → Meaning) → b < L.iters → e < L.iters → AsksWell sig
@@ -222,29 +224,30 @@ module _ (w : World) (sig : Signature) (lib_keeps : KeepsGood sig.shape sig.make
       (λ stamp s low l. set_iterator-now L d.used b stamp s low l) v s
       (gave_as L d.used (a_value (sig.shape (callees.Hidden operators.Increment))) (a_value a_stamp) v s (ap (λ y. a_value y) well.stamp_stepped) j)))
       (λ go p s i f. fit_value due L d d (a_value (sig.shape (callees.Hidden (operators.Compare c.NotEqual))))
-      (λ m v. IsGiven m (scalar_type t.Bool) v)
+      (λ m v. IsGiven m (types.Scalar t.Bool) v)
       (use_library w.lib (asks (operators.Compare c.NotEqual) at name) (hidden_at s b ∷ hidden_at s e ∷ []) s) (on_number (λ z. go (not (is_zero z))))
       (asked w sig lib_keeps shape L d.used (asks (operators.Compare c.NotEqual) at name) (hidden_at s b ∷ hidden_at s e ∷ []) s well.tests
       (hidden_used L d.used b s b_low i, (hidden_used L d.used e s e_low i, tt)) i)
-      (fit_settle L d (scalar_type t.Bool) (asks (operators.Compare c.NotEqual) at name) (hidden_at s b ∷ hidden_at s e ∷ []) _ s i f
-      (types.compares form (hidden_at s b) (hidden_at s e) (record { site = 0; object = None; values = hidden_at s b ∷ hidden_at s e ∷ [] }) s.memory
+      (fit_settle L d (types.Scalar t.Bool) (asks (operators.Compare c.NotEqual) at name) (hidden_at s b ∷ hidden_at s e ∷ []) _ s i f
+      (lib_fits.compares form (hidden_at s b) (hidden_at s e) (record { site = 0; object = None; values = hidden_at s b ∷ hidden_at s e ∷ [] })
+      s.memory
       s.picks refl refl i.good.sound (hidden_used L d.used b s b_low i, (hidden_used L d.used e s e_low i, tt))
       (iterator-held d s.memory s.iters b form b_there f) (iterator-held d s.memory s.iters e form e_there f)))
       (λ v s j given f. fit_on_number due L d d (λ z. go (not (is_zero z))) v s (λ z. p (not (is_zero z)) s j.now f)))
-      (λ s i f. fit_value due L d d (a_value (sig.shape (callees.Hidden operators.Dereference))) (λ m v. IsGiven m (element_type false) v)
+      (λ s i f. fit_value due L d d (a_value (sig.shape (callees.Hidden operators.Dereference))) (λ m v. IsGiven m (types.Element false) v)
       (use_library w.lib (asks operators.Dereference at name) (hidden_at s b ∷ []) s) takes
       (asked w sig lib_keeps shape L d.used (asks operators.Dereference at name) (hidden_at s b ∷ []) s well.reads_one
       (hidden_used L d.used b s b_low i, tt) i)
-      (fit_settle L d (element_type false) (asks operators.Dereference at name) (hidden_at s b ∷ []) _ s i f
-      (types.reads form (hidden_at s b) (record { site = 0; object = None; values = hidden_at s b ∷ [] }) s.memory s.picks refl refl i.good.sound
+      (fit_settle L d (types.Element false) (asks operators.Dereference at name) (hidden_at s b ∷ []) _ s i f
+      (lib_fits.reads form (hidden_at s b) (record { site = 0; object = None; values = hidden_at s b ∷ [] }) s.memory s.picks refl refl i.good.sound
       (hidden_used L d.used b s b_low i, tt) (iterator-held d s.memory s.iters b form b_there f)))
       (λ v s j there f. k v s (read_element v s j) there f))
-      (λ s i f. fit_value due L d d (a_value (sig.shape (callees.Hidden operators.Increment))) (λ m v. IsGiven m (iterator_type false form) v)
+      (λ s i f. fit_value due L d d (a_value (sig.shape (callees.Hidden operators.Increment))) (λ m v. IsGiven m (types.Iterator false form) v)
       (use_library w.lib (asks operators.Increment at name) (hidden_at s b ∷ []) s) (on_stamp (λ stamp s. Next (set_iterator_at b stamp s)))
       (asked w sig lib_keeps shape L d.used (asks operators.Increment at name) (hidden_at s b ∷ []) s well.steps
       (hidden_used L d.used b s b_low i, tt) i)
-      (fit_settle L d (iterator_type false form) (asks operators.Increment at name) (hidden_at s b ∷ []) _ s i f
-      (types.steps form (hidden_at s b) (record { site = 0; object = None; values = hidden_at s b ∷ [] }) s.memory s.picks refl refl i.good.sound
+      (fit_settle L d (types.Iterator false form) (asks operators.Increment at name) (hidden_at s b ∷ []) _ s i f
+      (lib_fits.steps form (hidden_at s b) (record { site = 0; object = None; values = hidden_at s b ∷ [] }) s.memory s.picks refl refl i.good.sound
       (hidden_used L d.used b s b_low i, tt) (iterator-held d s.memory s.iters b form b_there f)))
       (λ v s j given f. fit_on_stamp due L d d form (λ stamp s. Next (set_iterator_at b stamp s)) v s given
       (λ x fits. set_iterator-fits d s.memory s.iters b x form b_there fits f)))

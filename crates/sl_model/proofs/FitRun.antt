@@ -6,6 +6,8 @@ use Rattle.sl_base.specs.declared.place.Place.{Place}
 use Rattle.sl_base.specs.declared.scalar.Scalar.TheVariants as t
 use Rattle.sl_syntax.specs.declared.typed.parameter.ParameterKind.{ParameterKind}
 use Rattle.sl_syntax.specs.Typed.{Typed}
+use Rattle.sl_typing.specs.declared.expr_type.ExprType.{ExprType}
+use Rattle.sl_typing.specs.Types.{is_scalar}
 use Rattle.sl_model.specs.Memory.Containers.{empty_memory}
 use Rattle.sl_model.specs.LibraryCalls.Values.{Value, number, Lib}
 use Rattle.sl_model.specs.Runs.Ends.{End, NoMeaning}
@@ -14,7 +16,6 @@ use Rattle.sl_model.specs.LibraryCalls.Library.{lib}
 use Rattle.sl_model.specs.Runs.Run.{run, empty_state, first_place, done_with, finished, out_of, run_over}
 use Rattle.sl_model.specs.Typing.Shapes.{AllSuit, lib_shape, lib_makes}
 use Rattle.sl_model.specs.Typing.Scoped.{IsScoped}
-use Rattle.sl_model.specs.Typing.WellTypedTypes.{ExprType, is_scalar}
 use Rattle.sl_model.specs.Typing.WellTypedExpressions.{go_to, type_given}
 use Rattle.sl_model.specs.Typing.WellTyped.{WellTyped}
 use Rattle.sl_model.proofs.TypedOperands.{typed_by}
@@ -61,8 +62,8 @@ meant_differs e at h same = subst (λ (x : End). HasMeaning x) same h
 main_fits : (l : Lib) → FitsTypes l → KeepsGood lib_shape lib_makes l → (p : Typed) (typed : WellTyped p)
     → IsScoped lib_shape lib_makes p → (input : List ℤ) (picks : List ℕ) (steps : ℕ)
     → OutFits nothing_known (type_given (main_is_there p typed).function.result) (out_of l p input picks steps)
-main_fits l types keeps p typed scoped input picks steps = let main = main_is_there p typed in
-    fit_call_of l types lib_shape lib_makes keeps p typed scoped CALLS p.main main.function first_place
+main_fits l lib_fits keeps p typed scoped input picks steps = let main = main_is_there p typed in
+    fit_call_of l lib_fits lib_shape lib_makes keeps p typed scoped CALLS p.main main.function first_place
     (level_of (empty_state input picks steps)) nothing_known [] [] [] (empty_state input picks steps) main.there
     (subst (λ (ks : List ParameterKind). AllSuit ks []) (sym main.parameters) tt) apart_none
     (record { now = good_now (empty_state input picks steps) (empty-good input picks steps); given = tt; used = tt })
@@ -72,9 +73,9 @@ main_fits l types keeps p typed scoped input picks steps = let main = main_is_th
 -- over a library that fits types and keeps states good, a well typed text never ends for want of a meaning
 pub fits-run : (l : Lib) → FitsTypes l → KeepsGood lib_shape lib_makes l → (p : Typed) → WellTyped p → IsScoped lib_shape lib_makes p
     → (input : List ℤ) (picks : List ℕ) (steps : ℕ) (at : Place) → (run_over l p input picks steps).end ≢ NoMeaning at
-fits-run l types keeps p typed scoped input picks steps at = meant_differs (run_over l p input picks steps).end at
+fits-run l lib_fits keeps p typed scoped input picks steps at = meant_differs (run_over l p input picks steps).end at
     (finish_meant nothing_known (type_given (main_is_there p typed).function.result) (out_of l p input picks steps)
-    (main_fits l types keeps p typed scoped input picks steps))
+    (main_fits l lib_fits keeps p typed scoped input picks steps))
 
 -- a well typed text never ends for want of a meaning
 pub run-meant : (p : Typed) → WellTyped p → (input : List ℤ) (picks : List ℕ) (steps : ℕ) (at : Place) → (run p input picks steps).end ≢ NoMeaning at

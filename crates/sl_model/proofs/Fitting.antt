@@ -8,12 +8,14 @@ use Rattle.sl_syntax.specs.declared.operator.Comparison.TheVariants as c
 use Rattle.sl_syntax.specs.declared.typed.callee.Callee.{Callee}
 use Rattle.sl_syntax.specs.declared.typed.callee.Callee.TheVariants as callees
 use Rattle.sl_syntax.specs.declared.typed.operator.Operator.TheVariants as operators
+use Rattle.sl_typing.specs.declared.expr_type.ExprType.{ExprType}
+use Rattle.sl_typing.specs.declared.expr_type.ExprType.TheVariants as types
+use Rattle.sl_typing.specs.Types.{has_type, is_iterator}
 use Rattle.sl_model.specs.Memory.Containers.{Cont, Memory, stamps, refers, cont_at}
 use Rattle.sl_model.specs.LibraryCalls.Values.{Value, number, iterator, pair, two, scalar_at, container_at, element_at, Args, LibOut, trapped, thrown}
 use Rattle.sl_model.specs.LibraryCalls.Values.{faulted, gives, unbuilt, Lib}
 use Rattle.sl_model.specs.Runs.Good.{IsSound}
-use Rattle.sl_model.specs.Typing.WellTypedTypes.{ExprType, empty_type, scalar_type, element_type, iterator_type, iterator_and_bool, two_iterators}
-use Rattle.sl_model.specs.Typing.WellTypedTypes.{container_type, handed_type, Scope, variable_type, has_type, is_iterator}
+use Rattle.sl_model.specs.Typing.WellTypedScopes.{Scope, variable_type}
 use Rattle.sl_model.specs.Typing.WellTypedCalls.{call_type, is_moving}
 use Rattle.sl_model.specs.Typing.WellTypedStatements.{is_making}
 use Rattle.sl_model.proofs.Gifts.{AllUsed}
@@ -63,14 +65,14 @@ IsScalarAt v = ⊥
 
 -- what an expression of a type gives; an element is read where it is one
 abbrev pub Fits : Memory → ExprType → Value → Type 0
-Fits m empty_type v = Unit {0}
-Fits m (scalar_type s) v = IsNumber v
-Fits m (element_type w) v = IsNumber v
-Fits m (iterator_type b form) v = IsIteratorOf m form v
-Fits m (iterator_and_bool form) v = IsPairOf m form v
-Fits m (two_iterators b form) v = AreTwoOf m form v
-Fits m (container_type access form) v = IsContainerOf m form v
-Fits m (handed_type s) v = IsScalarAt v
+Fits m types.Nothing v = Unit {0}
+Fits m (types.Scalar s) v = IsNumber v
+Fits m (types.Element w) v = IsNumber v
+Fits m (types.Iterator b form) v = IsIteratorOf m form v
+Fits m (types.IteratorAndBool form) v = IsPairOf m form v
+Fits m (types.IteratorPair b form) v = AreTwoOf m form v
+Fits m (types.Container access form) v = IsContainerOf m form v
+Fits m (types.Handed s) v = IsScalarAt v
 Fits m u v = ⊥
 
 -- what expressions of these types give
@@ -86,7 +88,7 @@ IsElement m v = ⊥
 
 -- what a call of a type gives: an element is a place, which is there
 abbrev pub IsGiven : Memory → ExprType → Value → Type 0
-IsGiven m (element_type w) v = IsElement m v
+IsGiven m (types.Element w) v = IsElement m v
 IsGiven m u v = Fits m u v
 
 -- a call gives what is of its type, and new containers of these forms
@@ -129,13 +131,14 @@ pub record FitsTypes (l : Lib) : Type 0 where
       → OperandsFit m (u ∷ us) a.values → IsMeant [] m u (l callee a m picks)
   -- a call that makes a container
   pub makes : (form : Form) (callee : Callee) (object : Option ℕ) (us : List ExprType) (a : Args) (m : Memory) (picks : List ℕ)
-      → is_making form callee object us ≡ true → a.object ≡ None → OperandsFit m us a.values → IsMeant (form ∷ []) m empty_type (l callee a m picks)
+      → is_making form callee object us ≡ true → a.object ≡ None → OperandsFit m us a.values
+      → IsMeant (form ∷ []) m types.Nothing (l callee a m picks)
   -- what a range-for asks by itself
   pub compares : (form : Form) (v w : Value) (a : Args) (m : Memory) (picks : List ℕ) → a.object ≡ None → a.values ≡ v ∷ w ∷ [] → IsSound m
       → AllUsed m.fresh a.values → IsIteratorOf m form v → IsIteratorOf m form w
-      → IsMeant [] m (scalar_type t.Bool) (l (callees.Hidden (operators.Compare c.NotEqual)) a m picks)
+      → IsMeant [] m (types.Scalar t.Bool) (l (callees.Hidden (operators.Compare c.NotEqual)) a m picks)
   pub reads : (form : Form) (v : Value) (a : Args) (m : Memory) (picks : List ℕ) → a.object ≡ None → a.values ≡ v ∷ [] → IsSound m
-      → AllUsed m.fresh a.values → IsIteratorOf m form v → IsMeant [] m (element_type false) (l (callees.Hidden operators.Dereference) a m picks)
+      → AllUsed m.fresh a.values → IsIteratorOf m form v → IsMeant [] m (types.Element false) (l (callees.Hidden operators.Dereference) a m picks)
   pub steps : (form : Form) (v : Value) (a : Args) (m : Memory) (picks : List ℕ) → a.object ≡ None → a.values ≡ v ∷ [] → IsSound m
       → AllUsed m.fresh a.values → IsIteratorOf m form v
-      → IsMeant [] m (iterator_type false form) (l (callees.Hidden operators.Increment) a m picks)
+      → IsMeant [] m (types.Iterator false form) (l (callees.Hidden operators.Increment) a m picks)

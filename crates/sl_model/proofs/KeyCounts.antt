@@ -4,11 +4,12 @@ use Rattle.std.proofs.Common.{refl, ap, sym, ◌∙◌, arith, ℤ, pos, if◌th
 use Rattle.std.specs.Prelude.{nat_lt, slice_get}
 use Rattle.sl_base.specs.declared.scalar.Scalar.TheVariants as t
 use Rattle.sl_specs.specs.declared.class.Class.{Class}
+use Rattle.sl_specs.specs.Forms.{is_hash}
 use Rattle.sl_model.specs.Numbers.{converted}
 use Rattle.sl_model.specs.Memory.Containers.{Cell, Cont, size, keys}
 use Rattle.sl_model.specs.Memory.Edits.{Source, old, written, theirs, new, Change, numbers, from_source, from_sources, changed, mark_after}
 use Rattle.sl_model.specs.LibraryCalls.Effects.{key_change, key_order, key_place, known_key, is_full}
-use Rattle.sl_model.specs.Memory.Forms.{is_hash, holds_equal_keys}
+use Rattle.sl_model.specs.Memory.Forms.{holds_equal_keys}
 use Rattle.sl_model.specs.LibraryCalls.KeyActions.{count_new, new_keys}
 use Rattle.sl_model.specs.Memory.Orders.{same, has, first_of_key, index_of_key}
 use Rattle.sl_model.specs.Memory.Schedule.{put_at, scattered, after_picks}

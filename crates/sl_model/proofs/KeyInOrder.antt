@@ -6,10 +6,11 @@ use Rattle.sl_base.specs.declared.form.Form.{Form}
 use Rattle.sl_base.specs.declared.form.Form.TheVariants as f
 use Rattle.sl_base.specs.declared.scalar.Scalar.TheVariants as t
 use Rattle.sl_specs.specs.declared.class.Class.{Class}
+use Rattle.sl_specs.specs.Forms.{is_hash}
 use Rattle.sl_model.specs.Memory.Containers.{Cont, size, keys}
 use Rattle.sl_model.specs.Memory.Edits.{old, new, numbers, changed}
 use Rattle.sl_model.specs.LibraryCalls.Effects.{is_full, key_change, key_order, key_place, key_picks, known_key, ordered_place}
-use Rattle.sl_model.specs.Memory.Forms.{is_hash, holds_equal_keys}
+use Rattle.sl_model.specs.Memory.Forms.{holds_equal_keys}
 use Rattle.sl_model.specs.Numbers.{converted, fits}
 use Rattle.sl_model.specs.Memory.Orders.{same, how_many, index_of_key}
 use Rattle.sl_model.specs.Memory.Orderly.{may_precede, Each, EachPair, AreInOrder}

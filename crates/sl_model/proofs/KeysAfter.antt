@@ -7,11 +7,11 @@ use Rattle.sl_base.specs.declared.form.Form.{Form}
 use Rattle.sl_base.specs.declared.form.Form.TheVariants as f
 use Rattle.sl_base.specs.declared.scalar.Scalar.TheVariants as t
 use Rattle.sl_specs.specs.declared.class.Class.{Class}
+use Rattle.sl_specs.specs.Forms.{is_hash, is_keyed}
 use Rattle.sl_model.specs.Memory.Classes.{Edit}
 use Rattle.sl_model.specs.Memory.Containers.{Cell, Cont, size, keys}
 use Rattle.sl_model.specs.Memory.Edits.{Source, old, written, theirs, new, Change, numbers, olds, news, stayed, from_source, from_sources}
 use Rattle.sl_model.specs.Memory.Edits.{mark_after, change_of}
-use Rattle.sl_model.specs.Memory.Forms.{is_hash, is_keyed}
 use Rattle.sl_model.specs.Numbers.{converted}
 use Rattle.sl_model.specs.Memory.Orders.{same}
 use Rattle.sl_model.specs.Memory.Orderly.{may_precede, Each, AreInOrder, HoldsInts}

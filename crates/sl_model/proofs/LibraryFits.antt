@@ -6,6 +6,9 @@ use Rattle.sl_syntax.specs.declared.operator.Comparison.TheVariants as c
 use Rattle.sl_syntax.specs.declared.typed.callee.Callee.{Callee}
 use Rattle.sl_syntax.specs.declared.typed.callee.Callee.TheVariants as callees
 use Rattle.sl_syntax.specs.declared.typed.operator.Operator.TheVariants as operators
+use Rattle.sl_typing.specs.declared.expr_type.ExprType.{ExprType}
+use Rattle.sl_typing.specs.declared.expr_type.ExprType.TheVariants as types
+use Rattle.sl_typing.specs.Types.{has_type}
 use Rattle.sl_model.specs.Memory.Containers.{Memory}
 use Rattle.sl_model.specs.LibraryCalls.Values.{Value, Args, LibOut}
 use Rattle.sl_model.specs.LibraryCalls.Situation.{Situation}
@@ -15,7 +18,7 @@ use Rattle.sl_model.specs.LibraryCalls.Rows.{Object, of_form, new_one, of_first,
 use Rattle.sl_model.specs.LibraryCalls.Library.{form_of, row_out, lib}
 use Rattle.sl_model.specs.Runs.Good.{IsSound}
 use Rattle.sl_model.specs.Typing.Shapes.{is_new_one, row_makes}
-use Rattle.sl_model.specs.Typing.WellTypedTypes.{ExprType, empty_type, scalar_type, element_type, iterator_type, Scope, has_type}
+use Rattle.sl_model.specs.Typing.WellTypedScopes.{Scope}
 use Rattle.sl_model.specs.Typing.WellTypedCalls.{call_type}
 use Rattle.sl_model.specs.Typing.WellTypedStatements.{is_making}
 use Rattle.sl_model.proofs.Called.{IsCalled, situation}
@@ -76,41 +79,43 @@ typed_meant g callee object us a m picks u has there ops given = by_row (typed_c
 
 -- a call that makes a container
 making_meant : (form : Form) (callee : Callee) (object : Option ℕ) (us : List ExprType) (a : Args) (m : Memory) (picks : List ℕ)
-    → is_making form callee object us ≡ true → a.object ≡ None → OperandsFit m us a.values → IsMeant (form ∷ []) m empty_type (lib callee a m picks)
+    → is_making form callee object us ≡ true → a.object ≡ None → OperandsFit m us a.values
+    → IsMeant (form ∷ []) m types.Nothing (lib callee a m picks)
 making_meant form callee object us a m picks has none ops = by_row (making_called form callee object us a m picks has none ops.fit)
   where
-    by_row : (k : RowIsCalled callee a m picks) × (k.row.object ≡ new_one form) → IsMeant (form ∷ []) m empty_type (lib callee a m picks)
-    by_row k = meant (form ∷ []) empty_type callee k.0.row a m picks k.0.object k.0.found (ap forms_with k.1) ops.sound k.0.called k.0.is_out
+    by_row : (k : RowIsCalled callee a m picks) × (k.row.object ≡ new_one form) → IsMeant (form ∷ []) m types.Nothing (lib callee a m picks)
+    by_row k = meant (form ∷ []) types.Nothing callee k.0.row a m picks k.0.object k.0.found (ap forms_with k.1) ops.sound k.0.called k.0.is_out
         (λ d. tt)
 
 -- the operators that a range-for asks for make no container and are called on iterators
 module _ (form : Form) (a : Args) (m : Memory) (picks : List ℕ) (none : a.object ≡ None) (sound : IsSound m) where
   -- the comparison
   compared : (v w : Value) → a.values ≡ v ∷ w ∷ [] → IsIteratorOf m form v → IsIteratorOf m form w
-      → IsMeant [] m (scalar_type t.Bool) (lib (callees.Hidden (operators.Compare c.NotEqual)) a m picks)
+      → IsMeant [] m (types.Scalar t.Bool) (lib (callees.Hidden (operators.Compare c.NotEqual)) a m picks)
   compared v w e fit next =
       let k = compares_done form v w a m picks none e fit next in
-      meant [] (scalar_type t.Bool) (callees.Hidden (operators.Compare c.NotEqual)) (row_of_operator (codes "for") (operators.Compare c.NotEqual))
+      meant [] (types.Scalar t.Bool) (callees.Hidden (operators.Compare c.NotEqual)) (row_of_operator (codes "for") (operators.Compare c.NotEqual))
       a m picks k.object k.found refl sound k.called k.is_out
       (λ d. number-told (codes "for") (operators.Compare c.NotEqual) (situation a m picks k.object) d t.Bool refl)
 
   -- the reading of an element
-  read : (v : Value) → a.values ≡ v ∷ [] → IsIteratorOf m form v → IsMeant [] m (element_type false) (lib (callees.Hidden operators.Dereference) a m picks)
+  read : (v : Value) → a.values ≡ v ∷ [] → IsIteratorOf m form v
+      → IsMeant [] m (types.Element false) (lib (callees.Hidden operators.Dereference) a m picks)
   read v e fit =
       let k = reads_done form v a m picks none e fit in
-      meant [] (element_type false) (callees.Hidden operators.Dereference) (row_of_operator (codes "for") operators.Dereference)
+      meant [] (types.Element false) (callees.Hidden operators.Dereference) (row_of_operator (codes "for") operators.Dereference)
       a m picks k.object k.found refl sound k.called k.is_out
       (λ d. element-read (codes "for") operators.Dereference (situation a m picks k.object) d false refl)
 
   -- the step
   stepped : (v : Value) → a.values ≡ v ∷ [] → IsIteratorOf m form v
-      → IsMeant [] m (iterator_type false form) (lib (callees.Hidden operators.Increment) a m picks)
+      → IsMeant [] m (types.Iterator false form) (lib (callees.Hidden operators.Increment) a m picks)
   stepped v e fit =
       let k = steps_done form v a m picks none e fit in
-      meant [] (iterator_type false form) (callees.Hidden operators.Increment) (row_of_operator (codes "for") operators.Increment)
+      meant [] (types.Iterator false form) (callees.Hidden operators.Increment) (row_of_operator (codes "for") operators.Increment)
       a m picks k.object k.found refl sound k.called k.is_out
-      (λ d. iterator-moved (codes "for") operators.Increment (situation a m picks k.object) d (iterator_type false form ∷ []) refl refl
-      (subst (λ (vs : List Value). AllFit m (iterator_type false form ∷ []) vs) (sym e) (fit, tt)))
+      (λ d. iterator-moved (codes "for") operators.Increment (situation a m picks k.object) d (types.Iterator false form ∷ []) refl refl
+      (subst (λ (vs : List Value). AllFit m (types.Iterator false form ∷ []) vs) (sym e) (fit, tt)))
 
 -- the library gives what is of the type of each typed call
 pub lib-fits : FitsTypes lib

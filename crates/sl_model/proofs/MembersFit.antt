@@ -10,12 +10,12 @@ use Rattle.sl_specs.specs.declared.return_type.ReturnType.TheVariants as returns
 use Rattle.sl_specs.specs.Rows.{Row as TableRow}
 use Rattle.sl_specs.specs.Table.{table}
 use Rattle.sl_syntax.specs.declared.typed.callee.Callee.TheVariants as callees
+use Rattle.sl_typing.specs.declared.expr_type.ExprType.{ExprType}
+use Rattle.sl_typing.specs.Signatures.{result_type}
 use Rattle.sl_model.specs.Memory.Containers.{Memory}
 use Rattle.sl_model.specs.LibraryCalls.Situation.{Situation}
 use Rattle.sl_model.specs.LibraryCalls.Rows.{Object, of_form, new_one, Row, shape_of_return, is_constructor, member_row, meaning_of}
 use Rattle.sl_model.specs.LibraryCalls.Library.{value_in}
-use Rattle.sl_model.specs.Typing.WellTypedTypes.{ExprType}
-use Rattle.sl_model.specs.Typing.WellTypedCalls.{result_type}
 use Rattle.sl_model.proofs.Called.{HasObject}
 use Rattle.sl_model.proofs.Passing.{passes_at}
 use Rattle.sl_model.proofs.Tells.{shape_of_answer, memory_after, Tells}

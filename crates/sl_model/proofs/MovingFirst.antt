@@ -7,7 +7,9 @@ use Rattle.sl_specs.specs.Rows.{Row as TableRow}
 use Rattle.sl_specs.specs.Table.{table}
 use Rattle.sl_syntax.specs.declared.typed.callee.Callee.{Callee}
 use Rattle.sl_syntax.specs.declared.typed.callee.Callee.TheVariants as callees
-use Rattle.sl_model.specs.Typing.WellTypedTypes.{ExprType, Scope, has_type, is_iterator}
+use Rattle.sl_typing.specs.declared.expr_type.ExprType.{ExprType}
+use Rattle.sl_typing.specs.Types.{has_type, is_iterator}
+use Rattle.sl_model.specs.Typing.WellTypedScopes.{Scope}
 use Rattle.sl_model.specs.Typing.WellTypedCalls.{fits, operator_type, call_type, is_moving_row, is_moving}
 use Rattle.sl_model.proofs.TypedOperands.{only_rest}
 use Rattle.sl_model.proofs.TypedRows.{IsMember, is_member, is_alone}

@@ -3,17 +3,19 @@ use Rattle.std.proofs.Common.{◌≡◌, ℕ, Bool, true, false, not, ◌&&◌, 
 use Rattle.std.proofs.Common.{if◌then◌else◌}
 use Rattle.sl_base.specs.declared.scalar.Scalar.{Scalar}
 use Rattle.sl_base.specs.declared.scalar.Scalar.TheVariants as t
+use Rattle.sl_specs.specs.Forms.{is_keyed, is_hash, is_random_access}
 use Rattle.sl_syntax.specs.declared.typed.operator.Operator.{Operator}
 use Rattle.sl_syntax.specs.declared.typed.operator.Operator.TheVariants as operators
 use Rattle.sl_syntax.specs.Written.{is_map}
-use Rattle.sl_model.specs.Memory.Forms.{is_keyed, is_hash, is_random_access}
+use Rattle.sl_typing.specs.declared.expr_type.ExprType.{ExprType}
+use Rattle.sl_typing.specs.declared.expr_type.ExprType.TheVariants as types
+use Rattle.sl_typing.specs.Types.{has_type, only, is_scalar, is_iterator, is_iterator_of, same_iterators, is_random}
+use Rattle.sl_typing.specs.Signatures.{first_type, is_equality}
 use Rattle.sl_model.specs.Memory.Containers.{Memory}
 use Rattle.sl_model.specs.LibraryCalls.Values.{a_number, a_stamp, an_element}
 use Rattle.sl_model.specs.LibraryCalls.Situation.{Situation}
 use Rattle.sl_model.specs.LibraryCalls.Rows.{Row, shape_of_operator, row_of_operator}
-use Rattle.sl_model.specs.Typing.WellTypedTypes.{ExprType, empty_type, scalar_type, element_type, iterator_type, has_type, only, is_scalar, is_iterator}
-use Rattle.sl_model.specs.Typing.WellTypedTypes.{is_iterator_of, same_iterators}
-use Rattle.sl_model.specs.Typing.WellTypedCalls.{first_type, is_equality, is_random, operator_type, is_moving_operator}
+use Rattle.sl_model.specs.Typing.WellTypedCalls.{operator_type, is_moving_operator}
 use Rattle.sl_model.proofs.Tells.{memory_after, Tells}
 use Rattle.sl_model.proofs.AlgorithmRowsTell.{operator-tells}
 use Rattle.sl_model.proofs.Fitting.{AllFit}
@@ -44,11 +46,11 @@ module _ (name : List ℕ) (o : Operator) (s : Situation) (done : IsCarriedOut [
   gives = operator-gives-in name o s done.called done.needs done.goes
 
   -- an element that is read
-  pub element-read : (w : Bool) → shape_of_operator o ≡ an_element → RowGives row s (element_type w)
+  pub element-read : (w : Bool) → shape_of_operator o ≡ an_element → RowGives row s (types.Element w)
   element-read w is = element_given after (row.action.answer s) (told.shaped ∙ is) gives.element_there
 
   -- a number
-  pub number-told : (r : Scalar) → shape_of_operator o ≡ a_number → RowGives row s (scalar_type r)
+  pub number-told : (r : Scalar) → shape_of_operator o ≡ a_number → RowGives row s (types.Scalar r)
   number-told r is = number_given after (row.action.answer s) (told.shaped ∙ is)
 
   -- an iterator that is moved
@@ -60,42 +62,46 @@ module _ (name : List ℕ) (o : Operator) (s : Situation) (done : IsCarriedOut [
 -- what an operator gives is of its type
 pub operator-given : (name : List ℕ) (o : Operator) (us : List ExprType) (s : Situation) → has_type (operator_type o us) ≡ true
     → AllFit s.memory us s.values → IsCarriedOut [] (row_of_operator name o) s → RowGives (row_of_operator name o) s (operator_type o us)
-operator-given name operators.Dereference (iterator_type b x ∷ []) s has fit done =
-    only_given (not (is_map x)) (element_type (not b && not (is_keyed x))) (row_of_operator name operators.Dereference) s has
+operator-given name operators.Dereference (types.Iterator b x ∷ []) s has fit done =
+    only_given (not (is_map x)) (types.Element (not b && not (is_keyed x))) (row_of_operator name operators.Dereference) s has
     (element-read name operators.Dereference s done (not b && not (is_keyed x)) refl)
-operator-given name operators.ArrowFirst (iterator_type b x ∷ []) s has fit done =
-    only_given (is_map x) (element_type false) (row_of_operator name operators.ArrowFirst) s has (element-read name operators.ArrowFirst s done false refl)
-operator-given name operators.ArrowSecond (iterator_type b x ∷ []) s has fit done =
-    only_given (is_map x) (element_type (not b)) (row_of_operator name operators.ArrowSecond) s has (element-read name operators.ArrowSecond s done (not b) refl)
-operator-given name operators.Increment (iterator_type b x ∷ []) s has fit done =
-    iterator-moved name operators.Increment s done (iterator_type b x ∷ []) refl refl fit
-operator-given name operators.Decrement (iterator_type b x ∷ []) s has fit done =
-    only_given (not (is_hash x)) (iterator_type b x) (row_of_operator name operators.Decrement) s has
-    (iterator-moved name operators.Decrement s done (iterator_type b x ∷ []) refl refl fit)
-operator-given name operators.Add (iterator_type b x ∷ u ∷ []) s has fit done =
-    only_given (is_random_access x && is_scalar t.Diff u) (iterator_type b x) (row_of_operator name operators.Add) s has
-    (iterator-moved name operators.Add s done (iterator_type b x ∷ u ∷ []) refl refl fit)
-operator-given name operators.Subtract (iterator_type b x ∷ u ∷ []) s has fit done =
-    only_given (is_random_access x && is_scalar t.Diff u) (iterator_type b x) (row_of_operator name operators.Subtract) s has
-    (iterator-moved name operators.Subtract s done (iterator_type b x ∷ u ∷ []) refl refl fit)
-operator-given name operators.AddAssign (iterator_type b x ∷ u ∷ []) s has fit done =
-    only_given (is_random_access x && is_scalar t.Diff u) empty_type (row_of_operator name operators.AddAssign) s has tt
-operator-given name operators.SubtractAssign (iterator_type b x ∷ u ∷ []) s has fit done =
-    only_given (is_random_access x && is_scalar t.Diff u) empty_type (row_of_operator name operators.SubtractAssign) s has tt
-operator-given name operators.Difference (iterator_type b x ∷ u ∷ []) s has fit done =
-    only_given (is_random_access x && is_iterator_of x u) (scalar_type t.Diff) (row_of_operator name operators.Difference) s has (number-told name operators.Difference s done t.Diff refl)
+operator-given name operators.ArrowFirst (types.Iterator b x ∷ []) s has fit done =
+    only_given (is_map x) (types.Element false) (row_of_operator name operators.ArrowFirst) s has
+    (element-read name operators.ArrowFirst s done false refl)
+operator-given name operators.ArrowSecond (types.Iterator b x ∷ []) s has fit done =
+    only_given (is_map x) (types.Element (not b)) (row_of_operator name operators.ArrowSecond) s has
+    (element-read name operators.ArrowSecond s done (not b) refl)
+operator-given name operators.Increment (types.Iterator b x ∷ []) s has fit done =
+    iterator-moved name operators.Increment s done (types.Iterator b x ∷ []) refl refl fit
+operator-given name operators.Decrement (types.Iterator b x ∷ []) s has fit done =
+    only_given (not (is_hash x)) (types.Iterator b x) (row_of_operator name operators.Decrement) s has
+    (iterator-moved name operators.Decrement s done (types.Iterator b x ∷ []) refl refl fit)
+operator-given name operators.Add (types.Iterator b x ∷ u ∷ []) s has fit done =
+    only_given (is_random_access x && is_scalar t.Diff u) (types.Iterator b x) (row_of_operator name operators.Add) s has
+    (iterator-moved name operators.Add s done (types.Iterator b x ∷ u ∷ []) refl refl fit)
+operator-given name operators.Subtract (types.Iterator b x ∷ u ∷ []) s has fit done =
+    only_given (is_random_access x && is_scalar t.Diff u) (types.Iterator b x) (row_of_operator name operators.Subtract) s has
+    (iterator-moved name operators.Subtract s done (types.Iterator b x ∷ u ∷ []) refl refl fit)
+operator-given name operators.AddAssign (types.Iterator b x ∷ u ∷ []) s has fit done =
+    only_given (is_random_access x && is_scalar t.Diff u) types.Nothing (row_of_operator name operators.AddAssign) s has tt
+operator-given name operators.SubtractAssign (types.Iterator b x ∷ u ∷ []) s has fit done =
+    only_given (is_random_access x && is_scalar t.Diff u) types.Nothing (row_of_operator name operators.SubtractAssign) s has tt
+operator-given name operators.Difference (types.Iterator b x ∷ u ∷ []) s has fit done =
+    only_given (is_random_access x && is_iterator_of x u) (types.Scalar t.Diff) (row_of_operator name operators.Difference) s has
+    (number-told name operators.Difference s done t.Diff refl)
 operator-given name (operators.Compare k) (u ∷ v ∷ []) s has fit done =
-    only_given (same_iterators u v && (if is_equality k then true else is_random u)) (scalar_type t.Bool) (row_of_operator name (operators.Compare k)) s has
+    only_given (same_iterators u v && (if is_equality k then true else is_random u)) (types.Scalar t.Bool)
+    (row_of_operator name (operators.Compare k)) s has
     (number-told name (operators.Compare k) s done t.Bool refl)
 operator-given name o us s has fit done = absurd (cc)
 
 -- an operator that moves its iterator begins with one
 pub moving_operator-begins : (o : Operator) (us : List ExprType) → is_moving_operator o ≡ true → has_type (operator_type o us) ≡ true
     → is_iterator (first_type us) ≡ true
-moving_operator-begins operators.Increment (iterator_type b x ∷ []) moves has = refl
-moving_operator-begins operators.Decrement (iterator_type b x ∷ []) moves has = refl
-moving_operator-begins operators.AddAssign (iterator_type b x ∷ u ∷ []) moves has = refl
-moving_operator-begins operators.SubtractAssign (iterator_type b x ∷ u ∷ []) moves has = refl
+moving_operator-begins operators.Increment (types.Iterator b x ∷ []) moves has = refl
+moving_operator-begins operators.Decrement (types.Iterator b x ∷ []) moves has = refl
+moving_operator-begins operators.AddAssign (types.Iterator b x ∷ u ∷ []) moves has = refl
+moving_operator-begins operators.SubtractAssign (types.Iterator b x ∷ u ∷ []) moves has = refl
 moving_operator-begins o us moves has = absurd (cc)
 
 -- it gives an iterator

@@ -6,10 +6,10 @@ use Rattle.std.proofs.lemmas.Bool.{cases_eq, cases_lt, not-true}
 use Rattle.sl_base.specs.declared.form.Form.{Form}
 use Rattle.sl_base.specs.declared.scalar.Scalar.TheVariants as t
 use Rattle.sl_specs.specs.declared.class.Class.{Class}
+use Rattle.sl_specs.specs.Forms.{is_hash, is_keyed}
 use Rattle.sl_model.specs.Memory.Containers.{Cell, Cont, Memory, cont_at, size, keys, new_cells, made, end_from, Part, key_part, value_part, with_part}
 use Rattle.sl_model.specs.Memory.Containers.{is_writable, cont_with, write_element, empty_memory}
 use Rattle.sl_model.specs.Memory.Edits.{Change, old, numbers, theirs_from, change_of, changed, rebuilt, next_of_two, after, after_two}
-use Rattle.sl_model.specs.Memory.Forms.{is_hash, is_keyed}
 use Rattle.sl_model.specs.Numbers.{converted, fits}
 use Rattle.sl_model.specs.Memory.Orderly.{Each, AreInOrder, HoldsInts, IsOrderlyCont, IsOrderly}
 use Rattle.sl_model.specs.Memory.Schedule.{after_picks, scattered}

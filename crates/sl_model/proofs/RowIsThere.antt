@@ -10,6 +10,9 @@ use Rattle.sl_syntax.specs.declared.typed.callee.Callee.{Callee}
 use Rattle.sl_syntax.specs.declared.typed.callee.Callee.TheVariants as callees
 use Rattle.sl_syntax.specs.declared.typed.operator.Operator.{Operator}
 use Rattle.sl_syntax.specs.declared.typed.operator.Operator.TheVariants as operators
+use Rattle.sl_typing.specs.declared.expr_type.ExprType.{ExprType}
+use Rattle.sl_typing.specs.declared.expr_type.ExprType.TheVariants as types
+use Rattle.sl_typing.specs.Types.{has_type}
 use Rattle.sl_model.specs.Memory.Containers.{Memory}
 use Rattle.sl_model.specs.LibraryCalls.Operands.{an_iterator, are_of}
 use Rattle.sl_model.specs.LibraryCalls.Operators.{operator_name, operator_sorts}
@@ -17,7 +20,7 @@ use Rattle.sl_model.specs.LibraryCalls.Values.{Value, nothing, container_at, Arg
 use Rattle.sl_model.specs.LibraryCalls.Situation.{container_of_value}
 use Rattle.sl_model.specs.LibraryCalls.Rows.{Object, of_form, new_one, of_first, Row, member_row, algorithm_row, row_of_operator, row_of}
 use Rattle.sl_model.specs.LibraryCalls.Library.{object_in, row_out, on_object, called_row, lib}
-use Rattle.sl_model.specs.Typing.WellTypedTypes.{ExprType, container_type, Scope, variable_type, has_type}
+use Rattle.sl_model.specs.Typing.WellTypedScopes.{Scope, variable_type}
 use Rattle.sl_model.specs.Typing.WellTypedCalls.{operator_type, call_type}
 use Rattle.sl_model.specs.Typing.WellTypedStatements.{is_making}
 use Rattle.sl_model.proofs.Called.{IsCalled, situation, has_object}
@@ -68,7 +71,7 @@ object_none m g (Some j) fit = absurd fit
 
 -- one on a variable that is a container has that container for its object, which is of the form of the variable
 pub object_some : (m : Memory) (g : Scope) (x : ℕ) (access : Access) (form : Form) (given : Option ℕ)
-    → variable_type g.containers x ≡ container_type access form → ObjectFits m g (Some x) given
+    → variable_type g.containers x ≡ types.Container access form → ObjectFits m g (Some x) given
     → (j : ℕ) × (given ≡ Some j) × (slice_get (forms_of m) j ≡ Some form)
 object_some m g x access form None v fit = absurd fit
 object_some m g x access form (Some j) v fit = (j, refl, subst (λ (u : ExprType). Fits m u (container_at j)) v fit)

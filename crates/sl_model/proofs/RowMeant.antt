@@ -2,13 +2,13 @@
 -- effect answers that type whenever its needs hold.
 use Rattle.std.proofs.Common.{◌≡◌, ℕ, List, Option, Some, None, refl}
 use Rattle.sl_base.specs.declared.form.Form.{Form}
+use Rattle.sl_typing.specs.declared.expr_type.ExprType.{ExprType}
 use Rattle.sl_model.specs.LibraryCalls.Values.{LibOut, trapped}
 use Rattle.sl_model.specs.LibraryCalls.Situation.{Situation}
 use Rattle.sl_model.specs.LibraryCalls.Needs.{first_failure}
 use Rattle.sl_model.specs.LibraryCalls.Actions.{Stop, never, exception, overflow}
 use Rattle.sl_model.specs.LibraryCalls.Rows.{Row}
 use Rattle.sl_model.specs.LibraryCalls.Library.{value_in, carried_out, row_out}
-use Rattle.sl_model.specs.Typing.WellTypedTypes.{ExprType}
 use Rattle.sl_model.proofs.Fitting.{Answers, IsMeant}
 use Rattle.sl_model.proofs.Tells.{memory_after}
 

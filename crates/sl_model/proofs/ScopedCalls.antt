@@ -7,7 +7,7 @@ use Rattle.std.proofs.lemmas.Bool.{not-true}
 use Rattle.sl_base.specs.declared.form.Form.{Form}
 use Rattle.sl_base.specs.declared.form.Form.TheVariants as f
 use Rattle.sl_base.specs.declared.scalar.Scalar.TheVariants as t
-use Rattle.sl_specs.specs.Forms.{same_object}
+use Rattle.sl_specs.specs.Forms.{same_object, is_keyed, is_hash, is_random_access}
 use Rattle.sl_specs.specs.Rows.{Row}
 use Rattle.sl_syntax.specs.declared.operator.Access.{Access}
 use Rattle.sl_syntax.specs.declared.typed.callee.Callee.{Callee}
@@ -15,17 +15,16 @@ use Rattle.sl_syntax.specs.declared.typed.callee.Callee.TheVariants as callees
 use Rattle.sl_syntax.specs.declared.typed.operator.Operator.{Operator}
 use Rattle.sl_syntax.specs.declared.typed.operator.Operator.TheVariants as operators
 use Rattle.sl_syntax.specs.Written.{is_map}
-use Rattle.sl_model.specs.Memory.Forms.{is_keyed, is_hash, is_random_access}
+use Rattle.sl_typing.specs.declared.expr_type.ExprType.{ExprType}
+use Rattle.sl_typing.specs.declared.expr_type.ExprType.TheVariants as types
+use Rattle.sl_typing.specs.Types.{has_type, is_scalar, is_iterator_of, same_iterators, is_const, is_random}
+use Rattle.sl_typing.specs.Signatures.{result_type, row_at, is_constructor, is_algorithm, is_output, appending, is_equality}
 use Rattle.sl_model.specs.LibraryCalls.Values.{Shape, a_number, a_stamp, an_element}
 use Rattle.sl_model.specs.LibraryCalls.Rows.{Row as Meaning, shape_of_return, meaning_of, shape_of_operator}
 use Rattle.sl_model.specs.Typing.Shapes.{is_new_one, shape_of_row, row_makes, lib_shape, lib_makes}
-use Rattle.sl_model.specs.Typing.WellTypedTypes.{ExprType, empty_type, scalar_type, element_type, iterator_type}
-use Rattle.sl_model.specs.Typing.WellTypedTypes.{container_type, Scope, variable_type, has_type, is_scalar}
-use Rattle.sl_model.specs.Typing.WellTypedTypes.{is_iterator_of, same_iterators, is_const}
-use Rattle.sl_model.specs.Typing.WellTypedCalls.{is_random, fits}
-use Rattle.sl_model.specs.Typing.WellTypedCalls.{result_type, row_at, is_constructor, is_advance, may_be_called, member_type, is_algorithm, algorithm_type}
-use Rattle.sl_model.specs.Typing.WellTypedCalls.{row_type, is_output, appending, appending_type, constructs, is_equality, operator_type, call_type}
-use Rattle.sl_model.specs.Typing.WellTypedCalls.{is_moving_row, is_moving}
+use Rattle.sl_model.specs.Typing.WellTypedScopes.{Scope, variable_type}
+use Rattle.sl_model.specs.Typing.WellTypedCalls.{fits, is_advance, may_be_called, member_type, algorithm_type, row_type, appending_type, constructs}
+use Rattle.sl_model.specs.Typing.WellTypedCalls.{operator_type, call_type, is_moving_row, is_moving}
 use Rattle.sl_model.specs.Typing.WellTypedStatements.{is_making}
 use Rattle.sl_model.proofs.Passing.{first_of_both, second_of_both, three_parts}
 use Rattle.sl_model.proofs.TypedOperands.{only_holds, only_rest}
@@ -73,7 +72,7 @@ return_shaped row b x us right e fit h = subst (IsShaped (result_type row.gives 
 -- a call of a member has the shape of its type
 member_shaped : (row : Row) (u : ExprType) (us : List ExprType) → is_right row ≡ true → has_type (member_type row u us) ≡ true
     → IsShaped (member_type row u us) (meaning_of false row).shape
-member_shaped row (container_type access x) us right h = only_shaped
+member_shaped row (types.Container access x) us right h = only_shaped
     (same_object row.form (Some x) && not (is_constructor row) && may_be_called row.changes access && fits x row.letters us)
     (result_type row.gives (is_const access) x us) (meaning_of false row).shape
     (λ all typed. let holds = member_holds row access x us all in
@@ -102,28 +101,28 @@ appending_shaped : (found : Option Row) (us : List ExprType) (shape : Shape) →
     → IsShaped (appending_type found us) shape
 appending_shaped None us shape h = absurd cc
 appending_shaped (Some row) us shape h =
-    only_shaped (is_algorithm row && list_any is_output row.letters && fits f.Vector (map appending row.letters) us) empty_type shape (λ a b. tt) h
+    only_shaped (is_algorithm row && list_any is_output row.letters && fits f.Vector (map appending row.letters) us) types.Nothing shape (λ a b. tt) h
 
 -- a call of an operator has the shape of its type
 operator_shaped : (o : Operator) (us : List ExprType) → has_type (operator_type o us) ≡ true → IsShaped (operator_type o us) (shape_of_operator o)
-operator_shaped operators.Dereference (iterator_type b x ∷ []) h =
-    only_shaped (not (is_map x)) (element_type (not b && not (is_keyed x))) an_element (λ c d. refl) h
-operator_shaped operators.ArrowFirst (iterator_type b x ∷ []) h = only_shaped (is_map x) (element_type false) an_element (λ c d. refl) h
-operator_shaped operators.ArrowSecond (iterator_type b x ∷ []) h = only_shaped (is_map x) (element_type (not b)) an_element (λ c d. refl) h
-operator_shaped operators.Increment (iterator_type b x ∷ []) h = refl
-operator_shaped operators.Decrement (iterator_type b x ∷ []) h = only_shaped (not (is_hash x)) (iterator_type b x) a_stamp (λ c d. refl) h
-operator_shaped operators.Add (iterator_type b x ∷ u ∷ []) h =
-    only_shaped (is_random_access x && is_scalar t.Diff u) (iterator_type b x) a_stamp (λ c d. refl) h
-operator_shaped operators.Subtract (iterator_type b x ∷ u ∷ []) h =
-    only_shaped (is_random_access x && is_scalar t.Diff u) (iterator_type b x) a_stamp (λ c d. refl) h
-operator_shaped operators.AddAssign (iterator_type b x ∷ u ∷ []) h =
-    only_shaped (is_random_access x && is_scalar t.Diff u) empty_type a_stamp (λ c d. tt) h
-operator_shaped operators.SubtractAssign (iterator_type b x ∷ u ∷ []) h =
-    only_shaped (is_random_access x && is_scalar t.Diff u) empty_type a_stamp (λ c d. tt) h
-operator_shaped operators.Difference (iterator_type b x ∷ u ∷ []) h =
-    only_shaped (is_random_access x && is_iterator_of x u) (scalar_type t.Diff) a_number (λ c d. refl) h
+operator_shaped operators.Dereference (types.Iterator b x ∷ []) h =
+    only_shaped (not (is_map x)) (types.Element (not b && not (is_keyed x))) an_element (λ c d. refl) h
+operator_shaped operators.ArrowFirst (types.Iterator b x ∷ []) h = only_shaped (is_map x) (types.Element false) an_element (λ c d. refl) h
+operator_shaped operators.ArrowSecond (types.Iterator b x ∷ []) h = only_shaped (is_map x) (types.Element (not b)) an_element (λ c d. refl) h
+operator_shaped operators.Increment (types.Iterator b x ∷ []) h = refl
+operator_shaped operators.Decrement (types.Iterator b x ∷ []) h = only_shaped (not (is_hash x)) (types.Iterator b x) a_stamp (λ c d. refl) h
+operator_shaped operators.Add (types.Iterator b x ∷ u ∷ []) h =
+    only_shaped (is_random_access x && is_scalar t.Diff u) (types.Iterator b x) a_stamp (λ c d. refl) h
+operator_shaped operators.Subtract (types.Iterator b x ∷ u ∷ []) h =
+    only_shaped (is_random_access x && is_scalar t.Diff u) (types.Iterator b x) a_stamp (λ c d. refl) h
+operator_shaped operators.AddAssign (types.Iterator b x ∷ u ∷ []) h =
+    only_shaped (is_random_access x && is_scalar t.Diff u) types.Nothing a_stamp (λ c d. tt) h
+operator_shaped operators.SubtractAssign (types.Iterator b x ∷ u ∷ []) h =
+    only_shaped (is_random_access x && is_scalar t.Diff u) types.Nothing a_stamp (λ c d. tt) h
+operator_shaped operators.Difference (types.Iterator b x ∷ u ∷ []) h =
+    only_shaped (is_random_access x && is_iterator_of x u) (types.Scalar t.Diff) a_number (λ c d. refl) h
 operator_shaped (operators.Compare o) (u ∷ v ∷ []) h =
-    only_shaped (same_iterators u v && (if is_equality o then true else is_random u)) (scalar_type t.Bool) a_number (λ c d. refl) h
+    only_shaped (same_iterators u v && (if is_equality o then true else is_random u)) (types.Scalar t.Bool) a_number (λ c d. refl) h
 operator_shaped o us h = absurd cc
 
 -- a call of the library that moves no variable and has a type gives the shape of the type
@@ -170,7 +169,7 @@ advance_shaped g (Some row) None us shape right moves h = only_shaped (is_algori
 advance_shaped g (Some row) (Some x) us shape right moves h = at (variable_type g.containers x) h
   where
     at : (u : ExprType) → has_type (member_type row u us) ≡ true → IsShaped (member_type row u us) shape
-    at (container_type access y) k = only_shaped
+    at (types.Container access y) k = only_shaped
         (same_object row.form (Some y) && not (is_constructor row) && may_be_called row.changes access && fits y row.letters us)
         (result_type row.gives (is_const access) y us) shape
         (λ all typed. nothing_shaped row.gives (is_const access) y us shape (advance_gives_nothing row right moves)) k
@@ -202,7 +201,7 @@ algorithm_makes_none appends row h = ap (λ (m : Meaning). is_new_one m.object) 
 -- a member that is called makes none
 member_makes_none : (row : Row) (u : ExprType) (us : List ExprType) → has_type (member_type row u us) ≡ true
     → is_new_one (meaning_of false row).object ≡ false
-member_makes_none row (container_type access x) us h =
+member_makes_none row (types.Container access x) us h =
     let holds = member_holds row access x us (only_holds
     (same_object row.form (Some x) && not (is_constructor row) && may_be_called row.changes access && fits x row.letters us)
     (result_type row.gives (is_const access) x us) h) in
@@ -222,7 +221,7 @@ appending_makes_none : (found : Option Row) (us : List ExprType) → has_type (a
     → row_makes (option_map (meaning_of true) found) ≡ false
 appending_makes_none None us h = absurd cc
 appending_makes_none (Some row) us h =
-    let all = only_holds (is_algorithm row && list_any is_output row.letters && fits f.Vector (map appending row.letters) us) empty_type h in
+    let all = only_holds (is_algorithm row && list_any is_output row.letters && fits f.Vector (map appending row.letters) us) types.Nothing h in
     let two = first_of_both (is_algorithm row && list_any is_output row.letters) (fits f.Vector (map appending row.letters) us) all in
     algorithm_makes_none true row (first_of_both (is_algorithm row) (list_any is_output row.letters) two)
 

@@ -13,13 +13,15 @@ use Rattle.sl_syntax.specs.declared.typed.parameter.ParameterKind.TheVariants as
 use Rattle.sl_syntax.specs.Typed.{Expr, literal, held, iterator, convert, negate, logical_not, logical_and, logical_or, arithmetic, comparison}
 use Rattle.sl_syntax.specs.Typed.{increment, move, call, own_call, first, second, container, handed_scalar, Left, scalar, reference, element}
 use Rattle.sl_syntax.specs.Typed.{Operands, none, with, Function, Typed}
+use Rattle.sl_typing.specs.declared.expr_type.ExprType.{ExprType}
+use Rattle.sl_typing.specs.declared.expr_type.ExprType.TheVariants as types
+use Rattle.sl_typing.specs.Types.{has_type, is_scalar, is_number}
 use Rattle.sl_model.specs.LibraryCalls.Values.{Shape, an_element}
 use Rattle.sl_model.specs.Runs.Good.{AreApart}
 use Rattle.sl_model.specs.Typing.Shapes.{Gift, HasParts, gift_of, gifts_of, Suits, AllSuit, container_in, containers_in}
 use Rattle.sl_model.specs.Typing.Shapes.{lib_shape}
 use Rattle.sl_model.specs.Typing.Scoped.{HasObject, IsCall, InExpr, InLeft, InOperands}
-use Rattle.sl_model.specs.Typing.WellTypedTypes.{ExprType, scalar_type, element_type, iterator_type, iterator_and_bool, two_iterators}
-use Rattle.sl_model.specs.Typing.WellTypedTypes.{container_type, handed_type, Scope, variable_type, has_type, is_scalar, is_number}
+use Rattle.sl_model.specs.Typing.WellTypedScopes.{Scope, variable_type}
 use Rattle.sl_model.specs.Typing.WellTypedCalls.{call_type}
 use Rattle.sl_model.specs.Typing.WellTypedExpressions.{only_element, type_of_first, type_of_second, goes_to, go_to, type_given, function_type, is_arrow}
 use Rattle.sl_model.specs.Typing.WellTypedExpressions.{is_variable, type_of, type_of_left, types_of}
@@ -117,18 +119,18 @@ gifts_apart p ops h = subst AreApart (sym (containers_same p ops)) (containers_a
 
 -- what goes to a parameter suits it
 type_suits : (k : ParameterKind) (u : ExprType) (gift : Gift) → HasGift u gift → goes_to k u ≡ true → Suits k gift
-type_suits (parameters.Value s) (scalar_type r) gift e h = subst (Suits (parameters.Value s)) (sym e) tt
-type_suits (parameters.Value s) (element_type w) gift e h = subst (Suits (parameters.Value s)) (sym e) tt
+type_suits (parameters.Value s) (types.Scalar r) gift e h = subst (Suits (parameters.Value s)) (sym e) tt
+type_suits (parameters.Value s) (types.Element w) gift e h = subst (Suits (parameters.Value s)) (sym e) tt
 type_suits (parameters.Value s) u gift e h = absurd cc
-type_suits (parameters.Reference s) (handed_type r) gift e h = subst (Suits (parameters.Reference s)) (sym e.1) tt
+type_suits (parameters.Reference s) (types.Handed r) gift e h = subst (Suits (parameters.Reference s)) (sym e.1) tt
 type_suits (parameters.Reference s) u gift e h = absurd cc
-type_suits (parameters.Container a.Const x) (container_type access y) gift e h = subst (Suits (parameters.Container a.Const x)) (sym e.1) tt
+type_suits (parameters.Container a.Const x) (types.Container access y) gift e h = subst (Suits (parameters.Container a.Const x)) (sym e.1) tt
 type_suits (parameters.Container a.Const x) u gift e h = absurd cc
-type_suits (parameters.Container a.Whole x) (container_type access y) gift e h = subst (Suits (parameters.Container a.Whole x)) (sym e.1) tt
+type_suits (parameters.Container a.Whole x) (types.Container access y) gift e h = subst (Suits (parameters.Container a.Whole x)) (sym e.1) tt
 type_suits (parameters.Container a.Whole x) u gift e h = absurd cc
-type_suits (parameters.Container a.Elements x) (container_type access y) gift e h = subst (Suits (parameters.Container a.Elements x)) (sym e.1) tt
+type_suits (parameters.Container a.Elements x) (types.Container access y) gift e h = subst (Suits (parameters.Container a.Elements x)) (sym e.1) tt
 type_suits (parameters.Container a.Elements x) u gift e h = absurd cc
-type_suits (parameters.Iterator b x) (iterator_type d y) gift e h = subst (Suits (parameters.Iterator b x)) (sym e) tt
+type_suits (parameters.Iterator b x) (types.Iterator d y) gift e h = subst (Suits (parameters.Iterator b x)) (sym e) tt
 type_suits (parameters.Iterator b x) u gift e h = absurd cc
 
 -- operands of these types give these
@@ -183,7 +185,7 @@ call_scoped p g c us h = (call_makes_none g c.callee c.object us h, object_scope
 
 -- what is an element has its shape
 element_shape : (u : ExprType) (shape : Shape) → IsShaped u shape → has_type (only_element u) ≡ true → shape ≡ an_element
-element_shape (element_type w) shape e h = e
+element_shape (types.Element w) shape e h = e
 element_shape u shape e h = absurd cc
 
 -- a call that gives an element gives the place of one
@@ -196,14 +198,14 @@ place_shape g c ops h =
 
 -- that of which `.first` is taken has two parts
 first_parts : (u : ExprType) (gift : Gift) → HasGift u gift → has_type (type_of_first u) ≡ true → HasParts gift
-first_parts (iterator_and_bool x) gift e h = subst HasParts (sym e) tt
-first_parts (two_iterators b x) gift e h = subst HasParts (sym e) tt
+first_parts (types.IteratorAndBool x) gift e h = subst HasParts (sym e) tt
+first_parts (types.IteratorPair b x) gift e h = subst HasParts (sym e) tt
 first_parts u gift e h = absurd cc
 
 -- so has that of which `.second` is
 second_parts : (u : ExprType) (gift : Gift) → HasGift u gift → has_type (type_of_second u) ≡ true → HasParts gift
-second_parts (iterator_and_bool x) gift e h = subst HasParts (sym e) tt
-second_parts (two_iterators b x) gift e h = subst HasParts (sym e) tt
+second_parts (types.IteratorAndBool x) gift e h = subst HasParts (sym e) tt
+second_parts (types.IteratorPair b x) gift e h = subst HasParts (sym e) tt
 second_parts u gift e h = absurd cc
 
 -- a pair has parts where one is taken

@@ -11,13 +11,14 @@ use Rattle.sl_base.specs.declared.scalar.Scalar.TheVariants as t
 use Rattle.sl_syntax.specs.Typed.{Expr, literal, held, iterator, convert, negate, logical_not, logical_and, logical_or, arithmetic, comparison}
 use Rattle.sl_syntax.specs.Typed.{increment, move, call, own_call, first, second, container, handed_scalar, Left, scalar, reference, element}
 use Rattle.sl_syntax.specs.Typed.{Function, Typed}
+use Rattle.sl_typing.specs.declared.expr_type.ExprType.{ExprType}
+use Rattle.sl_typing.specs.declared.expr_type.ExprType.TheVariants as types
+use Rattle.sl_typing.specs.Types.{has_type, only, is_scalar, is_number, is_written, is_arithmetic, is_iterator}
 use Rattle.sl_model.specs.LibraryCalls.Values.{Shape, no_value, a_number, a_stamp, a_pair, two_stamps}
 use Rattle.sl_model.specs.Typing.Shapes.{Gift, a_value, the_scalar, the_container, Signature, shape_of_result, shape_of_call, shape_of_second}
 use Rattle.sl_model.specs.Typing.Shapes.{gift_of, lib_shape, lib_makes, signature_of}
 use Rattle.sl_model.specs.Typing.Scoped.{Counts}
-use Rattle.sl_model.specs.Typing.WellTypedTypes.{ExprType, empty_type, scalar_type, element_type, iterator_type, iterator_and_bool, two_iterators}
-use Rattle.sl_model.specs.Typing.WellTypedTypes.{container_type, handed_type, int_reference, entry_reference, Scope, variable_type, has_type, only}
-use Rattle.sl_model.specs.Typing.WellTypedTypes.{is_scalar, is_number, is_written, is_arithmetic, are_comparable, is_iterator}
+use Rattle.sl_model.specs.Typing.WellTypedScopes.{Scope, variable_type, are_comparable}
 use Rattle.sl_model.specs.Typing.WellTypedCalls.{call_type, is_moving}
 use Rattle.sl_model.specs.Typing.WellTypedExpressions.{is_literal, only_value, only_element, handed, type_of_first, type_of_second, type_of_use}
 use Rattle.sl_model.specs.Typing.WellTypedExpressions.{go_to, type_given, function_type, is_arrow, is_variable, type_of, type_of_left, types_of}
@@ -37,12 +38,12 @@ scope_counts g = record { scalars = length g.scalars; conts = length g.container
 
 -- a type is that of a number's variable
 abbrev pub is_scalar_type : ExprType → Bool
-is_scalar_type (scalar_type s) = true
+is_scalar_type (types.Scalar s) = true
 is_scalar_type u = false
 
 -- a type is that of a container
 abbrev pub is_container_type : ExprType → Bool
-is_container_type (container_type access x) = true
+is_container_type (types.Container access x) = true
 is_container_type u = false
 
 -- a scope knows the functions of a text, and its variables have the types of their sorts
@@ -53,14 +54,14 @@ pub record KnowsText (p : Typed) (g : Scope) : Type 0 where
 
 -- an expression of a type gives this
 abbrev pub HasGift : ExprType → Gift → Type 0
-HasGift empty_type gift = (shape : Shape) × (gift ≡ a_value shape)
-HasGift (scalar_type s) gift = gift ≡ a_value a_number
-HasGift (element_type w) gift = gift ≡ a_value a_number
-HasGift (iterator_type b x) gift = gift ≡ a_value a_stamp
-HasGift (iterator_and_bool x) gift = gift ≡ a_value a_pair
-HasGift (two_iterators b x) gift = gift ≡ a_value two_stamps
-HasGift (container_type access x) gift = (n : ℕ) × (gift ≡ the_container n)
-HasGift (handed_type s) gift = (n : ℕ) × (gift ≡ the_scalar n)
+HasGift types.Nothing gift = (shape : Shape) × (gift ≡ a_value shape)
+HasGift (types.Scalar s) gift = gift ≡ a_value a_number
+HasGift (types.Element w) gift = gift ≡ a_value a_number
+HasGift (types.Iterator b x) gift = gift ≡ a_value a_stamp
+HasGift (types.IteratorAndBool x) gift = gift ≡ a_value a_pair
+HasGift (types.IteratorPair b x) gift = gift ≡ a_value two_stamps
+HasGift (types.Container access x) gift = (n : ℕ) × (gift ≡ the_container n)
+HasGift (types.Handed s) gift = (n : ℕ) × (gift ≡ the_scalar n)
 HasGift u gift = Unit {0}
 
 -- a variable that has a type passes the test that all do
@@ -78,49 +79,49 @@ only_gift false u gift give h = absurd cc
 
 -- the variable of a number gives one
 scalar_gift : (u : ExprType) → is_scalar_type u ≡ true → HasGift u (a_value a_number)
-scalar_gift (scalar_type s) h = refl
+scalar_gift (types.Scalar s) h = refl
 scalar_gift u h = absurd cc
 
 -- a container is what it is
 container_gift : (u : ExprType) (x : ℕ) → is_container_type u ≡ true → HasGift u (the_container x)
-container_gift (container_type access form) x h = (x, refl)
+container_gift (types.Container access form) x h = (x, refl)
 container_gift u x h = absurd cc
 
 -- an iterator gives its stamp
 iterator_gift : (u : ExprType) → is_iterator u ≡ true → HasGift u (a_value a_stamp)
-iterator_gift (iterator_type b x) h = refl
+iterator_gift (types.Iterator b x) h = refl
 iterator_gift u h = absurd cc
 
 -- the use of a reference gives a number
 use_gift : (part : ElementPart) (u : ExprType) → has_type (type_of_use part u) ≡ true → HasGift (type_of_use part u) (a_value a_number)
-use_gift parts.Whole (int_reference w) h = refl
-use_gift parts.First (entry_reference w) h = refl
-use_gift parts.Second (entry_reference w) h = refl
+use_gift parts.Whole (types.IntReference w) h = refl
+use_gift parts.First (types.EntryReference w) h = refl
+use_gift parts.Second (types.EntryReference w) h = refl
 use_gift part u h = absurd cc
 
 -- an element is read as a number
 element_gift : (u : ExprType) → has_type (only_element u) ≡ true → HasGift (only_element u) (a_value a_number)
-element_gift (element_type w) h = refl
+element_gift (types.Element w) h = refl
 element_gift u h = absurd cc
 
 -- what moves a variable gives an iterator
 move_gift : (u : ExprType) → IsShaped u a_stamp → HasGift u (a_value a_stamp)
-move_gift empty_type h = (a_stamp, refl)
-move_gift (iterator_type b x) h = refl
-move_gift (scalar_type s) h = absurd cc
-move_gift (element_type w) h = absurd cc
-move_gift (iterator_and_bool x) h = absurd cc
-move_gift (two_iterators b x) h = absurd cc
+move_gift types.Nothing h = (a_stamp, refl)
+move_gift (types.Iterator b x) h = refl
+move_gift (types.Scalar s) h = absurd cc
+move_gift (types.Element w) h = absurd cc
+move_gift (types.IteratorAndBool x) h = absurd cc
+move_gift (types.IteratorPair b x) h = absurd cc
 move_gift u h = absurd h
 
 -- a call gives a value of its shape
 value_gift : (u : ExprType) (shape : Shape) → IsShaped u shape → has_type (only_value u) ≡ true → HasGift (only_value u) (a_value shape)
-value_gift empty_type shape e h = (shape, refl)
-value_gift (scalar_type s) shape e h = cc
-value_gift (element_type w) shape e h = absurd cc
-value_gift (iterator_type b x) shape e h = cc
-value_gift (iterator_and_bool x) shape e h = cc
-value_gift (two_iterators b x) shape e h = cc
+value_gift types.Nothing shape e h = (shape, refl)
+value_gift (types.Scalar s) shape e h = cc
+value_gift (types.Element w) shape e h = absurd cc
+value_gift (types.Iterator b x) shape e h = cc
+value_gift (types.IteratorAndBool x) shape e h = cc
+value_gift (types.IteratorPair b x) shape e h = cc
 value_gift u shape e h = absurd e
 
 -- what a function gives has the shape of its type
@@ -141,20 +142,20 @@ found_gift b (Some f) us h =
 
 -- the first of a pair is an iterator
 first_gift : (u : ExprType) → has_type (type_of_first u) ≡ true → HasGift (type_of_first u) (a_value a_stamp)
-first_gift (iterator_and_bool x) h = refl
-first_gift (two_iterators b x) h = refl
+first_gift (types.IteratorAndBool x) h = refl
+first_gift (types.IteratorPair b x) h = refl
 first_gift u h = absurd cc
 
 -- the second is an iterator or a number
 second_gift : (u : ExprType) (gift : Gift) → HasGift u gift → has_type (type_of_second u) ≡ true
     → HasGift (type_of_second u) (a_value (shape_of_second gift))
-second_gift (iterator_and_bool x) gift e h = subst (λ (y : Gift). a_value (shape_of_second y) ≡ a_value a_number) (sym e) refl
-second_gift (two_iterators b x) gift e h = subst (λ (y : Gift). a_value (shape_of_second y) ≡ a_value a_stamp) (sym e) refl
+second_gift (types.IteratorAndBool x) gift e h = subst (λ (y : Gift). a_value (shape_of_second y) ≡ a_value a_number) (sym e) refl
+second_gift (types.IteratorPair b x) gift e h = subst (λ (y : Gift). a_value (shape_of_second y) ≡ a_value a_stamp) (sym e) refl
 second_gift u gift e h = absurd cc
 
 -- a scalar that is handed over is what it is
 handed_gift : (u : ExprType) (x : ℕ) → has_type (handed u) ≡ true → HasGift (handed u) (the_scalar x)
-handed_gift (scalar_type s) x h = (x, refl)
+handed_gift (types.Scalar s) x h = (x, refl)
 handed_gift u x h = absurd cc
 
 -- a left side is read as a number
@@ -171,25 +172,25 @@ left_gift p g (element c ops) k h = only_gift (not (is_arrow c.callee) || is_var
 pub expression_gift : (p : Typed) (g : Scope) (e : Expr) → KnowsText p g → has_type (type_of g e) ≡ true
     → HasGift (type_of g e) (gift_of (lib_signature p) e)
 unfolding type_of
-expression_gift p g (literal s z) k h = only_gift (is_literal s z) (scalar_type s) (a_value a_number) (λ b typed. refl) h
+expression_gift p g (literal s z) k h = only_gift (is_literal s z) (types.Scalar s) (a_value a_number) (λ b typed. refl) h
 expression_gift p g (held l) k h = left_gift p g l k h
 expression_gift p g (iterator x) k h =
     only_gift (is_iterator (variable_type g.iterators x)) (variable_type g.iterators x) (a_value a_stamp)
     (λ b typed. iterator_gift (variable_type g.iterators x) b) h
-expression_gift p g (convert s e) k h = only_gift (is_number (type_of g e)) (scalar_type s) (a_value a_number) (λ b typed. refl) h
+expression_gift p g (convert s e) k h = only_gift (is_number (type_of g e)) (types.Scalar s) (a_value a_number) (λ b typed. refl) h
 expression_gift p g (negate s at e) k h =
-    only_gift (is_arithmetic s && is_scalar s (type_of g e)) (scalar_type s) (a_value a_number) (λ b typed. refl) h
-expression_gift p g (logical_not at e) k h = only_gift (is_number (type_of g e)) (scalar_type t.Bool) (a_value a_number) (λ b typed. refl) h
+    only_gift (is_arithmetic s && is_scalar s (type_of g e)) (types.Scalar s) (a_value a_number) (λ b typed. refl) h
+expression_gift p g (logical_not at e) k h = only_gift (is_number (type_of g e)) (types.Scalar t.Bool) (a_value a_number) (λ b typed. refl) h
 expression_gift p g (logical_and at d e) k h =
-    only_gift (is_number (type_of g d) && is_number (type_of g e)) (scalar_type t.Bool) (a_value a_number) (λ b typed. refl) h
+    only_gift (is_number (type_of g d) && is_number (type_of g e)) (types.Scalar t.Bool) (a_value a_number) (λ b typed. refl) h
 expression_gift p g (logical_or at d e) k h =
-    only_gift (is_number (type_of g d) && is_number (type_of g e)) (scalar_type t.Bool) (a_value a_number) (λ b typed. refl) h
+    only_gift (is_number (type_of g d) && is_number (type_of g e)) (types.Scalar t.Bool) (a_value a_number) (λ b typed. refl) h
 expression_gift p g (arithmetic op s at d e) k h = only_gift (is_arithmetic s && is_scalar s (type_of g d) && is_scalar s (type_of g e))
-    (scalar_type s) (a_value a_number) (λ b typed. refl) h
+    (types.Scalar s) (a_value a_number) (λ b typed. refl) h
 expression_gift p g (comparison op at d e) k h =
-    only_gift (are_comparable (type_of g d) (type_of g e)) (scalar_type t.Bool) (a_value a_number) (λ b typed. refl) h
+    only_gift (are_comparable (type_of g d) (type_of g e)) (types.Scalar t.Bool) (a_value a_number) (λ b typed. refl) h
 expression_gift p g (increment step fix s at l) k h =
-    only_gift (is_arithmetic s && is_scalar s (type_of_left g l) && is_written (type_of_left g l)) (scalar_type s) (a_value a_number)
+    only_gift (is_arithmetic s && is_scalar s (type_of_left g l) && is_written (type_of_left g l)) (types.Scalar s) (a_value a_number)
     (λ b typed. refl) h
 expression_gift p g (move fix x c ops) k h =
     let us = variable_type g.iterators x ∷ types_of g ops in

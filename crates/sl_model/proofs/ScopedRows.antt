@@ -11,28 +11,27 @@ use Rattle.sl_specs.specs.declared.letter.Letter.{Letter}
 use Rattle.sl_specs.specs.declared.letter.Letter.TheVariants as l
 use Rattle.sl_specs.specs.declared.return_type.ReturnType.{ReturnType}
 use Rattle.sl_specs.specs.declared.return_type.ReturnType.TheVariants as r
+use Rattle.sl_specs.specs.Forms.{is_keyed, is_hash}
 use Rattle.sl_specs.specs.Rows.{Row}
 use Rattle.sl_specs.specs.Table.{table, same_call}
 use Rattle.sl_syntax.specs.Written.{is_map}
-use Rattle.sl_model.specs.Memory.Forms.{is_keyed, is_hash}
+use Rattle.sl_typing.specs.declared.expr_type.ExprType.{ExprType}
+use Rattle.sl_typing.specs.declared.expr_type.ExprType.TheVariants as types
+use Rattle.sl_typing.specs.Types.{has_type, only, is_iterator, is_iterator_that, is_writing_iterator, same_iterators}
+use Rattle.sl_typing.specs.Signatures.{one, range, width, first_type, last_type, result_type, row_at, is_output}
 use Rattle.sl_model.specs.LibraryCalls.Values.{Shape, a_number, a_stamp, a_pair, two_stamps, an_element}
 use Rattle.sl_model.specs.LibraryCalls.Rows.{shape_of_return, algorithm_shape}
-use Rattle.sl_model.specs.Typing.WellTypedTypes.{ExprType, empty_type, scalar_type, element_type, iterator_type, iterator_and_bool, two_iterators}
-use Rattle.sl_model.specs.Typing.WellTypedTypes.{has_type, only, is_iterator, is_iterator_that}
-use Rattle.sl_model.specs.Typing.WellTypedTypes.{is_writing_iterator, same_iterators}
-use Rattle.sl_model.specs.Typing.WellTypedCalls.{one, range, fits_letter, width, fits, first_type, last_type}
-use Rattle.sl_model.specs.Typing.WellTypedCalls.{result_type, row_at, is_advance}
-use Rattle.sl_model.specs.Typing.WellTypedCalls.{is_output}
+use Rattle.sl_model.specs.Typing.WellTypedCalls.{fits_letter, fits, is_advance}
 use Rattle.sl_model.proofs.Passing.{first_of_both, second_of_both, three_parts, passes_at}
 
 -- a call of a type gives a value of a shape
 abbrev pub IsShaped : ExprType → Shape → Type 0
-IsShaped empty_type shape = Unit {0}
-IsShaped (scalar_type s) shape = shape ≡ a_number
-IsShaped (element_type w) shape = shape ≡ an_element
-IsShaped (iterator_type b x) shape = shape ≡ a_stamp
-IsShaped (iterator_and_bool x) shape = shape ≡ a_pair
-IsShaped (two_iterators b x) shape = shape ≡ two_stamps
+IsShaped types.Nothing shape = Unit {0}
+IsShaped (types.Scalar s) shape = shape ≡ a_number
+IsShaped (types.Element w) shape = shape ≡ an_element
+IsShaped (types.Iterator b x) shape = shape ≡ a_stamp
+IsShaped (types.IteratorAndBool x) shape = shape ≡ a_pair
+IsShaped (types.IteratorPair b x) shape = shape ≡ two_stamps
 IsShaped u shape = ⊥
 
 -- letters begin with one for an iterator or a range
@@ -94,12 +93,12 @@ row_right n = found_right n (slice_get table n) refl
 
 -- an iterator has the shape of one
 iterator_shaped : (u : ExprType) → is_iterator u ≡ true → IsShaped u a_stamp
-iterator_shaped (iterator_type b x) h = refl
+iterator_shaped (types.Iterator b x) h = refl
 iterator_shaped u h = absurd cc
 
 -- what passes a test on iterators is one
 any_iterator : (test : Bool → Form → Bool) (u : ExprType) → is_iterator_that test u ≡ true → is_iterator u ≡ true
-any_iterator test (iterator_type b x) h = refl
+any_iterator test (types.Iterator b x) h = refl
 any_iterator test u h = absurd cc
 
 -- the first operand of those that begin with one that passes a test on iterators is an iterator

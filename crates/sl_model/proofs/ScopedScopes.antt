@@ -5,6 +5,7 @@ use Rattle.std.specs.List.{list_all}
 use Rattle.std.proofs.lemmas.List.Folds.{list_all-append}
 use Rattle.std.proofs.lemmas.Bool.{and_from}
 use Rattle.sl_base.specs.declared.scalar.Scalar.TheVariants as t
+use Rattle.sl_specs.specs.Forms.{is_keyed}
 use Rattle.sl_syntax.specs.declared.operator.Access.TheVariants as a
 use Rattle.sl_syntax.specs.declared.typed.element.Taken.{Taken}
 use Rattle.sl_syntax.specs.declared.typed.element.Taken.TheVariants as taken
@@ -13,11 +14,12 @@ use Rattle.sl_syntax.specs.declared.typed.parameter.ParameterKind.TheVariants as
 use Rattle.sl_syntax.specs.Typed.{Declaration, unset_scalar, set_scalar, set_iterator, binds_reference, makes, First, no_first, declares_first}
 use Rattle.sl_syntax.specs.Typed.{does_first, Typed, element}
 use Rattle.sl_syntax.specs.Written.{is_map}
-use Rattle.sl_model.specs.Memory.Forms.{is_keyed}
+use Rattle.sl_typing.specs.declared.expr_type.ExprType.{ExprType}
+use Rattle.sl_typing.specs.declared.expr_type.ExprType.TheVariants as types
+use Rattle.sl_typing.specs.Types.{is_const}
 use Rattle.sl_model.specs.Typing.Scoped.{one_scalar, one_container, one_iterator, with_declaration, with_first, with_range}
 use Rattle.sl_model.specs.Typing.Scoped.{with_parameter as counting_parameter, with_parameters as counting_parameters}
-use Rattle.sl_model.specs.Typing.WellTypedTypes.{ExprType, scalar_type, iterator_type, container_type, int_reference, entry_reference, Scope, with_scalar}
-use Rattle.sl_model.specs.Typing.WellTypedTypes.{with_container, with_iterator, is_const}
+use Rattle.sl_model.specs.Typing.WellTypedScopes.{Scope, with_scalar, with_container, with_iterator}
 use Rattle.sl_model.specs.Typing.WellTypedExpressions.{type_of, type_of_left}
 use Rattle.sl_model.specs.Typing.WellTypedStatements.{reference_to, behind, behind_first, may_go_over, in_range, with_parameter, with_parameters}
 use Rattle.sl_model.specs.Typing.WellTypedStatements.{no_variables}
@@ -41,11 +43,11 @@ iterator_counts u g = ap (λ (n : ℕ). record { scalars = length g.scalars; con
 
 -- what is in scope behind a declaration
 pub behind_counts : (d : Declaration) (g : Scope) → scope_counts (behind d g) ≡ with_declaration d (scope_counts g)
-behind_counts (unset_scalar s) g = scalar_counts (scalar_type s) g
-behind_counts (set_scalar s e) g = scalar_counts (scalar_type s) g
+behind_counts (unset_scalar s) g = scalar_counts (types.Scalar s) g
+behind_counts (set_scalar s e) g = scalar_counts (types.Scalar s) g
 behind_counts (set_iterator e) g = iterator_counts (type_of g e) g
 behind_counts (binds_reference c ops) g = iterator_counts (reference_to (type_of_left g (element c ops))) g
-behind_counts (makes form c ops) g = container_counts (container_type a.Whole form) g
+behind_counts (makes form c ops) g = container_counts (types.Container a.Whole form) g
 
 -- behind the first part of a `for`
 pub first_counts : (head : First) (g : Scope) → scope_counts (behind_first head g) ≡ with_first head (scope_counts g)
@@ -60,22 +62,23 @@ two_counts u g = iterator_counts u (with_iterator u g) ∙ ap one_iterator (iter
 -- in a range-for
 pub range_counts : (how : Taken) (u : ExprType) (g : Scope) → may_go_over how u ≡ true
     → scope_counts (in_range how u g) ≡ with_range how (scope_counts g)
-range_counts taken.Value (container_type access x) g h =
-    let u = iterator_type (is_const access) x in
-    scalar_counts (scalar_type t.Int) (with_iterator u (with_iterator u g)) ∙ ap one_scalar (two_counts u g)
-range_counts taken.Reference (container_type access x) g h =
-    let u = iterator_type (is_const access) x in
-    iterator_counts (if is_map x then entry_reference (not (is_const access)) else int_reference (not (is_const access) && not (is_keyed x)))
+range_counts taken.Value (types.Container access x) g h =
+    let u = types.Iterator (is_const access) x in
+    scalar_counts (types.Scalar t.Int) (with_iterator u (with_iterator u g)) ∙ ap one_scalar (two_counts u g)
+range_counts taken.Reference (types.Container access x) g h =
+    let u = types.Iterator (is_const access) x in
+    iterator_counts (if is_map x then types.EntryReference (not (is_const access))
+    else types.IntReference (not (is_const access) && not (is_keyed x)))
     (with_iterator u (with_iterator u g)) ∙ ap one_iterator (two_counts u g)
 range_counts taken.Value u g h = absurd cc
 range_counts taken.Reference u g h = absurd cc
 
 -- behind a parameter
 parameter_counts : (k : ParameterKind) (g : Scope) → scope_counts (with_parameter k g) ≡ counting_parameter k (scope_counts g)
-parameter_counts (parameters.Value s) g = scalar_counts (scalar_type s) g
-parameter_counts (parameters.Reference s) g = scalar_counts (scalar_type s) g
-parameter_counts (parameters.Container access x) g = container_counts (container_type access x) g
-parameter_counts (parameters.Iterator b x) g = iterator_counts (iterator_type b x) g
+parameter_counts (parameters.Value s) g = scalar_counts (types.Scalar s) g
+parameter_counts (parameters.Reference s) g = scalar_counts (types.Scalar s) g
+parameter_counts (parameters.Container access x) g = container_counts (types.Container access x) g
+parameter_counts (parameters.Iterator b x) g = iterator_counts (types.Iterator b x) g
 
 -- behind parameters
 pub parameters_counts : (ks : List ParameterKind) (g : Scope) → scope_counts (with_parameters ks g) ≡ counting_parameters ks (scope_counts g)
@@ -110,11 +113,11 @@ iterator_known p u g k = record { functions = k.functions; scalars = k.scalars; 
 
 -- the scope behind a declaration does
 pub behind_known : (p : Typed) (d : Declaration) (g : Scope) → KnowsText p g → KnowsText p (behind d g)
-behind_known p (unset_scalar s) g k = scalar_known p (scalar_type s) g refl k
-behind_known p (set_scalar s e) g k = scalar_known p (scalar_type s) g refl k
+behind_known p (unset_scalar s) g k = scalar_known p (types.Scalar s) g refl k
+behind_known p (set_scalar s e) g k = scalar_known p (types.Scalar s) g refl k
 behind_known p (set_iterator e) g k = iterator_known p (type_of g e) g k
 behind_known p (binds_reference c ops) g k = iterator_known p (reference_to (type_of_left g (element c ops))) g k
-behind_known p (makes form c ops) g k = container_known p (container_type a.Whole form) g refl k
+behind_known p (makes form c ops) g k = container_known p (types.Container a.Whole form) g refl k
 
 -- the one behind the first part of a `for` does
 pub first_known : (p : Typed) (head : First) (g : Scope) → KnowsText p g → KnowsText p (behind_first head g)
@@ -124,12 +127,13 @@ first_known p (does_first w) g k = k
 
 -- the one in a range-for does
 pub range_known : (p : Typed) (how : Taken) (u : ExprType) (g : Scope) → may_go_over how u ≡ true → KnowsText p g → KnowsText p (in_range how u g)
-range_known p taken.Value (container_type access x) g h k =
-    let u = iterator_type (is_const access) x in
-    scalar_known p (scalar_type t.Int) (with_iterator u (with_iterator u g)) refl (iterator_known p u (with_iterator u g) (iterator_known p u g k))
-range_known p taken.Reference (container_type access x) g h k =
-    let u = iterator_type (is_const access) x in
-    iterator_known p (if is_map x then entry_reference (not (is_const access)) else int_reference (not (is_const access) && not (is_keyed x)))
+range_known p taken.Value (types.Container access x) g h k =
+    let u = types.Iterator (is_const access) x in
+    scalar_known p (types.Scalar t.Int) (with_iterator u (with_iterator u g)) refl (iterator_known p u (with_iterator u g) (iterator_known p u g k))
+range_known p taken.Reference (types.Container access x) g h k =
+    let u = types.Iterator (is_const access) x in
+    iterator_known p (if is_map x then types.EntryReference (not (is_const access))
+    else types.IntReference (not (is_const access) && not (is_keyed x)))
     (with_iterator u (with_iterator u g)) (iterator_known p u (with_iterator u g) (iterator_known p u g k))
 range_known p taken.Value u g h k = absurd cc
 range_known p taken.Reference u g h k = absurd cc
@@ -138,13 +142,13 @@ range_known p taken.Reference u g h k = absurd cc
 pub parameters_known : (p : Typed) (ks : List ParameterKind) (g : Scope) → KnowsText p g → KnowsText p (with_parameters ks g)
 parameters_known p [] g k = k
 parameters_known p (parameters.Value s ∷ ks) g k =
-    parameters_known p ks (with_parameter (parameters.Value s) g) (scalar_known p (scalar_type s) g refl k)
+    parameters_known p ks (with_parameter (parameters.Value s) g) (scalar_known p (types.Scalar s) g refl k)
 parameters_known p (parameters.Reference s ∷ ks) g k =
-    parameters_known p ks (with_parameter (parameters.Reference s) g) (scalar_known p (scalar_type s) g refl k)
+    parameters_known p ks (with_parameter (parameters.Reference s) g) (scalar_known p (types.Scalar s) g refl k)
 parameters_known p (parameters.Container access x ∷ ks) g k =
-    parameters_known p ks (with_parameter (parameters.Container access x) g) (container_known p (container_type access x) g refl k)
+    parameters_known p ks (with_parameter (parameters.Container access x) g) (container_known p (types.Container access x) g refl k)
 parameters_known p (parameters.Iterator b x ∷ ks) g k =
-    parameters_known p ks (with_parameter (parameters.Iterator b x) g) (iterator_known p (iterator_type b x) g k)
+    parameters_known p ks (with_parameter (parameters.Iterator b x) g) (iterator_known p (types.Iterator b x) g k)
 
 -- the scope before parameters does
 pub none_known : (p : Typed) → KnowsText p (no_variables p)

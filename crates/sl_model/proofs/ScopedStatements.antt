@@ -9,13 +9,15 @@ use Rattle.sl_syntax.specs.Typed.{Expr, element, Cond, read, not_read, test, alw
 use Rattle.sl_syntax.specs.Typed.{prints, evaluates, assigns, updates, moves_to, Declaration, unset_scalar, set_scalar, set_iterator, binds_reference}
 use Rattle.sl_syntax.specs.Typed.{makes, First, no_first, declares_first, does_first, Stmt, block, declares, choice, choice_else, while, for}
 use Rattle.sl_syntax.specs.Typed.{range_for, break, continue, gives_back, does, Stmts, no_more, followed, Typed}
+use Rattle.sl_typing.specs.declared.expr_type.ExprType.{ExprType}
+use Rattle.sl_typing.specs.declared.expr_type.ExprType.TheVariants as types
+use Rattle.sl_typing.specs.Types.{has_type, is_scalar, is_number, is_written, is_iterator, same_iterators}
 use Rattle.sl_model.specs.Runs.Good.{AreBelow}
 use Rattle.sl_model.specs.LibraryCalls.Values.{a_stamp}
 use Rattle.sl_model.specs.Typing.Shapes.{Gift, a_value, shape_of_result, gift_of}
 use Rattle.sl_model.specs.Typing.Scoped.{Counts, HasObject, InExpr, InCond, InPrinted, InPrint, InEffect, InDeclaration, InFirst, InLast, AsksWell, IsPart}
 use Rattle.sl_model.specs.Typing.Scoped.{GivesBack, InStmt, InStmts}
-use Rattle.sl_model.specs.Typing.WellTypedTypes.{ExprType, no_type, scalar_type, element_type, iterator_type, Scope, is_within, variable_type, has_type}
-use Rattle.sl_model.specs.Typing.WellTypedTypes.{is_scalar, is_number, is_written, works_in, is_iterator, same_iterators}
+use Rattle.sl_model.specs.Typing.WellTypedScopes.{Scope, is_within, variable_type, works_in}
 use Rattle.sl_model.specs.Typing.WellTypedExpressions.{goes_to, type_given, type_of, type_of_left, types_of}
 use Rattle.sl_model.specs.Typing.WellTypedNodes.{nodes_in, nodes_in_left, nodes_in_operands, nodes_in_value, nodes_in_cond, nodes_in_printed}
 use Rattle.sl_model.specs.Typing.WellTypedNodes.{nodes_in_effect, nodes_in_last, nodes_in_declaration, nodes_in_first, nodes_in_stmt, nodes_in_stmts}
@@ -35,7 +37,7 @@ use Rattle.sl_model.proofs.ScopedExpressions.{AreFree, free_before, free_behind,
 use Rattle.sl_model.proofs.ScopedScopes.{behind_counts, first_counts, range_counts, behind_known, first_known, range_known}
 
 -- an expression whose type passes a test uses what is in scope
-passing-scoped : (p : Typed) (g : Scope) (e : Expr) (passes : ExprType → Bool) → passes no_type ≡ false → KnowsText p g → AreFree (nodes_in e)
+passing-scoped : (p : Typed) (g : Scope) (e : Expr) (passes : ExprType → Bool) → passes types.Wrong ≡ false → KnowsText p g → AreFree (nodes_in e)
     → passes (type_of g e) ≡ true → InExpr (lib_signature p) (scope_counts g) e
 passing-scoped p g e passes n k free h = expression-scoped p g e k free (typed_by passes n (type_of g e) h)
 
@@ -72,12 +74,12 @@ print-scoped p g (item ∷ items) k n h = (
 
 -- an iterator gives a stamp
 iterator_given : (u : ExprType) (gift : Gift) → HasGift u gift → is_iterator u ≡ true → gift ≡ a_value a_stamp
-iterator_given (iterator_type b x) gift e h = e
+iterator_given (types.Iterator b x) gift e h = e
 iterator_given u gift e h = absurd cc
 
 -- the second of two iterators of one type is one
 pub second_is_iterator : (u v : ExprType) → same_iterators u v ≡ true → is_iterator v ≡ true
-second_is_iterator (iterator_type b x) (iterator_type c y) h = refl
+second_is_iterator (types.Iterator b x) (types.Iterator c y) h = refl
 second_is_iterator u v h = absurd cc
 
 -- an expression that is an iterator gives a stamp
@@ -147,10 +149,10 @@ first-scoped p g (does_first w) k n h = effect-scoped p g w k n h
 -- what is given back has the shape that is due
 return_given : (k : ParameterKind) (u : ExprType) (gift : Gift) → HasGift u gift → has_type (type_given (Some k)) ≡ true → goes_to k u ≡ true
     → gift ≡ a_value (shape_of_result (Some k))
-return_given (parameters.Value s) (scalar_type r) gift e t h = e
-return_given (parameters.Value s) (element_type w) gift e t h = e
+return_given (parameters.Value s) (types.Scalar r) gift e t h = e
+return_given (parameters.Value s) (types.Element w) gift e t h = e
 return_given (parameters.Value s) u gift e t h = absurd cc
-return_given (parameters.Iterator b x) (iterator_type c y) gift e t h = e
+return_given (parameters.Iterator b x) (types.Iterator c y) gift e t h = e
 return_given (parameters.Iterator b x) u gift e t h = absurd cc
 return_given k u gift e t h = absurd cc
 

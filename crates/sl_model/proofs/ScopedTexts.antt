@@ -5,10 +5,11 @@ use Rattle.sl_base.specs.declared.scalar.Scalar.TheVariants as t
 use Rattle.sl_syntax.specs.declared.typed.parameter.ParameterKind.{ParameterKind}
 use Rattle.sl_syntax.specs.declared.typed.parameter.ParameterKind.TheVariants as parameters
 use Rattle.sl_syntax.specs.Typed.{Function, Typed}
+use Rattle.sl_typing.specs.Types.{has_type, is_scalar}
 use Rattle.sl_model.specs.LibraryCalls.Values.{a_number}
 use Rattle.sl_model.specs.Typing.Shapes.{shape_of_result, lib_shape, lib_makes}
 use Rattle.sl_model.specs.Typing.Scoped.{Counts, InStmt, IsScopedFunction, IsScoped}
-use Rattle.sl_model.specs.Typing.WellTypedTypes.{is_within, has_type, is_scalar}
+use Rattle.sl_model.specs.Typing.WellTypedScopes.{is_within}
 use Rattle.sl_model.specs.Typing.WellTypedExpressions.{type_given}
 use Rattle.sl_model.specs.Typing.WellTypedNodes.{nodes_in_stmt}
 use Rattle.sl_model.specs.Typing.WellTypedOrder.{binds_apart}

@@ -13,18 +13,18 @@ use Rattle.sl_base.specs.declared.scalar.Scalar.{Scalar}
 use Rattle.sl_base.specs.declared.scalar.Scalar.TheVariants as t
 use Rattle.sl_specs.specs.declared.letter.Letter.{Letter}
 use Rattle.sl_specs.specs.declared.letter.Letter.TheVariants as l
-use Rattle.sl_specs.specs.Forms.{same_form}
+use Rattle.sl_specs.specs.Forms.{same_form, is_keyed}
 use Rattle.sl_syntax.specs.declared.operator.Access.TheVariants as a
+use Rattle.sl_typing.specs.declared.expr_type.ExprType.{ExprType}
+use Rattle.sl_typing.specs.declared.expr_type.ExprType.TheVariants as types
+use Rattle.sl_typing.specs.Types.{is_scalar, is_iterator, is_iterator_that, is_iterator_of, is_writing_iterator, same_iterators, is_container_of}
+use Rattle.sl_typing.specs.Types.{is_changed_container, is_int_iterator, is_bidirectional, is_random}
+use Rattle.sl_typing.specs.Signatures.{one, optional, range, elements, width, appending}
 use Rattle.sl_model.specs.Memory.Containers.{Cont, Memory, locate}
-use Rattle.sl_model.specs.Memory.Forms.{is_keyed}
 use Rattle.sl_model.specs.LibraryCalls.Operands.{Sort, a_number, numbers, perhaps_a_number, an_iterator, a_writer, a_container, a_sequence, sorts_of, all_sorts}
 use Rattle.sl_model.specs.LibraryCalls.Operands.{is_number, all_numbers, is_of_form, is_sequence, stands_in_sequence, is_of, are_of}
 use Rattle.sl_model.specs.LibraryCalls.Values.{Value, number, iterator, container_at}
-use Rattle.sl_model.specs.Typing.WellTypedTypes.{ExprType, scalar_type, element_type, iterator_type}
-use Rattle.sl_model.specs.Typing.WellTypedTypes.{container_type, is_scalar, is_iterator, is_iterator_that, is_iterator_of}
-use Rattle.sl_model.specs.Typing.WellTypedTypes.{is_writing_iterator, same_iterators, is_container_of, is_changed_container}
-use Rattle.sl_model.specs.Typing.WellTypedCalls.{one, optional, range, elements, is_int_iterator, is_bidirectional, is_random, fits_letter, width, fits}
-use Rattle.sl_model.specs.Typing.WellTypedCalls.{appending}
+use Rattle.sl_model.specs.Typing.WellTypedCalls.{fits_letter, fits}
 use Rattle.sl_model.proofs.Called.{one_form}
 use Rattle.sl_model.proofs.Fitting.{forms_of, StampFits, IsNumber, IsIteratorOf, IsContainerOf, Fits, AllFit}
 use Rattle.sl_model.proofs.Getting.{got_map}
@@ -48,8 +48,8 @@ one_number v h = absurd h
 
 -- what is of a type of numbers is a number
 pub scalar_fits : (m : Memory) (s : Scalar) (u : ExprType) (v : Value) → is_scalar s u ≡ true → Fits m u v → IsNumber v
-scalar_fits m s (scalar_type r) v h fit = fit
-scalar_fits m s (element_type w) v h fit = fit
+scalar_fits m s (types.Scalar r) v h fit = fit
+scalar_fits m s (types.Element w) v h fit = fit
 scalar_fits m s u v h fit = absurd cc
 
 -- so it is of the sort of numbers
@@ -64,7 +64,7 @@ iterator_of m form v h = absurd h
 -- so is what is of a type of iterators
 pub iterator_fits : (m : Memory) (test : Bool → Form → Bool) (u : ExprType) (v : Value) → is_iterator_that test u ≡ true → Fits m u v
     → is_of m an_iterator v ≡ true
-iterator_fits m test (iterator_type b x) v h fit = iterator_of m x v fit
+iterator_fits m test (types.Iterator b x) v h fit = iterator_of m x v fit
 iterator_fits m test u v h fit = absurd cc
 
 -- an iterator of a form without keys stands in a sequence, where it stands
@@ -86,7 +86,7 @@ writer_of m form v plain h = absurd h
 
 -- what is of a type of iterators that write is of that sort
 writer_fits : (m : Memory) (u : ExprType) (v : Value) → is_writing_iterator u ≡ true → Fits m u v → is_of m a_writer v ≡ true
-writer_fits m (iterator_type b x) v h fit = writer_of m x v (second_of_both (not b) (not (is_keyed x)) h) fit
+writer_fits m (types.Iterator b x) v h fit = writer_of m x v (second_of_both (not b) (not (is_keyed x)) h) fit
 writer_fits m u v h fit = absurd cc
 
 -- a form is itself
@@ -123,20 +123,20 @@ container_as m form x v same h = container_of m form v (subst (λ (y : Form). Is
 -- what is of a type of containers of a form is of the sort of these
 container_fits : (m : Memory) (form : Form) (u : ExprType) (v : Value) → is_container_of form u ≡ true → Fits m u v
     → is_of m (a_container form) v ≡ true
-container_fits m form (container_type a.Elements x) v h fit = absurd cc
-container_fits m form (container_type access x) v h fit = container_as m form x v h fit
+container_fits m form (types.Container a.Elements x) v h fit = absurd cc
+container_fits m form (types.Container access x) v h fit = container_as m form x v h fit
 container_fits m form u v h fit = absurd cc
 
 -- so is what may be changed
 changed_fits : (m : Memory) (form : Form) (u : ExprType) (v : Value) → is_changed_container (same_form form) u ≡ true → Fits m u v
     → is_of m (a_container form) v ≡ true
-changed_fits m form (container_type a.Whole x) v h fit = container_as m form x v h fit
+changed_fits m form (types.Container a.Whole x) v h fit = container_as m form x v h fit
 changed_fits m form u v h fit = absurd cc
 
 -- what may be appended to is of the sort of sequences
 appended_fits : (m : Memory) (u : ExprType) (v : Value) → is_changed_container (λ x. not (is_keyed x)) u ≡ true → Fits m u v
     → is_of m a_sequence v ≡ true
-appended_fits m (container_type a.Whole x) v h fit = sequence_of m x v h fit
+appended_fits m (types.Container a.Whole x) v h fit = sequence_of m x v h fit
 appended_fits m u v h fit = absurd cc
 
 -- a value of a sort before values of their sorts
@@ -160,12 +160,12 @@ one_of m test sort sorts (u ∷ us) (v ∷ vs) each h fit others = more_of m sor
 
 -- the second of two iterators of one type is an iterator
 pub second_of : (m : Memory) (u w : ExprType) (v : Value) → same_iterators u w ≡ true → Fits m w v → is_of m an_iterator v ≡ true
-second_of m (iterator_type b x) (iterator_type c y) v h fit = iterator_of m y v fit
+second_of m (types.Iterator b x) (types.Iterator c y) v h fit = iterator_of m y v fit
 second_of m u w v h fit = absurd cc
 
 -- so is the first
 pub first_of : (m : Memory) (u w : ExprType) (v : Value) → same_iterators u w ≡ true → Fits m u v → is_of m an_iterator v ≡ true
-first_of m (iterator_type b x) w v h fit = iterator_of m x v fit
+first_of m (types.Iterator b x) w v h fit = iterator_of m x v fit
 first_of m u w v h fit = absurd cc
 
 -- the two ends of a range are of their sorts, and the others are of theirs

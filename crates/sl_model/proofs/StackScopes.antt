@@ -4,10 +4,12 @@ use Rattle.std.specs.Prelude.{slice_get, slice_index, slice_index_or}
 use Rattle.std.proofs.lemmas.Option.{get_or_from_slice_get}
 use Rattle.sl_base.specs.declared.form.Form.{Form}
 use Rattle.sl_base.specs.declared.scalar.Scalar.{Scalar}
+use Rattle.sl_typing.specs.declared.expr_type.ExprType.{ExprType}
+use Rattle.sl_typing.specs.declared.expr_type.ExprType.TheVariants as types
+use Rattle.sl_typing.specs.Types.{has_type}
 use Rattle.sl_model.specs.Memory.Containers.{Memory}
 use Rattle.sl_model.specs.Runs.State.{Pointer, iterator_at, reference_to, mark_in}
-use Rattle.sl_model.specs.Typing.WellTypedTypes.{ExprType, scalar_type, element_type, iterator_type, container_type, int_reference, entry_reference}
-use Rattle.sl_model.specs.Typing.WellTypedTypes.{variable_type, has_type}
+use Rattle.sl_model.specs.Typing.WellTypedScopes.{variable_type}
 use Rattle.sl_model.proofs.Getting.{get_left, get_within, get_behind}
 use Rattle.sl_model.proofs.Fitting.{StampFits}
 use Rattle.sl_model.proofs.StackTypes.{Kind, iterator_of, a_reference, Stack, Holds, Lies, AreNumbers, ContFits, ContsFit, IterFits, ItersFit}
@@ -32,20 +34,20 @@ iters_at ks (u ∷ us) (l ∷ ls) (suc x) h low = iters_at ks us ls x h.1 (omega
 
 -- a type is that of a number
 abbrev pub IsNumberType : ExprType → Type 0
-IsNumberType (scalar_type s) = Unit {0}
-IsNumberType (element_type w) = Unit {0}
+IsNumberType (types.Scalar s) = Unit {0}
+IsNumberType (types.Element w) = Unit {0}
 IsNumberType u = ⊥
 
 -- the type of a scalar that is there is
 pub scalars_at : (us : List ExprType) (x : ℕ) → AreNumbers us → has_type (variable_type us x) ≡ true → IsNumberType (variable_type us x)
 scalars_at [] x h t = absurd (cc)
-scalars_at (scalar_type s ∷ us) zero h t = tt
-scalars_at (scalar_type s ∷ us) (suc x) h t = scalars_at us x h t
+scalars_at (types.Scalar s ∷ us) zero h t = tt
+scalars_at (types.Scalar s ∷ us) (suc x) h t = scalars_at us x h t
 scalars_at (u ∷ us) x h t = absurd h
 
 -- a container of a form goes on to be so where there are more
 cont_more : (fs more : List Form) (u : ExprType) (l : ℕ) → ContFits fs u l → ContFits (fs ++ more) u l
-cont_more fs more (container_type access form) l h = get_left fs more l (get_within fs l form h) ∙ h
+cont_more fs more (types.Container access form) l h = get_left fs more l (get_within fs l form h) ∙ h
 cont_more fs more u l h = h
 
 -- and so do all of these
@@ -70,9 +72,9 @@ conts_new fs us ls form u l new h = conts_with (fs ++ form ∷ []) us ls u l new
 
 -- an iterator or a reference goes on to be of its kind where there are more
 iter_more : (ks more : List Kind) (u : ExprType) (l : ℕ) → IterFits ks u l → IterFits (ks ++ more) u l
-iter_more ks more (iterator_type b form) l h = get_left ks more l (get_within ks l (iterator_of form) h) ∙ h
-iter_more ks more (int_reference w) l h = get_left ks more l (get_within ks l a_reference h) ∙ h
-iter_more ks more (entry_reference w) l h = get_left ks more l (get_within ks l a_reference h) ∙ h
+iter_more ks more (types.Iterator b form) l h = get_left ks more l (get_within ks l (iterator_of form) h) ∙ h
+iter_more ks more (types.IntReference w) l h = get_left ks more l (get_within ks l a_reference h) ∙ h
+iter_more ks more (types.EntryReference w) l h = get_left ks more l (get_within ks l a_reference h) ∙ h
 iter_more ks more u l h = h
 
 -- a new iterator or reference comes into scope
@@ -84,9 +86,9 @@ iters_new ks (v ∷ us) [] k u l new h = absurd h
 iters_new ks (v ∷ us) (j ∷ ls) k u l new h = (iter_more ks (k ∷ []) v j h.0, iters_new ks us ls k u l new h.1)
 
 -- a scalar comes into scope
-pub numbers_with : (us : List ExprType) (s : Scalar) → AreNumbers us → AreNumbers (us ++ scalar_type s ∷ [])
+pub numbers_with : (us : List ExprType) (s : Scalar) → AreNumbers us → AreNumbers (us ++ types.Scalar s ∷ [])
 numbers_with [] s h = tt
-numbers_with (scalar_type r ∷ us) s h = numbers_with us s h
+numbers_with (types.Scalar r ∷ us) s h = numbers_with us s h
 numbers_with (u ∷ us) s h = absurd h
 
 -- the last of a list with one more is what was added

@@ -6,14 +6,15 @@ use Rattle.std.specs.Prelude.{ℤ, slice_get}
 use Rattle.std.specs.List.{slice_set}
 use Rattle.std.proofs.lemmas.List.{length-map}
 use Rattle.sl_base.specs.declared.form.Form.{Form}
+use Rattle.sl_typing.specs.declared.expr_type.ExprType.{ExprType}
+use Rattle.sl_typing.specs.declared.expr_type.ExprType.TheVariants as types
 use Rattle.sl_model.specs.Memory.Containers.{Cont, Memory, write_element, end_from}
 use Rattle.sl_model.specs.LibraryCalls.Values.{Value, iterator, pair, two, scalar_at, container_at, element_at}
 use Rattle.sl_model.specs.Runs.Ends.{End, NoMeaning}
 use Rattle.sl_model.specs.Runs.Eval.{write_at}
 use Rattle.sl_model.specs.Runs.State.{Pointer, iterator_at, reference_to, State, set_scalar_at, mark_in}
 use Rattle.sl_model.specs.Runs.Good.{IsGood, AreBelow}
-use Rattle.sl_model.specs.Typing.WellTypedTypes.{ExprType, empty_type, scalar_type, element_type, iterator_type, iterator_and_bool, two_iterators}
-use Rattle.sl_model.specs.Typing.WellTypedTypes.{container_type, handed_type, int_reference, entry_reference, Scope}
+use Rattle.sl_model.specs.Typing.WellTypedScopes.{Scope}
 use Rattle.sl_model.proofs.Getting.{get_some, get_left, get_within, get_map}
 use Rattle.sl_model.proofs.Fitting.{forms_of, StampFits, KeepsForms, Fits, IsIteratorOf, IsPairOf, AreTwoOf, IsContainerOf}
 use Rattle.sl_model.proofs.FormsAfter.{write-forms, ended-forms, ended-fits}
@@ -65,12 +66,12 @@ HasMeaning e = Unit {0}
 -- each of these is the type of a number
 abbrev pub AreNumbers : List ExprType → Type 0
 AreNumbers [] = Unit {0}
-AreNumbers (scalar_type s ∷ us) = AreNumbers us
+AreNumbers (types.Scalar s ∷ us) = AreNumbers us
 AreNumbers (u ∷ us) = ⊥
 
 -- a container of a type has its form where it is
 abbrev pub ContFits : List Form → ExprType → ℕ → Type 0
-ContFits fs (container_type access form) l = slice_get fs l ≡ Some form
+ContFits fs (types.Container access form) l = slice_get fs l ≡ Some form
 ContFits fs u l = ⊥
 
 -- each of these containers does
@@ -81,9 +82,9 @@ ContsFit fs us ls = ⊥
 
 -- an iterator or a reference of a type is where one of its kind is
 abbrev pub IterFits : List Kind → ExprType → ℕ → Type 0
-IterFits ks (iterator_type b form) l = slice_get ks l ≡ Some (iterator_of form)
-IterFits ks (int_reference w) l = slice_get ks l ≡ Some a_reference
-IterFits ks (entry_reference w) l = slice_get ks l ≡ Some a_reference
+IterFits ks (types.Iterator b form) l = slice_get ks l ≡ Some (iterator_of form)
+IterFits ks (types.IntReference w) l = slice_get ks l ≡ Some a_reference
+IterFits ks (types.EntryReference w) l = slice_get ks l ≡ Some a_reference
 IterFits ks u l = ⊥
 
 -- each of these is
@@ -136,14 +137,14 @@ container_later m later form v keep h = h
 -- what fits a type goes on to fit it
 pub fits_later : (n : ℕ) (m later : Memory) (u : ExprType) (v : Value) → StampsGoOn n m later → FormsGoOn m later → IsUsed n v → Fits m u v
     → Fits later u v
-fits_later n m later empty_type v keep forms used h = h
-fits_later n m later (scalar_type s) v keep forms used h = h
-fits_later n m later (element_type w) v keep forms used h = h
-fits_later n m later (iterator_type b form) v keep forms used h = iterator_later n m later form v keep used h
-fits_later n m later (iterator_and_bool form) v keep forms used h = pair_later n m later form v keep used h
-fits_later n m later (two_iterators b form) v keep forms used h = two_later n m later form v keep used h
-fits_later n m later (container_type access form) v keep forms used h = container_later m later form v forms h
-fits_later n m later (handed_type s) v keep forms used h = h
+fits_later n m later types.Nothing v keep forms used h = h
+fits_later n m later (types.Scalar s) v keep forms used h = h
+fits_later n m later (types.Element w) v keep forms used h = h
+fits_later n m later (types.Iterator b form) v keep forms used h = iterator_later n m later form v keep used h
+fits_later n m later (types.IteratorAndBool form) v keep forms used h = pair_later n m later form v keep used h
+fits_later n m later (types.IteratorPair b form) v keep forms used h = two_later n m later form v keep used h
+fits_later n m later (types.Container access form) v keep forms used h = container_later m later form v forms h
+fits_later n m later (types.Handed s) v keep forms used h = h
 fits_later n m later u v keep forms used h = h
 
 -- what is held goes on to be of its kind, where the stamp that is held goes on to fit

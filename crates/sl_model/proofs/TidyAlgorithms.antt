@@ -5,11 +5,11 @@ use Rattle.sl_base.specs.declared.form.Form.TheVariants as f
 use Rattle.sl_specs.specs.declared.call.Call.{Call}
 use Rattle.sl_specs.specs.declared.call.Call.TheVariants as c
 use Rattle.sl_specs.specs.declared.need.Need.TheVariants as n
+use Rattle.sl_specs.specs.Forms.{is_keyed}
 use Rattle.sl_specs.specs.Rows.{Row as TableRow}
 use Rattle.sl_specs.specs.AlgorithmRows.{algorithm_rows}
 use Rattle.sl_syntax.specs.declared.typed.operator.Operator.{Operator}
 use Rattle.sl_model.specs.Memory.Containers.{cont_at}
-use Rattle.sl_model.specs.Memory.Forms.{is_keyed}
 use Rattle.sl_model.specs.LibraryCalls.Values.{Value, nothing, number, iterator, pair, two, scalar_at, container_at, element_at}
 use Rattle.sl_model.specs.LibraryCalls.Situation.{Situation, own, place_of}
 use Rattle.sl_model.specs.LibraryCalls.Operands.{Sort, a_number, an_iterator, all_sorts, are_of, a_writer, a_sequence, is_of, written_keys}

@@ -3,10 +3,10 @@ use Rattle.std.proofs.Common.{◌≡◌, ℕ, ◌+◌, ◌≤◌, ◌==◌, Bool
 use Rattle.std.proofs.Common.{inl, inr, if◌then◌else◌, pos, take, drop}
 use Rattle.std.specs.Prelude.{nat_lt, slice_get}
 use Rattle.sl_base.specs.declared.form.Form.{Form}
+use Rattle.sl_specs.specs.Forms.{is_hash, is_keyed}
 use Rattle.sl_specs.specs.ContainerLines.{container_lines}
 use Rattle.sl_specs.specs.MultiLines.{multi_lines}
 use Rattle.sl_model.specs.Memory.Containers.{size, items}
-use Rattle.sl_model.specs.Memory.Forms.{is_hash, is_keyed}
 use Rattle.sl_model.specs.LibraryCalls.Operands.{an_iterator, is_of_form}
 use Rattle.sl_model.specs.Memory.Orderly.{IsOrderlyCont, IsOrderly}
 use Rattle.sl_model.specs.Memory.Rearrangements.{arranged, exchanged, received, given, moved_order}

@@ -8,10 +8,9 @@ use Rattle.sl_base.specs.declared.form.Form.{Form}
 use Rattle.sl_base.specs.declared.form.Form.TheVariants as f
 use Rattle.sl_base.specs.declared.scalar.Scalar.TheVariants as t
 use Rattle.sl_specs.specs.declared.class.Class.{Class}
-use Rattle.sl_specs.specs.Forms.{same_form}
+use Rattle.sl_specs.specs.Forms.{same_form, is_keyed}
 use Rattle.sl_specs.specs.Rows.{Line, row_of as row_of_line, class_on}
 use Rattle.sl_model.specs.Memory.Containers.{Cell, Cont, Memory, cont_at, keys, items}
-use Rattle.sl_model.specs.Memory.Forms.{is_keyed}
 use Rattle.sl_model.specs.Numbers.{converted, fits}
 use Rattle.sl_model.specs.LibraryCalls.Needs.{first_failure}
 use Rattle.sl_model.specs.LibraryCalls.Operands.{Sort, a_writer, is_of, are_of, is_sequence, stands_in_sequence}

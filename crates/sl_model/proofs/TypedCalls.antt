@@ -8,38 +8,38 @@ use Rattle.sl_base.specs.declared.form.Form.TheVariants as f
 use Rattle.sl_base.specs.declared.scalar.Scalar.TheVariants as t
 use Rattle.sl_specs.specs.declared.letter.Letter.{Letter}
 use Rattle.sl_specs.specs.declared.letter.Letter.TheVariants as l
-use Rattle.sl_specs.specs.Forms.{same_form, same_object}
+use Rattle.sl_specs.specs.Forms.{same_form, same_object, is_keyed, is_random_access}
 use Rattle.sl_specs.specs.Rows.{Row}
 use Rattle.sl_syntax.specs.declared.operator.Comparison.{Comparison}
 use Rattle.sl_syntax.specs.declared.typed.callee.Callee.{Callee}
 use Rattle.sl_syntax.specs.declared.typed.callee.Callee.TheVariants as callees
 use Rattle.sl_syntax.specs.declared.typed.operator.Operator.{Operator}
 use Rattle.sl_syntax.specs.declared.typed.operator.Operator.TheVariants as operators
-use Rattle.sl_model.specs.Memory.Forms.{is_keyed, is_random_access}
-use Rattle.sl_model.specs.Typing.WellTypedTypes.{ExprType, no_type, empty_type, scalar_type, iterator_type}
-use Rattle.sl_model.specs.Typing.WellTypedTypes.{container_type, Scope, variable_type, has_type, only, is_scalar}
-use Rattle.sl_model.specs.Typing.WellTypedTypes.{is_iterator, is_iterator_of, is_writing_iterator, same_iterators, is_const}
-use Rattle.sl_model.specs.Typing.WellTypedTypes.{is_container_of, is_changed_container}
-use Rattle.sl_model.specs.Typing.WellTypedCalls.{is_int_iterator, is_bidirectional}
+use Rattle.sl_typing.specs.declared.expr_type.ExprType.{ExprType}
+use Rattle.sl_typing.specs.declared.expr_type.ExprType.TheVariants as types
+use Rattle.sl_typing.specs.Types.{has_type, only, is_scalar, is_iterator, is_iterator_of, is_writing_iterator, same_iterators, is_const}
+use Rattle.sl_typing.specs.Types.{is_container_of, is_changed_container, is_int_iterator, is_bidirectional, is_random}
+use Rattle.sl_typing.specs.Signatures.{one, optional, range, elements, width, row_at, is_constructor, is_algorithm, is_output, appending, result_type}
+use Rattle.sl_typing.specs.Signatures.{is_equality}
+use Rattle.sl_model.specs.Typing.WellTypedScopes.{Scope, variable_type}
+use Rattle.sl_model.specs.Typing.WellTypedCalls.{fits_letter, fits, operator_type, call_type, row_type, member_type, algorithm_type, appending_type}
+use Rattle.sl_model.specs.Typing.WellTypedCalls.{constructs, may_be_called}
 use Rattle.std.proofs.lemmas.List.{take_all}
 use Rattle.std.proofs.lemmas.Bool.{and_from}
-use Rattle.sl_model.specs.Typing.WellTypedCalls.{one, optional, range, elements, fits_letter, width, fits, operator_type, call_type, row_type, member_type}
-use Rattle.sl_model.specs.Typing.WellTypedCalls.{algorithm_type, appending_type, constructs, row_at}
-use Rattle.sl_model.specs.Typing.WellTypedCalls.{is_constructor, may_be_called, is_algorithm, is_output, appending, result_type, is_equality, is_random}
 use Rattle.sl_model.specs.Typing.WellTypedStatements.{is_making}
 use Rattle.sl_model.proofs.Passing.{first_of_both, second_of_both, first_of_neither, second_of_neither}
 use Rattle.sl_model.proofs.TypedOperands.{typed_by, only_holds, only_rest, all_typed, fitting_typed, second_iterator_typed}
 
 -- the second operand of an operator has a type where the first is an iterator and the call has one
-two_typed : (b : Bool) (x : Form) (test : ExprType → Bool) → test no_type ≡ false → (c : Bool) (u w : ExprType)
+two_typed : (b : Bool) (x : Form) (test : ExprType → Bool) → test types.Wrong ≡ false → (c : Bool) (u w : ExprType)
     → has_type (only (c && test u) w) ≡ true
-    → all_typed (iterator_type b x ∷ u ∷ []) ≡ true
+    → all_typed (types.Iterator b x ∷ u ∷ []) ≡ true
 two_typed b x test n c u w h =
     and_from (has_type u) true (typed_by test n u (second_of_both c (test u) (only_holds (c && test u) w h))) refl
 
 -- the first of two iterators of one type has a type
 pub first_iterator_typed : (u v : ExprType) → same_iterators u v ≡ true → has_type u ≡ true
-first_iterator_typed no_type v h = absurd cc
+first_iterator_typed types.Wrong v h = absurd cc
 first_iterator_typed u v h = refl
 
 -- two iterators that are compared have types
@@ -47,25 +47,26 @@ compared_typed : (o : Comparison) (u v : ExprType) → has_type (operator_type (
     → all_typed (u ∷ v ∷ []) ≡ true
 compared_typed o u v h =
     let same = first_of_both (same_iterators u v) (if is_equality o then true else is_random u)
-    (only_holds (same_iterators u v && (if is_equality o then true else is_random u)) (scalar_type t.Bool) h) in
+    (only_holds (same_iterators u v && (if is_equality o then true else is_random u)) (types.Scalar t.Bool) h) in
     and_from (has_type u) (has_type v && true) (first_iterator_typed u v same) (and_from (has_type v) true (second_iterator_typed u v same) refl)
 
 -- the operands of an operator that has a type have types
 operator_operands_typed : (o : Operator) (us : List ExprType) → has_type (operator_type o us) ≡ true → all_typed us ≡ true
-operator_operands_typed operators.Dereference (iterator_type b x ∷ []) h = refl
-operator_operands_typed operators.ArrowFirst (iterator_type b x ∷ []) h = refl
-operator_operands_typed operators.ArrowSecond (iterator_type b x ∷ []) h = refl
-operator_operands_typed operators.Increment (iterator_type b x ∷ []) h = refl
-operator_operands_typed operators.Decrement (iterator_type b x ∷ []) h = refl
-operator_operands_typed operators.Add (iterator_type b x ∷ u ∷ []) h =
-    two_typed b x (is_scalar t.Diff) refl (is_random_access x) u (iterator_type b x) h
-operator_operands_typed operators.Subtract (iterator_type b x ∷ u ∷ []) h =
-    two_typed b x (is_scalar t.Diff) refl (is_random_access x) u (iterator_type b x) h
-operator_operands_typed operators.AddAssign (iterator_type b x ∷ u ∷ []) h = two_typed b x (is_scalar t.Diff) refl (is_random_access x) u empty_type h
-operator_operands_typed operators.SubtractAssign (iterator_type b x ∷ u ∷ []) h =
-    two_typed b x (is_scalar t.Diff) refl (is_random_access x) u empty_type h
-operator_operands_typed operators.Difference (iterator_type b x ∷ u ∷ []) h =
-    two_typed b x (is_iterator_of x) refl (is_random_access x) u (scalar_type t.Diff) h
+operator_operands_typed operators.Dereference (types.Iterator b x ∷ []) h = refl
+operator_operands_typed operators.ArrowFirst (types.Iterator b x ∷ []) h = refl
+operator_operands_typed operators.ArrowSecond (types.Iterator b x ∷ []) h = refl
+operator_operands_typed operators.Increment (types.Iterator b x ∷ []) h = refl
+operator_operands_typed operators.Decrement (types.Iterator b x ∷ []) h = refl
+operator_operands_typed operators.Add (types.Iterator b x ∷ u ∷ []) h =
+    two_typed b x (is_scalar t.Diff) refl (is_random_access x) u (types.Iterator b x) h
+operator_operands_typed operators.Subtract (types.Iterator b x ∷ u ∷ []) h =
+    two_typed b x (is_scalar t.Diff) refl (is_random_access x) u (types.Iterator b x) h
+operator_operands_typed operators.AddAssign (types.Iterator b x ∷ u ∷ []) h =
+    two_typed b x (is_scalar t.Diff) refl (is_random_access x) u types.Nothing h
+operator_operands_typed operators.SubtractAssign (types.Iterator b x ∷ u ∷ []) h =
+    two_typed b x (is_scalar t.Diff) refl (is_random_access x) u types.Nothing h
+operator_operands_typed operators.Difference (types.Iterator b x ∷ u ∷ []) h =
+    two_typed b x (is_iterator_of x) refl (is_random_access x) u (types.Scalar t.Diff) h
 operator_operands_typed (operators.Compare o) (u ∷ v ∷ []) h = compared_typed o u v h
 operator_operands_typed o us h = absurd cc
 
@@ -209,7 +210,7 @@ Fit letters us = (form : Form) × (fits form letters us ≡ true)
 
 -- the operands of a member call that has a type fit
 member_fits : (row : Row) (u : ExprType) (us : List ExprType) → has_type (member_type row u us) ≡ true → Fit row.letters us
-member_fits row (container_type access x) us h =
+member_fits row (types.Container access x) us h =
     let all = only_holds (same_object row.form (Some x) && not (is_constructor row) && may_be_called row.changes access && fits x row.letters us)
     (result_type row.gives (is_const access) x us) h in
     (x, second_of_both (same_object row.form (Some x) && not (is_constructor row) && may_be_called row.changes access) (fits x row.letters us) all)
@@ -229,7 +230,7 @@ row_fits g row (Some x) us h = member_fits row (variable_type g.containers x) us
 -- so do those of an algorithm that appends
 appending_fits : (row : Row) (us : List ExprType) → has_type (appending_type (Some row) us) ≡ true → Fit (map appending row.letters) us
 appending_fits row us h =
-    let all = only_holds (is_algorithm row && list_any is_output row.letters && fits f.Vector (map appending row.letters) us) empty_type h in
+    let all = only_holds (is_algorithm row && list_any is_output row.letters && fits f.Vector (map appending row.letters) us) types.Nothing h in
     (f.Vector, second_of_both (is_algorithm row && list_any is_output row.letters) (fits f.Vector (map appending row.letters) us) all)
 
 -- so do those of a constructor

@@ -11,8 +11,10 @@ use Rattle.sl_syntax.specs.declared.typed.parameter.ParameterKind.TheVariants as
 use Rattle.sl_syntax.specs.Typed.{Expr, literal, held, iterator, convert, negate, logical_not, logical_and, logical_or, arithmetic, comparison}
 use Rattle.sl_syntax.specs.Typed.{increment, move, call, own_call, first, second, container, handed_scalar, Left, scalar, reference, element}
 use Rattle.sl_syntax.specs.Typed.{Operands, none, with, Function}
-use Rattle.sl_model.specs.Typing.WellTypedTypes.{ExprType, no_type, Scope, variable_type, has_type, is_scalar, is_number}
-use Rattle.sl_model.specs.Typing.WellTypedTypes.{are_comparable}
+use Rattle.sl_typing.specs.declared.expr_type.ExprType.{ExprType}
+use Rattle.sl_typing.specs.declared.expr_type.ExprType.TheVariants as types
+use Rattle.sl_typing.specs.Types.{has_type, is_scalar, is_number}
+use Rattle.sl_model.specs.Typing.WellTypedScopes.{Scope, variable_type, are_comparable}
 use Rattle.sl_model.specs.Typing.WellTypedExpressions.{goes_to, go_to, type_given, function_type}
 use Rattle.sl_model.specs.Typing.WellTypedExpressions.{type_of, type_of_left, types_of}
 use Rattle.sl_model.specs.Typing.WellTypedNodes.{Node, a_call, an_own_call}
@@ -50,7 +52,7 @@ length-types_of g none = refl
 length-types_of g (with e rest) = let more = length-types_of g rest in omega (arith, more)
 
 -- no type goes to no parameter
-pub no_type_goes : (k : ParameterKind) → goes_to k no_type ≡ false
+pub no_type_goes : (k : ParameterKind) → goes_to k types.Wrong ≡ false
 no_type_goes (parameters.Value s) = refl
 no_type_goes (parameters.Reference s) = refl
 no_type_goes (parameters.Container a.Const x) = refl
@@ -170,6 +172,6 @@ mutual
       (operands_are_fine g rest (second_of_both (has_type (type_of g e)) (all_typed (types_of g rest)) h))
 
 -- those of an expression whose type passes a test
-pub passing_is_fine : (g : Scope) (e : Expr) (test : ExprType → Bool) → test no_type ≡ false → test (type_of g e) ≡ true
+pub passing_is_fine : (g : Scope) (e : Expr) (test : ExprType → Bool) → test types.Wrong ≡ false → test (type_of g e) ≡ true
     → AreFine g.functions (nodes_in e)
 passing_is_fine g e test n h = expression_is_fine g e (typed_by test n (type_of g e) h)

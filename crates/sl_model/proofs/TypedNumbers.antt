@@ -5,7 +5,9 @@ use Rattle.std.specs.List.{list_all}
 use Rattle.std.proofs.lemmas.Bool.{leb-true, ltb-true}
 use Rattle.sl_base.specs.declared.limits.TheConstants.{CONTAINERS, FUNCTIONS, ITERATORS, SCALARS, SITES}
 use Rattle.sl_syntax.specs.Typed.{Function, Typed}
-use Rattle.sl_model.specs.Typing.WellTypedTypes.{ExprType, Scope, has_type, is_within, variable_type}
+use Rattle.sl_typing.specs.declared.expr_type.ExprType.{ExprType}
+use Rattle.sl_typing.specs.Types.{has_type}
+use Rattle.sl_model.specs.Typing.WellTypedScopes.{Scope, is_within, variable_type}
 use Rattle.sl_model.specs.Typing.WellTypedNodes.{Node, nodes_in_stmt, nodes_of}
 use Rattle.sl_model.specs.Typing.WellTypedNumbers.{site_in, loop_in, go_up, are_numbers_of, is_numbered}
 use Rattle.sl_model.specs.Typing.WellTypedNumbers.{has_due_site, tells_names, are_constants, literal_is_held, asked_by, agree, agrees_with_all}

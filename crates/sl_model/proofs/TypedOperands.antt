@@ -7,17 +7,18 @@ use Rattle.sl_base.specs.declared.form.Form.{Form}
 use Rattle.sl_base.specs.declared.scalar.Scalar.TheVariants as t
 use Rattle.sl_specs.specs.declared.letter.Letter.{Letter}
 use Rattle.sl_specs.specs.declared.letter.Letter.TheVariants as l
-use Rattle.sl_specs.specs.Forms.{same_form}
-use Rattle.sl_model.specs.Memory.Forms.{is_keyed}
-use Rattle.sl_model.specs.Typing.WellTypedTypes.{ExprType, no_type, iterator_type}
-use Rattle.sl_model.specs.Typing.WellTypedTypes.{has_type, only, is_scalar, is_iterator}
-use Rattle.sl_model.specs.Typing.WellTypedTypes.{is_iterator_of, is_writing_iterator, same_iterators, is_container_of, is_changed_container}
-use Rattle.sl_model.specs.Typing.WellTypedCalls.{one, optional, range, elements, is_int_iterator, is_bidirectional, is_random, fits_letter, width, fits}
+use Rattle.sl_specs.specs.Forms.{same_form, is_keyed}
+use Rattle.sl_typing.specs.declared.expr_type.ExprType.{ExprType}
+use Rattle.sl_typing.specs.declared.expr_type.ExprType.TheVariants as types
+use Rattle.sl_typing.specs.Types.{has_type, only, is_scalar, is_iterator, is_iterator_of, is_writing_iterator, same_iterators, is_container_of}
+use Rattle.sl_typing.specs.Types.{is_changed_container, is_int_iterator, is_bidirectional, is_random}
+use Rattle.sl_typing.specs.Signatures.{one, optional, range, elements, width}
+use Rattle.sl_model.specs.Typing.WellTypedCalls.{fits_letter, fits}
 use Rattle.sl_model.proofs.Passing.{first_of_both, second_of_both}
 
 -- what passes a test that `no_type` doesn't pass has a type
-pub typed_by : (test : ExprType → Bool) → test no_type ≡ false → (u : ExprType) → test u ≡ true → has_type u ≡ true
-typed_by test n no_type h = absurd cc
+pub typed_by : (test : ExprType → Bool) → test types.Wrong ≡ false → (u : ExprType) → test u ≡ true → has_type u ≡ true
+typed_by test n types.Wrong h = absurd cc
 typed_by test n u h = refl
 
 -- the condition of a type that is there
@@ -36,23 +37,23 @@ all_typed us = list_all has_type us
 
 -- an iterator of one type with another has a type
 pub second_iterator_typed : (u v : ExprType) → same_iterators u v ≡ true → has_type v ≡ true
-second_iterator_typed (iterator_type b x) no_type h = absurd cc
-second_iterator_typed (iterator_type b x) v h = refl
+second_iterator_typed (types.Iterator b x) types.Wrong h = absurd cc
+second_iterator_typed (types.Iterator b x) v h = refl
 second_iterator_typed u v h = absurd cc
 
 -- an operand that passes a test has a type
-one_typed : (test : ExprType → Bool) → test no_type ≡ false → (us : List ExprType) → one test us ≡ true → all_typed us ≡ true
+one_typed : (test : ExprType → Bool) → test types.Wrong ≡ false → (us : List ExprType) → one test us ≡ true → all_typed us ≡ true
 one_typed test n [] h = absurd cc
 one_typed test n (u ∷ []) h = and_from (has_type u) true (typed_by test n u h) refl
 one_typed test n (u ∷ v ∷ us) h = absurd cc
 
 -- so has one that may be missing
-optional_typed : (test : ExprType → Bool) → test no_type ≡ false → (us : List ExprType) → optional test us ≡ true → all_typed us ≡ true
+optional_typed : (test : ExprType → Bool) → test types.Wrong ≡ false → (us : List ExprType) → optional test us ≡ true → all_typed us ≡ true
 optional_typed test n [] h = refl
 optional_typed test n (u ∷ us) h = one_typed test n (u ∷ us) h
 
 -- so have the two ends of a range
-range_typed : (test : ExprType → Bool) → test no_type ≡ false → (us : List ExprType) → range test us ≡ true → all_typed us ≡ true
+range_typed : (test : ExprType → Bool) → test types.Wrong ≡ false → (us : List ExprType) → range test us ≡ true → all_typed us ≡ true
 range_typed test n [] h = absurd cc
 range_typed test n (u ∷ []) h = absurd cc
 range_typed test n (u ∷ v ∷ []) h = and_from (has_type u) (has_type v && true) (typed_by test n u (first_of_both (test u) (same_iterators u v) h))
@@ -60,7 +61,7 @@ range_typed test n (u ∷ v ∷ []) h = and_from (has_type u) (has_type v && tru
 range_typed test n (u ∷ v ∷ w ∷ us) h = absurd cc
 
 -- all that pass such a test have types
-all_passing_typed : (test : ExprType → Bool) → test no_type ≡ false → (us : List ExprType) → list_all test us ≡ true → all_typed us ≡ true
+all_passing_typed : (test : ExprType → Bool) → test types.Wrong ≡ false → (us : List ExprType) → list_all test us ≡ true → all_typed us ≡ true
 all_passing_typed test n [] h = refl
 all_passing_typed test n (u ∷ us) h = and_from (has_type u) (all_typed us) (typed_by test n u (first_of_both (test u) (list_all test us) h))
     (all_passing_typed test n us (second_of_both (test u) (list_all test us) h))

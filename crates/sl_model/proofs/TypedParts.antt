@@ -14,8 +14,10 @@ use Rattle.sl_syntax.specs.declared.typed.step.Step.{Step}
 use Rattle.sl_syntax.specs.Typed.{Expr, literal, held, iterator, convert, negate, logical_not, logical_and, logical_or, arithmetic, comparison}
 use Rattle.sl_syntax.specs.Typed.{increment, move, call, own_call, first, second, container, handed_scalar, Left, scalar, reference, element}
 use Rattle.sl_syntax.specs.Typed.{Operands}
-use Rattle.sl_model.specs.Typing.WellTypedTypes.{ExprType, no_type, scalar_type, Scope, variable_type, has_type, only, is_scalar, is_number, is_written}
-use Rattle.sl_model.specs.Typing.WellTypedTypes.{is_arithmetic, are_comparable, is_iterator}
+use Rattle.sl_typing.specs.declared.expr_type.ExprType.{ExprType}
+use Rattle.sl_typing.specs.declared.expr_type.ExprType.TheVariants as types
+use Rattle.sl_typing.specs.Types.{has_type, only, is_scalar, is_number, is_written, is_arithmetic, is_iterator}
+use Rattle.sl_model.specs.Typing.WellTypedScopes.{Scope, variable_type, are_comparable}
 use Rattle.sl_model.specs.Typing.WellTypedCalls.{call_type, is_moving}
 use Rattle.sl_model.specs.Typing.WellTypedExpressions.{is_literal, only_value, only_element, type_of_first, type_of_second, type_of_use, handed}
 use Rattle.sl_model.specs.Typing.WellTypedExpressions.{function_type, is_arrow, is_variable, type_of, type_of_left, types_of}
@@ -25,7 +27,7 @@ use Rattle.sl_model.proofs.TypedOperands.{typed_by, only_holds, only_rest}
 -- a literal is a number of its type
 pub literal_fits : (g : Scope) (s : Scalar) (z : ℤ) → has_type (type_of g (literal s z)) ≡ true → is_literal s z ≡ true
 unfolding type_of
-literal_fits g s z h = only_holds (is_literal s z) (scalar_type s) h
+literal_fits g s z h = only_holds (is_literal s z) (types.Scalar s) h
 
 -- what is held is a left side that has a type
 pub held_typed : (g : Scope) (l : Left) → has_type (type_of g (held l)) ≡ true → has_type (type_of_left g l) ≡ true
@@ -35,26 +37,26 @@ held_typed g l h = h
 -- what is converted is a number
 pub converted_number : (g : Scope) (s : Scalar) (e : Expr) → has_type (type_of g (convert s e)) ≡ true → is_number (type_of g e) ≡ true
 unfolding type_of
-converted_number g s e h = only_holds (is_number (type_of g e)) (scalar_type s) h
+converted_number g s e h = only_holds (is_number (type_of g e)) (types.Scalar s) h
 
 -- what is negated is a number of the type, which isn't bool
 pub negated_number : (g : Scope) (s : Scalar) (at : Place) (e : Expr) → has_type (type_of g (negate s at e)) ≡ true
     → (is_arithmetic s ≡ true) × (is_scalar s (type_of g e) ≡ true)
 unfolding type_of
 negated_number g s at e h =
-    let both = only_holds (is_arithmetic s && is_scalar s (type_of g e)) (scalar_type s) h in
+    let both = only_holds (is_arithmetic s && is_scalar s (type_of g e)) (types.Scalar s) h in
     (first_of_both (is_arithmetic s) (is_scalar s (type_of g e)) both, second_of_both (is_arithmetic s) (is_scalar s (type_of g e)) both)
 
 -- the operand of `!` is a number
 pub inverted_number : (g : Scope) (at : Place) (e : Expr) → has_type (type_of g (logical_not at e)) ≡ true → is_number (type_of g e) ≡ true
 unfolding type_of
-inverted_number g at e h = only_holds (is_number (type_of g e)) (scalar_type t.Bool) h
+inverted_number g at e h = only_holds (is_number (type_of g e)) (types.Scalar t.Bool) h
 
 -- two operands of which both are asked to be numbers are
-pub both_numbers : (u v : ExprType) → has_type (only (is_number u && is_number v) (scalar_type t.Bool)) ≡ true
+pub both_numbers : (u v : ExprType) → has_type (only (is_number u && is_number v) (types.Scalar t.Bool)) ≡ true
     → (is_number u ≡ true) × (is_number v ≡ true)
 both_numbers u v h =
-    let both = only_holds (is_number u && is_number v) (scalar_type t.Bool) h in
+    let both = only_holds (is_number u && is_number v) (types.Scalar t.Bool) h in
     (first_of_both (is_number u) (is_number v) both, second_of_both (is_number u) (is_number v) both)
 
 -- both operands of `&&` are numbers
@@ -74,7 +76,7 @@ pub calculated_numbers : (g : Scope) (op : Arithmetic) (s : Scalar) (at : Place)
     → (is_arithmetic s ≡ true) × (is_scalar s (type_of g d) ≡ true) × (is_scalar s (type_of g e) ≡ true)
 unfolding type_of
 calculated_numbers g op s at d e h =
-    let all = only_holds (is_arithmetic s && is_scalar s (type_of g d) && is_scalar s (type_of g e)) (scalar_type s) h in
+    let all = only_holds (is_arithmetic s && is_scalar s (type_of g d) && is_scalar s (type_of g e)) (types.Scalar s) h in
     let both = first_of_both (is_arithmetic s && is_scalar s (type_of g d)) (is_scalar s (type_of g e)) all in (
       first_of_both (is_arithmetic s) (is_scalar s (type_of g d)) both,
       second_of_both (is_arithmetic s) (is_scalar s (type_of g d)) both,
@@ -85,7 +87,7 @@ calculated_numbers g op s at d e h =
 pub compared_numbers : (g : Scope) (op : Comparison) (at : Place) (d e : Expr) → has_type (type_of g (comparison op at d e)) ≡ true
     → are_comparable (type_of g d) (type_of g e) ≡ true
 unfolding type_of
-compared_numbers g op at d e h = only_holds (are_comparable (type_of g d) (type_of g e)) (scalar_type t.Bool) h
+compared_numbers g op at d e h = only_holds (are_comparable (type_of g d) (type_of g e)) (types.Scalar t.Bool) h
 
 -- `++` and `--` stand at a number of their type, which isn't bool, that may be written
 pub stepped_number : (g : Scope) (step : Step) (fix : Fix) (s : Scalar) (at : Place) (l : Left)
@@ -94,7 +96,7 @@ pub stepped_number : (g : Scope) (step : Step) (fix : Fix) (s : Scalar) (at : Pl
 unfolding type_of
 stepped_number g step fix s at l h =
     let u = type_of_left g l in
-    let all = only_holds (is_arithmetic s && is_scalar s u && is_written u) (scalar_type s) h in
+    let all = only_holds (is_arithmetic s && is_scalar s u && is_written u) (types.Scalar s) h in
     let both = first_of_both (is_arithmetic s && is_scalar s u) (is_written u) all in (
       first_of_both (is_arithmetic s) (is_scalar s u) both,
       second_of_both (is_arithmetic s) (is_scalar s u) both,
@@ -164,7 +166,7 @@ unfolding type_of_left
 scalar_there g x at h = h
 
 -- no part of what isn't there is used
-no_use : (part : ElementPart) → has_type (type_of_use part no_type) ≡ false
+no_use : (part : ElementPart) → has_type (type_of_use part types.Wrong) ≡ false
 no_use parts.Whole = refl
 no_use parts.First = refl
 no_use parts.Second = refl

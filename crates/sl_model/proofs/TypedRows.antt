@@ -12,10 +12,13 @@ use Rattle.sl_specs.specs.Rows.{Row as TableRow}
 use Rattle.sl_specs.specs.Table.{table, same_call}
 use Rattle.sl_syntax.specs.declared.operator.Access.{Access}
 use Rattle.sl_syntax.specs.declared.typed.callee.Callee.TheVariants as callees
+use Rattle.sl_typing.specs.declared.expr_type.ExprType.{ExprType}
+use Rattle.sl_typing.specs.declared.expr_type.ExprType.TheVariants as types
+use Rattle.sl_typing.specs.Types.{has_type, only, is_const}
+use Rattle.sl_typing.specs.Signatures.{result_type, row_at, is_constructor, is_algorithm, is_output, appending}
 use Rattle.sl_model.specs.LibraryCalls.Rows.{of_form, new_one, Row, member_row, algorithm_row, meaning_of, row_of, is_constructor as makes_one}
-use Rattle.sl_model.specs.Typing.WellTypedTypes.{ExprType, empty_type, container_type, Scope, variable_type, has_type, only, is_const}
-use Rattle.sl_model.specs.Typing.WellTypedCalls.{fits, result_type, row_at, is_constructor, may_be_called, member_type, is_algorithm, row_type}
-use Rattle.sl_model.specs.Typing.WellTypedCalls.{is_output, appending, appending_type, constructs, call_type}
+use Rattle.sl_model.specs.Typing.WellTypedScopes.{Scope, variable_type}
+use Rattle.sl_model.specs.Typing.WellTypedCalls.{fits, may_be_called, member_type, row_type, appending_type, constructs, call_type}
 use Rattle.sl_model.specs.Typing.WellTypedStatements.{is_making}
 use Rattle.sl_model.proofs.Called.{one_form}
 use Rattle.sl_model.proofs.Passing.{first_of_both, second_of_both}
@@ -60,7 +63,7 @@ row_object form r b h = ap (λ (x : Bool). if x then new_one form else of_form f
 pub record IsMember (g : Scope) (n x : ℕ) (us : List ExprType) : Type 0 where
   pub access : Access
   pub form : Form
-  pub variable : variable_type g.containers x ≡ container_type access form
+  pub variable : variable_type g.containers x ≡ types.Container access form
   pub line : TableRow
   pub there : slice_get table n ≡ Some line
   pub on_form : line.form ≡ Some form
@@ -88,7 +91,7 @@ pub record IsAppending (g : Scope) (n : ℕ) (us : List ExprType) : Type 0 where
   pub has_output : list_any is_output line.letters ≡ true
   pub fitting : fits f.Vector (map appending line.letters) us ≡ true
   pub is_row : row_of (callees.Appends n) ≡ Some (algorithm_row true line)
-  pub is_type : call_type g (callees.Appends n) None us ≡ empty_type
+  pub is_type : call_type g (callees.Appends n) None us ≡ types.Nothing
 
 -- a call that makes a container of a form: by a row of that form
 pub record IsMaker (form : Form) (n : ℕ) (us : List ExprType) : Type 0 where
@@ -106,7 +109,7 @@ member_by_line : (g : Scope) (n x : ℕ) (us : List ExprType) (line : TableRow) 
 member_by_line g n x us line e h = by_variable (variable_type g.containers x) refl h
   where
     by_variable : (u : ExprType) → variable_type g.containers x ≡ u → has_type (member_type line u us) ≡ true → IsMember g n x us
-    by_variable (container_type access form) v t =
+    by_variable (types.Container access form) v t =
         let whole = only_holds
         (same_object line.form (Some form) && not (is_constructor line) && may_be_called line.changes access && fits form line.letters us)
         (result_type line.gives (is_const access) form us) t in
@@ -173,7 +176,8 @@ is_appending g n us h = by_found (row_at n) refl h
     by_found : (found : Option TableRow) → row_at n ≡ found → has_type (appending_type found us) ≡ true → IsAppending g n us
     by_found None e t = absurd cc
     by_found (Some line) e t =
-        let whole = only_holds (is_algorithm line && list_any is_output line.letters && fits f.Vector (map appending line.letters) us) empty_type t in
+        let whole = only_holds (is_algorithm line && list_any is_output line.letters && fits f.Vector (map appending line.letters) us)
+        types.Nothing t in
         let two = first_of_both (is_algorithm line && list_any is_output line.letters) (fits f.Vector (map appending line.letters) us) whole in
         let none = no_object line.form (first_of_both (is_algorithm line) (list_any is_output line.letters) two) in
         record {
@@ -183,7 +187,7 @@ is_appending g n us h = by_found (row_at n) refl h
           has_output = second_of_both (is_algorithm line) (list_any is_output line.letters) two;
           fitting = second_of_both (is_algorithm line && list_any is_output line.letters) (fits f.Vector (map appending line.letters) us) whole;
           is_row = numbered_means true n line (algorithm_row true line) e (meaning_alone true line none);
-          is_type = ap (λ (o : Option TableRow). appending_type o us) e ∙ ap (λ (b : Bool). only b empty_type) whole;
+          is_type = ap (λ (o : Option TableRow). appending_type o us) e ∙ ap (λ (b : Bool). only b types.Nothing) whole;
         }
 
 -- a call that makes a container of a form

@@ -11,8 +11,10 @@ use Rattle.sl_syntax.specs.Typed.{Expr, element, Cond, read, not_read, test, alw
 use Rattle.sl_syntax.specs.Typed.{prints, evaluates, assigns, updates, moves_to, Declaration, unset_scalar, set_scalar, set_iterator, binds_reference}
 use Rattle.sl_syntax.specs.Typed.{makes, First, no_first, declares_first, does_first, Stmt, block, declares, choice, choice_else, while, for}
 use Rattle.sl_syntax.specs.Typed.{range_for, break, continue, gives_back, does, Stmts, no_more, followed, Function, Typed}
-use Rattle.sl_model.specs.Typing.WellTypedTypes.{ExprType, no_type, scalar_type, element_type, container_type, Scope, is_within, variable_type, has_type}
-use Rattle.sl_model.specs.Typing.WellTypedTypes.{is_scalar, is_number, is_written, works_in, is_iterator}
+use Rattle.sl_typing.specs.declared.expr_type.ExprType.{ExprType}
+use Rattle.sl_typing.specs.declared.expr_type.ExprType.TheVariants as types
+use Rattle.sl_typing.specs.Types.{has_type, is_scalar, is_number, is_written, is_iterator}
+use Rattle.sl_model.specs.Typing.WellTypedScopes.{Scope, is_within, variable_type, works_in}
 use Rattle.sl_model.specs.Typing.WellTypedExpressions.{goes_to, type_given, type_of, type_of_left, types_of}
 use Rattle.sl_model.specs.Typing.WellTypedNodes.{Node, nodes_in, nodes_in_left, nodes_in_operands, nodes_in_value, nodes_in_cond, nodes_in_printed}
 use Rattle.sl_model.specs.Typing.WellTypedNodes.{nodes_in_effect, nodes_in_last, nodes_in_declaration, nodes_in_first, nodes_in_stmt, nodes_in_stmts}
@@ -49,9 +51,9 @@ items_are_fine g (item ∷ items) h = both_fine g.functions (nodes_in_printed it
     (items_are_fine g items (second_of_both (is_typed_item g item) (list_all (is_typed_item g) items) h))
 
 -- no left side takes what has no type
-pub no_type_taken : (u : ExprType) → takes u no_type ≡ false
-no_type_taken (scalar_type s) = refl
-no_type_taken (element_type w) = and_false w
+pub no_type_taken : (u : ExprType) → takes u types.Wrong ≡ false
+no_type_taken (types.Scalar s) = refl
+no_type_taken (types.Element w) = and_false w
 no_type_taken u = refl
 
 -- those of an effect are
@@ -119,8 +121,8 @@ functions_behind_first (does_first w) g = refl
 
 -- they do in a range-for
 pub functions_in_range : (how : Taken) (u : ExprType) (g : Scope) → (in_range how u g).functions ≡ g.functions
-functions_in_range taken.Value (container_type access x) g = refl
-functions_in_range taken.Reference (container_type access x) g = refl
+functions_in_range taken.Value (types.Container access x) g = refl
+functions_in_range taken.Reference (types.Container access x) g = refl
 functions_in_range how u g = refl
 
 -- they do where parameters come into scope

@@ -10,8 +10,10 @@ use Rattle.sl_syntax.specs.Typed.{Expr, element, Cond, read, not_read, test, alw
 use Rattle.sl_syntax.specs.Typed.{prints, evaluates, assigns, updates, moves_to, Declaration, unset_scalar, set_scalar, set_iterator, binds_reference}
 use Rattle.sl_syntax.specs.Typed.{makes, First, no_first, declares_first, does_first, Stmt, block, declares, choice, choice_else, while, for}
 use Rattle.sl_syntax.specs.Typed.{range_for, break, continue, gives_back, does, Stmts, no_more, followed, Function, Typed}
-use Rattle.sl_model.specs.Typing.WellTypedTypes.{ExprType, no_type, Scope, is_within, variable_type, has_type, is_scalar, is_number, is_written, works_in}
-use Rattle.sl_model.specs.Typing.WellTypedTypes.{is_iterator}
+use Rattle.sl_typing.specs.declared.expr_type.ExprType.{ExprType}
+use Rattle.sl_typing.specs.declared.expr_type.ExprType.TheVariants as types
+use Rattle.sl_typing.specs.Types.{has_type, is_scalar, is_number, is_written, is_iterator}
+use Rattle.sl_model.specs.Typing.WellTypedScopes.{Scope, is_within, variable_type, works_in}
 use Rattle.sl_model.specs.Typing.WellTypedExpressions.{goes_to, type_given, type_of, type_of_left, types_of}
 use Rattle.sl_model.specs.Typing.WellTypedOrder.{Variable, the_scalar, the_container, the_iterator}
 use Rattle.sl_model.specs.Typing.WellTypedStatements.{assigns_others, may_stand_alone, is_written_left, takes, are_ints, is_typed_cond, is_typed_item}
@@ -100,7 +102,7 @@ abbrev mutual
   uses_in_stmts (followed b rest) = uses_in_stmt b ++ uses_in_stmts rest
 
 -- an expression whose type passes a test uses variables below the limits
-passing_below : (g : Scope) (e : Expr) (check : ExprType → Bool) → check no_type ≡ false → is_within g ≡ true → check (type_of g e) ≡ true
+passing_below : (g : Scope) (e : Expr) (check : ExprType → Bool) → check types.Wrong ≡ false → is_within g ≡ true → check (type_of g e) ≡ true
     → AreBelow (uses_in e)
 passing_below g e check n w h = expression_below g e w (typed_by check n (type_of g e) h)
 
@@ -177,7 +179,7 @@ return_below g None (Some e) w h = absurd cc
 return_below g (Some k) (Some e) w h = passing_below g e (goes_to k) (no_type_goes k) w h
 
 -- no range-for goes over what isn't there
-pub nothing_gone_over : (how : Taken) → may_go_over how no_type ≡ false
+pub nothing_gone_over : (how : Taken) → may_go_over how types.Wrong ≡ false
 nothing_gone_over taken.Value = refl
 nothing_gone_over taken.Reference = refl
 

@@ -8,8 +8,11 @@ use Rattle.sl_syntax.specs.declared.typed.callee.Callee.TheVariants as callees
 use Rattle.sl_syntax.specs.Typed.{Expr, literal, held, iterator, convert, negate, logical_not, logical_and, logical_or, arithmetic, comparison}
 use Rattle.sl_syntax.specs.Typed.{increment, move, call, own_call, first, second, container, handed_scalar, Left, scalar, reference, element}
 use Rattle.sl_syntax.specs.Typed.{Operands, none, with}
-use Rattle.sl_model.specs.Typing.WellTypedTypes.{ExprType, Scope, is_within, variable_type, has_type, is_scalar, is_number}
-use Rattle.sl_model.specs.Typing.WellTypedCalls.{call_type, row_type, member_type, row_at}
+use Rattle.sl_typing.specs.declared.expr_type.ExprType.{ExprType}
+use Rattle.sl_typing.specs.Types.{has_type, is_scalar, is_number}
+use Rattle.sl_typing.specs.Signatures.{row_at}
+use Rattle.sl_model.specs.Typing.WellTypedScopes.{Scope, is_within, variable_type}
+use Rattle.sl_model.specs.Typing.WellTypedCalls.{call_type, row_type, member_type}
 use Rattle.sl_model.specs.Typing.WellTypedExpressions.{type_of, type_of_left, types_of}
 use Rattle.sl_model.specs.Typing.WellTypedOrder.{Variable, the_scalar, the_container, the_iterator, object_in}
 use Rattle.sl_model.proofs.Passing.{first_of_both, second_of_both}

@@ -1,7 +1,7 @@
 -- Which typed texts a run is of: variables in scope, types, and what is numbered.
 pub mod Shapes
 pub mod Scoped
-pub mod WellTypedTypes
+pub mod WellTypedScopes
 pub mod WellTypedCalls
 pub mod WellTypedExpressions
 pub mod WellTypedNodes

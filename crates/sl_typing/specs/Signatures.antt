@@ -1,4 +1,9 @@
--- TEMPORARY copy: the helper's file replaces it.
+-- What the rows of the library take and give, by the types of their operands, and what the letters of a row stand for.
+--
+-- Restates the tables of ISO/IEC 14882:2017, [container.requirements], [sequence.reqmts], [associative.reqmts], [unord.req], [list.ops],
+-- [algorithms], [iterator.operations] and [iterator.requirements] as far as types, constness and the kinds of iterators go.
+-- Chosen here: a range has two ends of one type. Which letters a call has and what it gives stands in the table of the library. The call of
+-- `back_inserter` is no call of its own: an algorithm that appends has the container in place of its output.
 use Rattle.std.specs.Prelude.{ℕ, Bool, true, false, not, ◌&&◌, List, [], ◌∷◌, length, Option, None, slice_get}
 use Rattle.std.specs.List.{list_all}
 use Rattle.sl_base.specs.declared.form.Form.{Form}
@@ -99,7 +104,3 @@ abbrev pub is_equality : Comparison → Bool
 is_equality comparisons.Equal = true
 is_equality comparisons.NotEqual = true
 is_equality o = false
-
--- it moves the iterator variable that it is handed
-abbrev pub is_advance : Row → Bool
-is_advance row = same_call c.Advance row.call

@@ -247,6 +247,25 @@ unfolding broken
 assigned_copy_is_well = well assigned_copy refl
 
 -- int main() {
+--   std::map<int, int> m;
+--   std::vector<int> v;
+--   for (auto& e : m) {
+--     v.assign(2, e.first);
+--     v.assign(2, ++e.second);
+--   }
+-- }
+abbrev assigned_parts : Typed
+assigned_parts = whole (main_of (v.Container ∷ v.Container ∷ v.Reference ∷ []) (body_at 2 (
+    made f.Map associative.MAP_CONSTRUCTOR (at 2 3) [] ∷ vector (at 3 3) ∷ range_for 0 taken.Reference 0 (at 4 3) 0 (body (
+    done (calls (on_site sequence.VECTOR_ASSIGN (at 5 7) 0 1) (convert t.Size (int 2) ∷ held (reference 2 (at 5 17) 1 parts.First) ∷ [])) ∷
+    done (calls (on_site sequence.VECTOR_ASSIGN (at 6 7) 1 1)
+    (convert t.Size (int 2) ∷ increment steps.Up fixes.Prefix t.Int (at 6 17) (reference 2 (at 6 19) 1 parts.Second) ∷ [])) ∷ [])) ∷ [])) ∷ []) 0 3 1
+
+assigned_parts_is_well : WellTyped assigned_parts
+unfolding broken
+assigned_parts_is_well = well assigned_parts refl
+
+-- int main() {
 --   std::vector<int> v;
 --   .. 16 vectors, 32 iterators and 48 numbers ..
 -- }

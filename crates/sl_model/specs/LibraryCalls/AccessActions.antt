@@ -6,10 +6,10 @@
 -- Chosen here: `clear` keeps the room; `reserve` of a vector picks a room where it is more than the room that is there, and of a
 -- hash form always, and puts all elements in again; `a.swap(a)` invalidates the end.
 use Rattle.std.specs.Prelude.{ℕ, ◌+◌, ◌-◌, ◌==◌, nat_lt, nat_le, true, min, max, List, [], map, replicate, ℤ, pos, if◌then◌else◌}
+use Rattle.sl_specs.specs.Forms.{is_hash}
 use Rattle.sl_model.specs.Memory.Classes.{Edit}
 use Rattle.sl_model.specs.Memory.Containers.{Cont, size, key_part}
 use Rattle.sl_model.specs.Memory.Edits.{Change, old, numbers, nowhere}
-use Rattle.sl_model.specs.Memory.Forms.{is_hash}
 use Rattle.sl_model.specs.Numbers.{truth}
 use Rattle.sl_model.specs.Memory.Rearrangements.{exchanged}
 use Rattle.sl_model.specs.Memory.Schedule.{pick, after_picks, scattered}

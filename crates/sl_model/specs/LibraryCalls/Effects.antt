@@ -9,10 +9,11 @@ use Rattle.sl_base.specs.declared.form.Form.{Form}
 use Rattle.sl_base.specs.declared.form.Form.TheVariants as f
 use Rattle.sl_specs.specs.declared.class.Class.{Class}
 use Rattle.sl_specs.specs.declared.class.Class.TheVariants as classes
+use Rattle.sl_specs.specs.Forms.{is_hash}
 use Rattle.sl_model.specs.Memory.Classes.{Edit, kills, loses}
 use Rattle.sl_model.specs.Memory.Containers.{Cont, Memory, cont_at, size, keys, made}
 use Rattle.sl_model.specs.Memory.Edits.{Change, old, new, numbers, change_of, after, after_two}
-use Rattle.sl_model.specs.Memory.Forms.{is_hash, holds_equal_keys}
+use Rattle.sl_model.specs.Memory.Forms.{holds_equal_keys}
 use Rattle.sl_model.specs.Memory.Orders.{index_of_key, how_many}
 use Rattle.sl_model.specs.Memory.Schedule.{pick, pick_at, after_picks, put_at, hash_place, scattered}
 use Rattle.sl_model.specs.LibraryCalls.Situation.{Situation, own, item}

@@ -13,9 +13,10 @@ use Rattle.sl_base.specs.declared.failures.TheConstants.{INVALID_ITERATOR, WRONG
 use Rattle.sl_base.specs.declared.failures.TheConstants.{OWN_ELEMENTS, NO_ROOM, OVERLAP, NOT_PARTITIONED, NOT_SORTED}
 use Rattle.sl_specs.specs.declared.need.Need.{Need}
 use Rattle.sl_specs.specs.declared.need.Need.TheVariants as n
+use Rattle.sl_specs.specs.Forms.{is_random_access}
 use Rattle.sl_specs.specs.Rows.{Row}
 use Rattle.sl_model.specs.Memory.Containers.{Cont, Memory, cont_at, size, keys}
-use Rattle.sl_model.specs.Memory.Forms.{is_random_access, step_of, is_moved_back}
+use Rattle.sl_model.specs.Memory.Forms.{step_of, is_moved_back}
 use Rattle.sl_model.specs.Memory.Orders.{is_ascending, is_partitioned}
 use Rattle.sl_model.specs.LibraryCalls.Values.{Value, container_at}
 use Rattle.sl_model.specs.LibraryCalls.Situation.{Situation, own, own_size, argument, place_of, index, container_of, their, their_size, int_of, count_of}

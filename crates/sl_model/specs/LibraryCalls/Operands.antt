@@ -12,9 +12,8 @@ use Rattle.sl_specs.specs.declared.call.Call.{Call}
 use Rattle.sl_specs.specs.declared.call.Call.TheVariants as c
 use Rattle.sl_specs.specs.declared.letter.Letter.{Letter}
 use Rattle.sl_specs.specs.declared.letter.Letter.TheVariants as a
-use Rattle.sl_specs.specs.Forms.{same_form}
+use Rattle.sl_specs.specs.Forms.{same_form, is_keyed}
 use Rattle.sl_model.specs.Memory.Containers.{Cont, Memory}
-use Rattle.sl_model.specs.Memory.Forms.{is_keyed}
 use Rattle.sl_model.specs.Memory.Orders.{is_ascending, sorted, union_of, intersection_of, minus}
 use Rattle.sl_model.specs.LibraryCalls.Values.{Value, number, iterator, container_at}
 use Rattle.sl_model.specs.LibraryCalls.Situation.{Situation, place_in, difference_of, range_keys}

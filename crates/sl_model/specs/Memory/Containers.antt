@@ -13,7 +13,7 @@ use Rattle.std.specs.Prelude.{slice_get, slice_set, slice_index_or, if◌then◌
 use Rattle.sl_base.specs.declared.form.Form.{Form}
 use Rattle.sl_base.specs.declared.form.Form.TheVariants as f
 use Rattle.sl_base.specs.declared.scalar.Scalar.TheVariants as t
-use Rattle.sl_model.specs.Memory.Forms.{is_keyed}
+use Rattle.sl_specs.specs.Forms.{is_keyed}
 use Rattle.sl_model.specs.Numbers.{converted}
 
 -- an element: the stamp of its place, the refer of it, its key and its value

@@ -17,20 +17,22 @@ use Rattle.sl_base.specs.declared.limits.TheConstants.{WINDOW}
 use Rattle.sl_specs.specs.declared.call.Call.TheVariants as c
 use Rattle.sl_specs.specs.declared.letter.Letter.{Letter}
 use Rattle.sl_specs.specs.declared.letter.Letter.TheVariants as l
+use Rattle.sl_specs.specs.Forms.{is_hash}
 use Rattle.sl_specs.specs.Rows.{Row}
 use Rattle.sl_specs.specs.Table.{table, same_call}
 use Rattle.sl_syntax.specs.declared.typed.callee.Callee.{Callee}
 use Rattle.sl_syntax.specs.declared.typed.callee.Callee.TheVariants as callees
 use Rattle.sl_syntax.specs.declared.typed.operator.Operator.TheVariants as operators
 use Rattle.sl_syntax.specs.Typed.{Typed}
-use Rattle.sl_model.specs.Memory.Forms.{is_hash}
+use Rattle.sl_typing.specs.declared.expr_type.ExprType.{ExprType}
+use Rattle.sl_typing.specs.declared.expr_type.ExprType.TheVariants as types
+use Rattle.sl_typing.specs.Types.{is_iterator_that}
+use Rattle.sl_typing.specs.Signatures.{row_at, is_algorithm}
 use Rattle.sl_model.specs.Memory.Containers.{Memory, size}
 use Rattle.sl_model.specs.LibraryCalls.Values.{LibOut, gives, unbuilt, Lib}
 use Rattle.sl_model.specs.LibraryCalls.Library.{lib}
 use Rattle.sl_model.specs.Runs.Ends.{End, OutOfSteps, NoMeaning}
 use Rattle.sl_model.specs.Runs.Run.{run, run_over, main_out, end_state}
-use Rattle.sl_model.specs.Typing.WellTypedTypes.{ExprType, container_type, is_iterator_that}
-use Rattle.sl_model.specs.Typing.WellTypedCalls.{row_at, is_algorithm}
 use Rattle.sl_model.specs.Reports.Deeds.{Deed, a_read, an_own_call, a_range_for, a_library_call, deeds_of}
 
 -- the steps that the run is given
@@ -47,7 +49,7 @@ has_hash_iterator us = list_any (λ u. is_iterator_that (λ b x. is_hash x) u) u
 
 -- the type of a hash form
 abbrev pub is_hash_container : ExprType → Bool
-is_hash_container (container_type access x) = is_hash x
+is_hash_container (types.Container access x) = is_hash x
 is_hash_container u = false
 
 -- a row, if it is there, passes a test

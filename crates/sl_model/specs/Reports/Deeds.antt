@@ -11,7 +11,8 @@ use Rattle.sl_syntax.specs.Typed.{Operands, none, with, Cond, read, not_read, te
 use Rattle.sl_syntax.specs.Typed.{evaluates, assigns, updates, moves_to, Declaration, unset_scalar, set_scalar, set_iterator, binds_reference, makes}
 use Rattle.sl_syntax.specs.Typed.{First, no_first, declares_first, does_first, Stmt, block, declares, choice, choice_else, while, for, range_for}
 use Rattle.sl_syntax.specs.Typed.{break, continue, gives_back, does, Stmts, no_more, followed, Function, Typed}
-use Rattle.sl_model.specs.Typing.WellTypedTypes.{ExprType, Scope, variable_type}
+use Rattle.sl_typing.specs.declared.expr_type.ExprType.{ExprType}
+use Rattle.sl_model.specs.Typing.WellTypedScopes.{Scope, variable_type}
 use Rattle.sl_model.specs.Typing.WellTypedExpressions.{type_of, type_of_left, types_of}
 use Rattle.sl_model.specs.Typing.WellTypedStatements.{behind, behind_first, in_range, with_parameters, no_variables}
 

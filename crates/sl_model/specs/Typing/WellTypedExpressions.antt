@@ -21,10 +21,11 @@ use Rattle.sl_syntax.specs.declared.typed.parameter.ParameterKind.TheVariants as
 use Rattle.sl_syntax.specs.Typed.{Expr, literal, held, iterator, convert, negate, logical_not, logical_and, logical_or, arithmetic, comparison}
 use Rattle.sl_syntax.specs.Typed.{increment, move, call, own_call, first, second, container, handed_scalar, Left, scalar, reference, element}
 use Rattle.sl_syntax.specs.Typed.{Operands, none, with, Function}
-use Rattle.sl_model.specs.Typing.WellTypedTypes.{ExprType, no_type, empty_type, scalar_type, element_type, iterator_type, iterator_and_bool, two_iterators}
-use Rattle.sl_model.specs.Typing.WellTypedTypes.{container_type, handed_type, int_reference, entry_reference, Scope, variable_type, only, same_scalar}
-use Rattle.sl_model.specs.Typing.WellTypedTypes.{is_scalar, is_number, is_written, is_arithmetic, are_comparable, is_iterator, goes_into, is_container_of}
-use Rattle.sl_model.specs.Typing.WellTypedTypes.{is_changed_container}
+use Rattle.sl_typing.specs.declared.expr_type.ExprType.{ExprType}
+use Rattle.sl_typing.specs.declared.expr_type.ExprType.TheVariants as types
+use Rattle.sl_typing.specs.Types.{only, same_scalar, is_scalar, is_number, is_written, is_arithmetic, is_iterator, goes_into, is_container_of}
+use Rattle.sl_typing.specs.Types.{is_changed_container}
+use Rattle.sl_model.specs.Typing.WellTypedScopes.{Scope, variable_type, are_comparable}
 use Rattle.sl_model.specs.Typing.WellTypedCalls.{call_type, is_moving}
 
 -- a number of the text: an int is written without a sign, and a bool is 0 or 1
@@ -39,46 +40,46 @@ only_iterator u = only (is_iterator u) u
 
 -- the type, if it isn't an element, which stands in a left side
 abbrev pub only_value : ExprType → ExprType
-only_value (element_type w) = no_type
+only_value (types.Element w) = types.Wrong
 only_value u = u
 
 -- the type, if it is an element
 abbrev pub only_element : ExprType → ExprType
-only_element (element_type w) = element_type w
-only_element u = no_type
+only_element (types.Element w) = types.Element w
+only_element u = types.Wrong
 
 -- a scalar variable that is handed to a reference
 abbrev pub handed : ExprType → ExprType
-handed (scalar_type s) = handed_type s
-handed u = no_type
+handed (types.Scalar s) = types.Handed s
+handed u = types.Wrong
 
 -- the type of `.first` of a pair; an insertion is made on a container that isn't const
 abbrev pub type_of_first : ExprType → ExprType
-type_of_first (iterator_and_bool x) = iterator_type false x
-type_of_first (two_iterators b x) = iterator_type b x
-type_of_first u = no_type
+type_of_first (types.IteratorAndBool x) = types.Iterator false x
+type_of_first (types.IteratorPair b x) = types.Iterator b x
+type_of_first u = types.Wrong
 
 -- that of `.second`
 abbrev pub type_of_second : ExprType → ExprType
-type_of_second (iterator_and_bool x) = scalar_type t.Bool
-type_of_second (two_iterators b x) = iterator_type b x
-type_of_second u = no_type
+type_of_second (types.IteratorAndBool x) = types.Scalar t.Bool
+type_of_second (types.IteratorPair b x) = types.Iterator b x
+type_of_second u = types.Wrong
 
 -- the type of a use of a reference: a key is never written
 abbrev pub type_of_use : ElementPart → ExprType → ExprType
-type_of_use parts.Whole (int_reference w) = element_type w
-type_of_use parts.First (entry_reference w) = element_type false
-type_of_use parts.Second (entry_reference w) = element_type w
-type_of_use part u = no_type
+type_of_use parts.Whole (types.IntReference w) = types.Element w
+type_of_use parts.First (types.EntryReference w) = types.Element false
+type_of_use parts.Second (types.EntryReference w) = types.Element w
+type_of_use part u = types.Wrong
 
 -- an operand goes to a parameter
 abbrev pub goes_to : ParameterKind → ExprType → Bool
 goes_to (parameters.Value s) u = is_scalar s u
-goes_to (parameters.Reference s) (handed_type r) = same_scalar s r
+goes_to (parameters.Reference s) (types.Handed r) = same_scalar s r
 goes_to (parameters.Reference s) u = false
 goes_to (parameters.Container a.Const x) u = is_container_of x u
 goes_to (parameters.Container a.Whole x) u = is_changed_container (same_form x) u
-goes_to (parameters.Container a.Elements x) (container_type access y) = same_form x y
+goes_to (parameters.Container a.Elements x) (types.Container access y) = same_form x y
 goes_to (parameters.Container a.Elements x) u = false
 goes_to (parameters.Iterator b x) u = goes_into b x u
 
@@ -90,14 +91,14 @@ go_to ks us = false
 
 -- the type of what a function gives; it gives no reference and no container
 abbrev pub type_given : Option ParameterKind → ExprType
-type_given None = empty_type
-type_given (Some (parameters.Value s)) = scalar_type s
-type_given (Some (parameters.Iterator b x)) = iterator_type b x
-type_given k = no_type
+type_given None = types.Nothing
+type_given (Some (parameters.Value s)) = types.Scalar s
+type_given (Some (parameters.Iterator b x)) = types.Iterator b x
+type_given k = types.Wrong
 
 -- the type of a call of a function, if it is there and may be called
 abbrev pub function_type : Bool → Option Function → List ExprType → ExprType
-function_type may_be_called None us = no_type
+function_type may_be_called None us = types.Wrong
 function_type may_be_called (Some h) us = only (may_be_called && go_to h.parameters us) (type_given h.result)
 
 -- the type of a call of a function by its number; `main` isn't called
@@ -118,17 +119,17 @@ is_variable ops = false
 unfoldable mutual
   -- the type of an expression
   pub type_of : Scope → Expr → ExprType
-  type_of g (literal s z) = only (is_literal s z) (scalar_type s)
+  type_of g (literal s z) = only (is_literal s z) (types.Scalar s)
   type_of g (held l) = type_of_left g l
   type_of g (iterator x) = only_iterator (variable_type g.iterators x)
-  type_of g (convert s e) = only (is_number (type_of g e)) (scalar_type s)
-  type_of g (negate s at e) = only (is_arithmetic s && is_scalar s (type_of g e)) (scalar_type s)
-  type_of g (logical_not at e) = only (is_number (type_of g e)) (scalar_type t.Bool)
-  type_of g (logical_and at d e) = only (is_number (type_of g d) && is_number (type_of g e)) (scalar_type t.Bool)
-  type_of g (logical_or at d e) = only (is_number (type_of g d) && is_number (type_of g e)) (scalar_type t.Bool)
-  type_of g (arithmetic op s at d e) = only (is_arithmetic s && is_scalar s (type_of g d) && is_scalar s (type_of g e)) (scalar_type s)
-  type_of g (comparison op at d e) = only (are_comparable (type_of g d) (type_of g e)) (scalar_type t.Bool)
-  type_of g (increment step fix s at l) = let u = type_of_left g l in only (is_arithmetic s && is_scalar s u && is_written u) (scalar_type s)
+  type_of g (convert s e) = only (is_number (type_of g e)) (types.Scalar s)
+  type_of g (negate s at e) = only (is_arithmetic s && is_scalar s (type_of g e)) (types.Scalar s)
+  type_of g (logical_not at e) = only (is_number (type_of g e)) (types.Scalar t.Bool)
+  type_of g (logical_and at d e) = only (is_number (type_of g d) && is_number (type_of g e)) (types.Scalar t.Bool)
+  type_of g (logical_or at d e) = only (is_number (type_of g d) && is_number (type_of g e)) (types.Scalar t.Bool)
+  type_of g (arithmetic op s at d e) = only (is_arithmetic s && is_scalar s (type_of g d) && is_scalar s (type_of g e)) (types.Scalar s)
+  type_of g (comparison op at d e) = only (are_comparable (type_of g d) (type_of g e)) (types.Scalar t.Bool)
+  type_of g (increment step fix s at l) = let u = type_of_left g l in only (is_arithmetic s && is_scalar s u && is_written u) (types.Scalar s)
   type_of g (move fix x h ops) = only (is_moving h.callee) (call_type g h.callee h.object (variable_type g.iterators x ∷ types_of g ops))
   type_of g (call h ops) = only (not (is_moving h.callee)) (only_value (call_type g h.callee h.object (types_of g ops)))
   type_of g (own_call n at ops) = own_type g n (types_of g ops)

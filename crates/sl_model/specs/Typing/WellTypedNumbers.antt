@@ -22,9 +22,9 @@ use Rattle.sl_syntax.specs.declared.typed.variable.Variable.{Variable}
 use Rattle.sl_syntax.specs.declared.typed.variable.VariableKind.{VariableKind}
 use Rattle.sl_syntax.specs.declared.typed.variable.VariableKind.TheVariants as variables
 use Rattle.sl_syntax.specs.Typed.{Function, Typed}
+use Rattle.sl_typing.specs.Types.{same_answer}
+use Rattle.sl_typing.specs.Signatures.{row_at}
 use Rattle.sl_model.specs.LibraryCalls.Rows.{call_name}
-use Rattle.sl_model.specs.Typing.WellTypedCalls.{row_at}
-use Rattle.sl_model.specs.Typing.WellTypedTypes.{same_answer}
 use Rattle.sl_model.specs.Typing.WellTypedNodes.{Node, a_literal, a_call, a_use, a_loop, a_range, a_variable, a_brace, nodes_in_stmt}
 
 -- a row, if it is there, can invalidate

@@ -26,7 +26,8 @@ use Rattle.sl_syntax.specs.declared.typed.parameter.ParameterKind.TheVariants as
 use Rattle.sl_syntax.specs.Typed.{Expr, literal, held, iterator, convert, negate, logical_not, logical_and, logical_or, arithmetic, comparison}
 use Rattle.sl_syntax.specs.Typed.{increment, call, container, handed_scalar, Left, scalar, reference, element}
 use Rattle.sl_syntax.specs.Typed.{Operands, none, with, Function}
-use Rattle.sl_model.specs.Typing.WellTypedCalls.{row_at, is_algorithm, is_moving}
+use Rattle.sl_typing.specs.Signatures.{row_at, is_algorithm}
+use Rattle.sl_model.specs.Typing.WellTypedCalls.{is_moving}
 use Rattle.sl_model.specs.Typing.WellTypedNodes.{Node, a_call, an_own_call, an_operator, a_step, nodes_in}
 
 -- a variable, by its sort and number

@@ -5,18 +5,20 @@
 -- [basic.start.main] and [sequence.reqmts] (the value of `a.assign(n, t)` isn't in a).
 -- Chosen here: which statements there are. A head declares a number with its value, or an iterator. A read takes ints. What a part of a statement
 -- declares stands in a block. A container for elements alone is no statement and isn't gone over. What may be an element of the container that is
--- assigned to is told by its look, and each reference may be one.
+-- assigned to is told by its look, and each reference to an int may be one.
 use Rattle.std.specs.Prelude.{ℕ, ◌==◌, Bool, true, false, not, ◌&&◌, List, [], ◌∷◌, Option, Some, None, if◌then◌else◌}
 use Rattle.std.specs.List.{list_all}
 use Rattle.sl_base.specs.declared.form.Form.{Form}
 use Rattle.sl_base.specs.declared.scalar.Scalar.{Scalar}
 use Rattle.sl_base.specs.declared.scalar.Scalar.TheVariants as t
 use Rattle.sl_specs.specs.declared.call.Call.TheVariants as c
+use Rattle.sl_specs.specs.Forms.{is_keyed}
 use Rattle.sl_specs.specs.Rows.{Row}
 use Rattle.sl_specs.specs.Table.{same_call}
 use Rattle.sl_syntax.specs.declared.operator.Access.TheVariants as a
 use Rattle.sl_syntax.specs.declared.typed.callee.Callee.{Callee}
 use Rattle.sl_syntax.specs.declared.typed.callee.Callee.TheVariants as callees
+use Rattle.sl_syntax.specs.declared.typed.element.ElementPart.TheVariants as parts
 use Rattle.sl_syntax.specs.declared.typed.element.Taken.{Taken}
 use Rattle.sl_syntax.specs.declared.typed.element.Taken.TheVariants as taken
 use Rattle.sl_syntax.specs.declared.typed.operator.Operator.TheVariants as operators
@@ -30,12 +32,12 @@ use Rattle.sl_syntax.specs.Typed.{unset_scalar, set_scalar, set_iterator, binds_
 use Rattle.sl_syntax.specs.Typed.{block, declares, choice, choice_else, while, for, range_for, break, continue, gives_back, does, Stmts, no_more}
 use Rattle.sl_syntax.specs.Typed.{followed, Function, Typed}
 use Rattle.sl_syntax.specs.Written.{is_map}
-use Rattle.sl_model.specs.Memory.Forms.{is_keyed}
-use Rattle.sl_model.specs.Typing.WellTypedTypes.{ExprType, no_type, scalar_type, element_type, iterator_type, two_iterators, container_type, handed_type}
-use Rattle.sl_model.specs.Typing.WellTypedTypes.{int_reference, entry_reference, Scope, is_within, variable_type, with_scalar, with_container, with_iterator}
-use Rattle.sl_model.specs.Typing.WellTypedTypes.{is_const, has_type, is_scalar, is_number, is_written, works_in}
-use Rattle.sl_model.specs.Typing.WellTypedTypes.{is_iterator, is_iterator_of, same_iterators}
-use Rattle.sl_model.specs.Typing.WellTypedCalls.{row_at, constructs}
+use Rattle.sl_typing.specs.declared.expr_type.ExprType.{ExprType}
+use Rattle.sl_typing.specs.declared.expr_type.ExprType.TheVariants as types
+use Rattle.sl_typing.specs.Types.{is_const, has_type, is_scalar, is_number, is_written, is_iterator, is_iterator_of, same_iterators}
+use Rattle.sl_typing.specs.Signatures.{row_at}
+use Rattle.sl_model.specs.Typing.WellTypedScopes.{Scope, is_within, variable_type, with_scalar, with_container, with_iterator, works_in}
+use Rattle.sl_model.specs.Typing.WellTypedCalls.{constructs}
 use Rattle.sl_model.specs.Typing.WellTypedExpressions.{goes_to, type_given, type_of, type_of_left, types_of}
 
 -- what a call gives may be an element of the container with this number and form: it is called on that, or is a `*` of an iterator of the form
@@ -44,10 +46,11 @@ gives_element x form callee (Some y) us = x == y
 gives_element x form (callees.Operator operators.Dereference) None us = list_all (is_iterator_of form) us
 gives_element x form callee None us = false
 
--- a left side may be such an element; each reference may be one
+-- a left side may be such an element; each reference to an int may be one, and `.first` and `.second` are parts of an element of a map
 abbrev pub may_be_element : Scope → ℕ → Form → Left → Bool
 may_be_element g x form (scalar y at) = false
-may_be_element g x form (reference y at name part) = true
+may_be_element g x form (reference y at name parts.Whole) = true
+may_be_element g x form (reference y at name part) = false
 may_be_element g x form (element h ops) = gives_element x form h.callee h.object (types_of g ops)
 
 -- an expression is that left side, or has `++` or `--` before it
@@ -59,7 +62,7 @@ may_give_element g x form e = false
 -- the second operand of a call on a container may be an element of it
 abbrev pub is_given_element : Scope → Option ℕ → Operands → Bool
 is_given_element g (Some x) (with n (with e none)) = elim (variable_type g.containers x) as (λ _. Bool) [
-  | container_type access form ↦ may_give_element g x form e
+  | types.Container access form ↦ may_give_element g x form e
   | u ↦ false
 ]
 is_given_element g object ops = false
@@ -81,10 +84,10 @@ assigns_others g e = true
 
 -- a value of this type may be discarded; both iterators of a pair are to be taken
 abbrev pub may_stand_alone : ExprType → Bool
-may_stand_alone no_type = false
-may_stand_alone (two_iterators b x) = false
-may_stand_alone (handed_type s) = false
-may_stand_alone (container_type a.Elements x) = false
+may_stand_alone types.Wrong = false
+may_stand_alone (types.IteratorPair b x) = false
+may_stand_alone (types.Handed s) = false
+may_stand_alone (types.Container a.Elements x) = false
 may_stand_alone u = true
 
 -- a left side of a number of this type that may be written
@@ -93,8 +96,8 @@ is_written_left g s l = is_scalar s (type_of_left g l) && is_written (type_of_le
 
 -- a left side that may be written, and a number of its type
 abbrev pub takes : ExprType → ExprType → Bool
-takes (scalar_type s) u = is_scalar s u
-takes (element_type w) u = w && is_scalar t.Int u
+takes (types.Scalar s) u = is_scalar s u
+takes (types.Element w) u = w && is_scalar t.Int u
 takes v u = false
 
 -- variables of the type int
@@ -143,16 +146,16 @@ is_typed_declaration g (makes form h ops) = is_making form h.callee h.object (ty
 
 -- the type of a reference to an element
 abbrev pub reference_to : ExprType → ExprType
-reference_to (element_type w) = int_reference w
-reference_to u = no_type
+reference_to (types.Element w) = types.IntReference w
+reference_to u = types.Wrong
 
 -- what is in scope behind a declaration
 abbrev pub behind : Declaration → Scope → Scope
-behind (unset_scalar s) g = with_scalar (scalar_type s) g
-behind (set_scalar s e) g = with_scalar (scalar_type s) g
+behind (unset_scalar s) g = with_scalar (types.Scalar s) g
+behind (set_scalar s e) g = with_scalar (types.Scalar s) g
 behind (set_iterator e) g = with_iterator (type_of g e) g
 behind (binds_reference h ops) g = with_iterator (reference_to (type_of_left g (element h ops))) g
-behind (makes form h ops) g = with_container (container_type a.Whole form) g
+behind (makes form h ops) g = with_container (types.Container a.Whole form) g
 
 -- the first part of a `for`
 abbrev pub is_typed_first : Scope → First → Bool
@@ -169,21 +172,21 @@ behind_first head g = g
 
 -- a range-for goes over such a container; an element with a key and a value is taken by reference
 abbrev pub may_go_over : Taken → ExprType → Bool
-may_go_over how (container_type a.Elements x) = false
-may_go_over taken.Value (container_type access x) = not (is_map x)
-may_go_over taken.Reference (container_type access x) = true
+may_go_over how (types.Container a.Elements x) = false
+may_go_over taken.Value (types.Container access x) = not (is_map x)
+may_go_over taken.Reference (types.Container access x) = true
 may_go_over how u = false
 
 -- the variable of a range-for over a container of this access and form comes into scope
 abbrev pub with_element : Taken → Bool → Form → Scope → Scope
-with_element taken.Value b x g = with_scalar (scalar_type t.Int) g
+with_element taken.Value b x g = with_scalar (types.Scalar t.Int) g
 with_element taken.Reference b x g =
-    with_iterator (if is_map x then entry_reference (not b) else int_reference (not b && not (is_keyed x))) g
+    with_iterator (if is_map x then types.EntryReference (not b) else types.IntReference (not b && not (is_keyed x))) g
 
 -- what is in scope in the body of a range-for: two hidden iterators, and then its variable
 abbrev pub in_range : Taken → ExprType → Scope → Scope
-in_range how (container_type access x) g =
-    with_element how (is_const access) x (with_iterator (iterator_type (is_const access) x) (with_iterator (iterator_type (is_const access) x) g))
+in_range how (types.Container access x) g =
+    with_element how (is_const access) x (with_iterator (types.Iterator (is_const access) x) (with_iterator (types.Iterator (is_const access) x) g))
 in_range how u g = g
 
 -- a `return` in a function that gives this
@@ -218,10 +221,10 @@ unfoldable mutual
 
 -- a parameter comes into scope; an iterator's is const where it is written so
 abbrev pub with_parameter : ParameterKind → Scope → Scope
-with_parameter (parameters.Value s) g = with_scalar (scalar_type s) g
-with_parameter (parameters.Reference s) g = with_scalar (scalar_type s) g
-with_parameter (parameters.Container access x) g = with_container (container_type access x) g
-with_parameter (parameters.Iterator b x) g = with_iterator (iterator_type b x) g
+with_parameter (parameters.Value s) g = with_scalar (types.Scalar s) g
+with_parameter (parameters.Reference s) g = with_scalar (types.Scalar s) g
+with_parameter (parameters.Container access x) g = with_container (types.Container access x) g
+with_parameter (parameters.Iterator b x) g = with_iterator (types.Iterator b x) g
 
 -- parameters come into scope in turn
 abbrev pub with_parameters : List ParameterKind → Scope → Scope

@@ -1,8 +1,8 @@
 //! Keys stay in order.
 ghost use Rattle.std.specs.Prelude.{◌≡◌, IsTrue, ℕ, ℤ, List, false, true};
+ghost use Rattle.sl_specs.specs.Forms.{is_hash, is_keyed};
 ghost use Rattle.sl_syntax.specs.declared.typed.callee.Callee.{Callee};
 ghost use Rattle.sl_model.specs.Memory.Containers.{Cont, Memory, Part, empty_memory, end_from, keys, write_element};
-ghost use Rattle.sl_model.specs.Memory.Forms.{is_hash, is_keyed};
 ghost use Rattle.sl_model.specs.Memory.Orders.{is_ascending};
 ghost use Rattle.sl_model.specs.LibraryCalls.Values.{Args, Value, gives};
 ghost use Rattle.sl_model.specs.LibraryCalls.Library.{lib};
