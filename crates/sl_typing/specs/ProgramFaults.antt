@@ -17,14 +17,18 @@ use Rattle.sl_syntax.specs.declared.tree.function.ResultType.TheVariants as r
 use Rattle.sl_syntax.specs.Tree.{Function, Program}
 use Rattle.sl_typing.specs.declared.fault.Fault.{Fault}
 use Rattle.sl_typing.specs.declared.rules.TheConstants as rule
-use Rattle.sl_typing.specs.Candidates.{is_algorithm_name}
+use Rattle.sl_typing.specs.Candidates.{is_algorithm_name, first_row, has_row}
 use Rattle.sl_typing.specs.Scopes.{function_named, is_iterator_name, name_of_parameter, parameter_kind, type_of_kind, is_among}
 use Rattle.sl_typing.specs.Contexts.{Context, declare}
-use Rattle.sl_typing.specs.Sites.{declares_container}
-use Rattle.sl_typing.specs.Rules.{is_main_name}
-use Rattle.sl_typing.specs.Faults.{broken}
-use Rattle.sl_typing.specs.Flow.{before_parameters, in_function, at_brace, after_function}
-use Rattle.sl_typing.specs.StatementFaults.{site_faults, twice_faults, limit_faults, items_faults}
+use Rattle.sl_typing.specs.Sites.{declares_container, is_site, own_site, sites_in, sites_in_all, site_count, at_word, inside}
+use Rattle.sl_typing.specs.Rules.{is_main_name, no_such_call, writes_to_const, assigns_const, is_alias, calls_main, is_weaker, assigns_weaker, is_lone_appender, is_site_too_many}
+use Rattle.sl_typing.specs.Faults.{broken, own_faults, faults, faults_of_all}
+use Rattle.sl_typing.specs.Flow.{before_parameters, in_function, at_brace, after_function, after, after_item, after_items}
+use Rattle.sl_typing.specs.StatementFaults.{site_faults, twice_faults, limit_faults, items_faults, stmt_faults, item_faults}
+use Rattle.sl_typing.specs.TypeOf.{type_of, types_of}
+use Rattle.sl_typing.specs.Looks.{is_left_side}
+use Rattle.sl_typing.specs.WrongType.{may_be_element, wrong_type, wrong_assignment}
+use Rattle.sl_typing.specs.Order.{deeds, deeds_of_all, is_still, order_matters}
 
 -- no iterator type has the name behind `::`
 abbrev pub iterator_faults : IteratorType → List Fault
@@ -101,4 +105,8 @@ first_place = record { line = 1; col = 1 }
 
 -- the rules that a program breaks
 unfoldable pub program_faults : Program → List Fault
+unfolding first_row has_row type_of types_of is_left_side is_site own_site sites_in sites_in_all site_count at_word inside may_be_element wrong_type
+    wrong_assignment deeds deeds_of_all is_still order_matters no_such_call writes_to_const assigns_const is_alias calls_main is_weaker
+    assigns_weaker is_lone_appender is_site_too_many own_faults faults faults_of_all after after_item after_items stmt_faults item_faults
+    items_faults
 program_faults p = functions_faults start p ++ broken (not (list_any is_main p)) first_place rule.NO_MAIN

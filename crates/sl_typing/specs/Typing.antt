@@ -6,10 +6,14 @@ use Rattle.sl_syntax.specs.Typed as t
 use Rattle.sl_typing.specs.declared.fault.Fault.{Fault}
 use Rattle.sl_typing.specs.Scopes.{parameter_kind, result_kind}
 use Rattle.sl_typing.specs.Contexts.{Context}
-use Rattle.sl_typing.specs.Flow.{in_function, at_brace, after_function, after_functions}
-use Rattle.sl_typing.specs.StatementNumbering.{brace_number, typed_items}
-use Rattle.sl_typing.specs.Literals.{literals_of_program}
+use Rattle.sl_typing.specs.Flow.{in_function, at_brace, after_function, after_functions, after, after_item, after_items}
+use Rattle.sl_typing.specs.StatementNumbering.{brace_number, typed_items, typed_stmt, typed_item}
+use Rattle.sl_typing.specs.Literals.{literals_of_program, literals, literals_of_all, literals_of_stmt, literals_of_item, literals_of_items}
 use Rattle.sl_typing.specs.ProgramFaults.{is_main, start, program_faults}
+use Rattle.sl_typing.specs.Candidates.{first_row, has_row}
+use Rattle.sl_typing.specs.TypeOf.{type_of, types_of}
+use Rattle.sl_typing.specs.Sites.{is_site, own_site, sites_in, sites_in_all, site_count, at_word, inside, site_number}
+use Rattle.sl_typing.specs.Numbering.{typed, operands}
 
 -- a function before which this is known
 abbrev pub typed_function : Context → Function → t.Function
@@ -34,6 +38,8 @@ main_number (f ∷ fs) = if is_main f then 0 else main_number fs + 1
 
 -- a program that breaks no rule, with its variables, functions, rows, sites, loops and names as numbers
 unfoldable pub typed_program : Program → t.Typed
+unfolding first_row has_row type_of types_of is_site own_site sites_in sites_in_all site_count at_word inside site_number after after_item
+    after_items typed operands typed_stmt typed_item typed_items literals literals_of_all literals_of_stmt literals_of_item literals_of_items
 typed_program p = record {
   functions = typed_functions start p;
   main = main_number p;
