@@ -1,0 +1,2 @@
+-- ## What is settled between the parts
+pub mod Matching

@@ -1,0 +1,2 @@
+//! What a program that breaks no rule of typing is: a well typed text.
+#![tactic(auto)]
