@@ -1,4 +1,27 @@
 //! The rules of typing, by the numbers in whose order they are tried at one node of a program.
+ghost use Rattle.std.specs.Prelude.{◌≡◌};
+ghost use Rattle.sl_typing.specs.declared.rules.TheConstants.{
+  UNKNOWN_NAME,
+  DECLARED_TWICE,
+  NO_SUCH_CALL,
+  WRONG_TYPE,
+  WRITE_TO_CONST,
+  ALIAS,
+  ORDER_OF_EFFECTS,
+  OUTSIDE_A_LOOP,
+  NO_MAIN,
+  LIBRARY_NAME,
+  WRONG_RETURN,
+  WEAKER_ITERATOR,
+  APPENDER,
+  AUTO,
+  TOO_MANY_FUNCTIONS,
+  TOO_MANY_VARIABLES,
+  TOO_MANY_SITES,
+  TOO_MANY_PARAMETERS,
+  TOO_MANY_ELEMENTS,
+  TOO_MANY_STATEMENTS,
+};
 
 /// A variable or a function that isn't declared.
 pub const UNKNOWN_NAME: u8 = 1;
@@ -59,3 +82,27 @@ pub const TOO_MANY_ELEMENTS: u8 = 19;
 
 /// A statement past the limit.
 pub const TOO_MANY_STATEMENTS: u8 = 20;
+
+/// The number of each rule.
+pub fn the_rules()
+    ensures unknown_name { UNKNOWN_NAME ≡ 1 }
+    ensures declared_twice { DECLARED_TWICE ≡ 2 }
+    ensures no_such_call { NO_SUCH_CALL ≡ 3 }
+    ensures wrong_type { WRONG_TYPE ≡ 4 }
+    ensures write_to_const { WRITE_TO_CONST ≡ 5 }
+    ensures alias { ALIAS ≡ 6 }
+    ensures order_of_effects { ORDER_OF_EFFECTS ≡ 7 }
+    ensures outside_a_loop { OUTSIDE_A_LOOP ≡ 8 }
+    ensures no_main { NO_MAIN ≡ 9 }
+    ensures library_name { LIBRARY_NAME ≡ 10 }
+    ensures wrong_return { WRONG_RETURN ≡ 11 }
+    ensures weaker_iterator { WEAKER_ITERATOR ≡ 12 }
+    ensures appender { APPENDER ≡ 13 }
+    ensures auto { AUTO ≡ 14 }
+    ensures too_many_functions { TOO_MANY_FUNCTIONS ≡ 15 }
+    ensures too_many_variables { TOO_MANY_VARIABLES ≡ 16 }
+    ensures too_many_sites { TOO_MANY_SITES ≡ 17 }
+    ensures too_many_parameters { TOO_MANY_PARAMETERS ≡ 18 }
+    ensures too_many_elements { TOO_MANY_ELEMENTS ≡ 19 }
+    ensures too_many_statements { TOO_MANY_STATEMENTS ≡ 20 }
+{}
