@@ -59,10 +59,15 @@ def names_of(name: str, vocabulary: Vocabulary) -> set[str]:
     return {name} | {f"{name}_{ending}" for ending in vocabulary.endings}
 
 
+def drawn(line: str) -> str:
+    """A line as a comment can hold it: what can't be drawn is a space, so that columns stay."""
+    return "".join(character if character.isprintable() else " " for character in line)
+
+
 def comment(goal: Goal) -> list[str]:
     """The case's name and its text, as comments; directives are left out."""
     lines = [line for line in goal.source.decode("utf-8", "replace").splitlines() if not line.startswith("#")]
-    return [f"-- {goal.title}", *(("-- " + line).rstrip() for line in lines)]
+    return [f"-- {goal.title}", *(("-- " + drawn(line)).rstrip() for line in lines)]
 
 
 def definition(goal: Goal) -> list[str]:
