@@ -61,13 +61,14 @@ def names_of(name: str, vocabulary: Vocabulary) -> set[str]:
 
 def drawn(line: str) -> str:
     """A line as a comment can hold it: what can't be drawn is a space, so that columns stay."""
-    return "".join(character if character.isprintable() else " " for character in line)
+    return "".join(character if character.isprintable() else " " for character in line).rstrip()
 
 
 def comment(goal: Goal) -> list[str]:
-    """The case's name and its text, as comments; directives are left out."""
+    """The case's name and its text, as comments; directives are left out, and what is too long for a line goes on in the next one."""
     lines = [line for line in goal.source.decode("utf-8", "replace").splitlines() if not line.startswith("#")]
-    return [f"-- {goal.title}", *(("-- " + drawn(line)).rstrip() for line in lines)]
+    cut = [piece for line in lines for piece in textwrap.wrap(drawn(line), WIDTH, subsequent_indent=" " * 6) or [""]]
+    return [f"-- {goal.title}", *(f"-- {piece}".rstrip() for piece in cut)]
 
 
 def definition(goal: Goal) -> list[str]:

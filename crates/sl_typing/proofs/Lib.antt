@@ -1,1 +1,3 @@
 pub mod Laws
+-- ## Worked examples
+pub mod Examples
