@@ -27,10 +27,10 @@ VOCABULARY = Vocabulary({
     "rule": "Rattle.sl_typing.specs.declared.rules.TheConstants",
 }, {
     "Rattle.std.specs.Prelude": ["◌≡◌", "◌++◌", "refl", "true", "false", "[]", "◌∷◌", "Some", "None", "codes"],
-    "Rattle.sl_syntax.specs.Tree": """number truth name call library_call parentheses prefix binary postfix index member_call member none absent
-        copies braces arguments declares_scalar declares_auto declares_reference declares_container text end_line value reads prints evaluates
-        assigns tests_read tests_no_read tests first_scalar first_auto first_effect block choice choice_else while for range_for break continue
-        gives_back does declares states Program""".split(),
+    "Rattle.sl_syntax.specs.Tree": """number truth name call library_call parentheses prefix binary postfix index member_call member
+        none absent copies braces arguments declares_scalar declares_auto declares_reference declares_container text end_line
+        value reads prints evaluates assigns tests_read tests_no_read tests first_scalar first_auto first_effect block choice
+        choice_else while for range_for break continue gives_back does declares states Program""".split(),
     "Rattle.sl_typing.specs.ProgramFaults": ["program_faults"],
     "Rattle.sl_typing.specs.Typing": ["FirstBroken"],
     "Rattle.sl_typing.proofs.Examples.Words": """at id all items read container_type iterator_type reference_head function main_alone
