@@ -59,6 +59,13 @@ def read_cases(path: str) -> list[Case]:
     return cases
 
 
+def command_text(case: Case) -> bytes:
+    """The text that a case of a command hands to it."""
+    if len(case.words) < 2 or case.words[1] not in case.files:
+        raise Refused("it isn't a case of a command on a text")
+    return case.files[case.words[1]]
+
+
 def run_words(case: Case) -> tuple[bytes, list[int], list[int], int]:
     """The text, the input, the schedule and the steps of a case of `run`."""
     if len(case.words) != 5 or case.words[0] != "run" or case.out is None:

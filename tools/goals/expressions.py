@@ -92,7 +92,7 @@ def member(c: Cursor, left: s.Expr, mark: Token) -> s.Expr:
     name = c.name()
     if mark.word == "." and c.sees("mark", "("):
         return s.MemberCall(name.place, left, name.name, arguments(c))
-    return s.Member(mark.place, left, mark.word, name.name)
+    return s.Member(mark.place, left, mark.word, name)
 
 
 def arguments(c: Cursor, opening: str = "(", closing: str = ")") -> list[s.Expr]:

@@ -1,140 +1,121 @@
-"""Files of goals: for each case its text as a comment, its typed tree, and the goal that the tree's run computes to the expected end."""
+"""Files of goals: for each case its text as a comment, its tree, and what is stated of the tree."""
 from __future__ import annotations
 
 import re
 import textwrap
 from dataclasses import dataclass
 
-from .cases import Case, run_words
-from .endings import Ending, ending_of
-from .refusal import Refused
-from .statements import tree_of
-from .terms import WIDTH, Bytes, Term, apply, integer, natural, row, words_of, written
+from .terms import WIDTH, Term, words_of, written
 
-DECLARED = "Rattle.sl_syntax.specs.declared"
-ALIASES = {
-    "t": "Rattle.sl_base.specs.declared.scalar.Scalar.TheVariants",
-    "f": "Rattle.sl_base.specs.declared.form.Form.TheVariants",
-    "access": f"{DECLARED}.operator.Access.TheVariants",
-    "o": f"{DECLARED}.operator.Arithmetic.TheVariants",
-    "c": f"{DECLARED}.operator.Comparison.TheVariants",
-    "callees": f"{DECLARED}.typed.callee.Callee.TheVariants",
-    "part": f"{DECLARED}.typed.element.ElementPart.TheVariants",
-    "taken": f"{DECLARED}.typed.element.Taken.TheVariants",
-    "operators": f"{DECLARED}.typed.operator.Operator.TheVariants",
-    "parameter": f"{DECLARED}.typed.parameter.ParameterKind.TheVariants",
-    "sort": f"{DECLARED}.typed.variable.VariableKind.TheVariants",
-}
-MODULES = {
-    "Rattle.std.specs.Prelude": ["◌≡◌", "◌++◌", "refl", "true", "false", "[]", "◌∷◌", "Some", "None", "pos",
-                                 "negsuc", "codes"],
-    "Rattle.std.specs.Fmt": ["digits"],
-    f"{DECLARED}.typed.step.Fix.TheVariants": ["Prefix", "Postfix"],
-    f"{DECLARED}.typed.step.Step.TheVariants": ["Up", "Down"],
-    "Rattle.sl_syntax.specs.Typed": """literal held iterator convert negate logical_not logical_and logical_or arithmetic comparison
-        increment move call own_call first second container handed_scalar scalar reference element none with read not_read test always text endline
-        number reads prints evaluates assigns updates moves_to unset_scalar set_scalar set_iterator binds_reference makes no_first
-        declares_first does_first block declares choice choice_else while for range_for break continue gives_back does Typed""".split(),
-    "Rattle.sl_specs.specs.Table": ["table"],
-    "Rattle.sl_model.specs.Runs.Ends": ["Done", "Trapped", "OutOfSteps", "Language", "Thrown"],
-    "Rattle.sl_model.specs.Runs.Run": ["run"],
-    "Rattle.sl_model.proofs.Examples.Short": ["at", "head", "all", "finish", "trap"],
-}
-RESERVED = {word for words in MODULES.values() for word in words} | {"as", "in", "data", "open", "record", "use", "pub", "mod", "search"}
+WORDS = {"as", "in", "data", "open", "record", "use", "pub", "mod", "search"}
+
+
+@dataclass(frozen=True)
+class Vocabulary:
+    """What the files of a command name: modules by their aliases, and names by their modules.
+
+    A tree whose case has no name that it can have begins with the prefix; the names of goals end with one of the endings.
+    """
+    aliases: dict[str, str]
+    modules: dict[str, list[str]]
+    prefix: str
+    endings: tuple[str, ...]
+
+    def reserved(self) -> set[str]:
+        """The names that no goal may have."""
+        return WORDS.union(self.aliases, *self.modules.values())
 
 
 @dataclass(frozen=True)
 class Goal:
-    """A case as a goal: its name in the file, its text, its tree, and its run with what it comes to."""
+    """A case as a goal: its name in the file, its text, and its tree of a type.
+
+    It states that the left term is the right one, or the left term alone. Its proof opens these definitions.
+    """
     name: str
     title: str
     source: bytes
+    type: str
     tree: Term
-    words: tuple[list[int], list[int], int]
-    ending: Ending
-
-    def run(self) -> Term:
-        """The run of the tree."""
-        inputs, picks, steps = self.words
-        return apply("run", apply(self.name), row([integer(z) for z in inputs]), row([natural(n) for n in picks]), natural(steps))
-
-    def finish(self) -> Term:
-        """How the run ends."""
-        return apply("finish", self.ending.end, Bytes(self.ending.output), natural(self.ending.lost))
+    ending: str
+    left: Term
+    right: Term | None
+    opened: list[str]
 
 
-def goal_of(case: Case, name: str) -> Goal:
-    """A case as a goal."""
-    source, inputs, picks, steps = run_words(case)
-    try:
-        tree = tree_of(source)
-    except (AssertionError, IndexError, KeyError, ValueError) as why:
-        raise Refused(f"its text isn't one of the language: {why!r}") from why
-    return Goal(name, case.name, source, tree.term, (inputs, picks, steps), ending_of(tree, case.out or b""))
-
-
-def identifier(title: str, taken: set[str]) -> str:
+def identifier(title: str, taken: set[str], vocabulary: Vocabulary) -> str:
     """A name for a goal that isn't taken yet, from its case's name."""
     words = re.sub(r"[^a-z0-9]+", "_", title.lower()).strip("_")
-    base = words if words[:1].isalpha() and words not in RESERVED | set(ALIASES) else f"run_{words}"
+    base = words if words[:1].isalpha() and words not in vocabulary.reserved() else f"{vocabulary.prefix}_{words}"
     name, number = base, 2
-    while name in taken or f"{name}_ends" in taken:
+    while not taken.isdisjoint(names_of(name, vocabulary)):
         name, number = f"{base}_{number}", number + 1
-    taken |= {name, f"{name}_ends"}
+    taken |= names_of(name, vocabulary)
     return name
 
 
+def names_of(name: str, vocabulary: Vocabulary) -> set[str]:
+    """The names that a goal takes."""
+    return {name} | {f"{name}_{ending}" for ending in vocabulary.endings}
+
+
+def drawn(line: str) -> str:
+    """A line as a comment can hold it: what can't be drawn is a space, so that columns stay."""
+    return "".join(character if character.isprintable() else " " for character in line).rstrip()
+
+
 def comment(goal: Goal) -> list[str]:
-    """The case's name and its text, as comments; directives are left out."""
+    """The case's name and its text, as comments; directives are left out, and what is too long for a line goes on in the next one."""
     lines = [line for line in goal.source.decode("utf-8", "replace").splitlines() if not line.startswith("#")]
-    return [f"-- {goal.title}", *(("-- " + line).rstrip() for line in lines)]
+    cut = [piece for line in lines for piece in textwrap.wrap(drawn(line), WIDTH, subsequent_indent=" " * 6) or [""]]
+    return [f"-- {goal.title}", *(f"-- {piece}".rstrip() for piece in cut)]
 
 
 def definition(goal: Goal) -> list[str]:
     """The definition of a goal's tree."""
     head = f"{goal.name} = "
     lines = written(goal.tree, len(head), 0)
-    return [f"abbrev pub {goal.name} : Typed", head + lines[0], *lines[1:]]
+    return [f"abbrev pub {goal.name} : {goal.type}", (head + lines[0]).rstrip(), *lines[1:]]
 
 
-def opened(goal: Goal) -> list[str]:
-    """The definitions that a goal has to open: by one numbers are printed, by the other calls find their row."""
-    calls_library = any(word in words_of(goal.tree) for word in ("callees.Row", "callees.Appends"))
-    return ["digits"] * needs_digits(goal) + ["table"] * calls_library
+def stated(goal: Goal, head: str) -> list[str]:
+    """What is stated, behind the goal's name."""
+    left = written(goal.left, len(head), 2)
+    if goal.right is None:
+        return [head + left[0], *left[1:]]
+    right = written(goal.right, 6, 4)
+    lines = [head + left[0], *left[1:], "    ≡ " + right[0], *right[1:]]
+    if len(lines) == 2 and len(" ".join(lines)) <= WIDTH:
+        return [lines[0] + " " + lines[1].strip()]
+    return lines
 
 
 def statement(goal: Goal) -> list[str]:
     """The goal itself."""
-    head = f"{goal.name}_ends : "
-    left, right = written(goal.run(), len(head), 2), written(goal.finish(), 6, 4)
-    lines = [head + left[0], *left[1:], "    ≡ " + right[0], *right[1:]]
-    if len(lines) == 2 and len(" ".join(lines)) <= WIDTH:
-        lines = [lines[0] + " " + lines[1].strip()]
-    if opened(goal):
-        lines.append("unfolding " + " ".join(opened(goal)))
-    return [*lines, f"{goal.name}_ends = refl"]
-
-
-def needs_digits(goal: Goal) -> bool:
-    """Whether a number is printed."""
-    return any(48 <= byte < 58 for byte in goal.ending.output)
+    name = f"{goal.name}_{goal.ending}"
+    lines = stated(goal, f"{name} : ")
+    if goal.opened:
+        lines.append("unfolding " + " ".join(goal.opened))
+    return [*lines, f"{name} = refl"]
 
 
 def used(goals: list[Goal], with_goals: bool) -> set[str]:
     """The names that a file of goals uses."""
-    words = {"Typed", "at"}
+    words: set[str] = set()
     for goal in goals:
-        words |= set(words_of(goal.tree))
+        words |= {goal.type, *words_of(goal.tree)}
         if with_goals:
-            words |= set(words_of(goal.run())) | set(words_of(goal.finish())) | {"◌≡◌", "refl"}
-            words |= set(opened(goal))
+            words |= {"refl", *goal.opened, *words_of(goal.left)}
+        if with_goals and goal.right is not None:
+            words |= {"◌≡◌", *words_of(goal.right)}
     return words
 
 
-def imports(words: set[str]) -> list[str]:
+def imports(words: set[str], vocabulary: Vocabulary) -> list[str]:
     """The lines that bring these names into scope."""
-    lines = [f"use {module} as {alias}" for alias, module in ALIASES.items() if any(word.startswith(f"{alias}.") for word in words)]
-    for module, names in MODULES.items():
+    aliases = vocabulary.aliases.items()
+    lines = [f"use {module} as {alias}" for alias, module in aliases if any(word.startswith(f"{alias}.") for word in words)]
+    for module, names in vocabulary.modules.items():
         listed = [name for name in names if name in words]
         width = WIDTH - len(f"use {module}.{{}}")
         for piece in textwrap.wrap(", ".join(listed), width, break_on_hyphens=False):
@@ -142,9 +123,9 @@ def imports(words: set[str]) -> list[str]:
     return lines
 
 
-def file_of(title: str, goals: list[Goal], with_goals: bool = True) -> str:
+def file_of(title: str, goals: list[Goal], vocabulary: Vocabulary, with_goals: bool = True) -> str:
     """A file of goals, or of their trees alone."""
-    lines = [f"-- {title}", *imports(used(goals, with_goals))]
+    lines = [f"-- {title}", *imports(used(goals, with_goals), vocabulary)]
     for goal in goals:
         lines += ["", *comment(goal), *definition(goal)]
         if with_goals:

@@ -46,20 +46,22 @@ def container_type(c: Cursor) -> s.ContainerType:
     return s.ContainerType(lib.place, form)
 
 
-def iterator_word(c: Cursor) -> bool:
-    """The word behind `::`: whether it is that of an iterator of a const container."""
+def iterator_type(c: Cursor, container: s.ContainerType) -> s.IteratorType:
+    """An iterator's type, behind its container's."""
     c.mark("::")
-    return c.take("name", "iterator", "const_iterator").word == "const_iterator"
+    return s.IteratorType(container, c.name())
+
+
+def result_of(c: Cursor) -> s.Result:
+    """What a function gives back."""
+    if c.sees("lib", *FORMS):
+        return iterator_type(c, container_type(c))
+    return None if c.skips("key", "void") else scalar(c)
 
 
 def function(c: Cursor) -> s.Function:
     """A function."""
-    result: str | tuple[str, bool] | None = None
-    if c.sees("lib", *FORMS):
-        form = container_type(c).form
-        result = (form, iterator_word(c))
-    elif not c.skips("key", "void"):
-        result = scalar(c)
+    place, result = c.token().place, result_of(c)
     name = c.name()
     c.mark("(")
     parameters: list[s.Parameter] = []
@@ -68,31 +70,29 @@ def function(c: Cursor) -> s.Function:
             c.mark(",")
         parameters.append(parameter(c))
     c.mark(")")
-    return s.Function(name, result, parameters, block(c))
+    return s.Function(place, name, result, parameters, block(c))
 
 
 def parameter(c: Cursor) -> s.Parameter:
     """A parameter."""
+    place = c.token().place
     if sees_scalar(c):
-        type_ = scalar(c)
-        how = "reference" if c.skips("mark", "&") else "value"
-        return s.Parameter(how, c.name(), scalar=type_)
+        return s.ScalarParameter(place, scalar(c), c.skips("mark", "&"), c.name())
     is_const = c.skips("key", "const")
-    form = container_type(c).form
-    if c.sees("mark", "::"):
-        is_const = iterator_word(c)
-        return s.Parameter("iterator", c.name(), form=form, is_const=is_const)
+    type_ = container_type(c)
+    if c.sees("mark", "::") and not is_const:
+        return s.IteratorParameter(iterator_type(c, type_), c.name())
     c.mark("&")
-    return s.Parameter("container", c.name(), form=form, is_const=is_const)
+    return s.ContainerParameter(place, is_const, type_, c.name())
 
 
 def block(c: Cursor) -> s.Block:
     """Items in braces."""
-    c.mark("{")
+    opening = c.mark("{")
     items: list[s.Stmt] = []
     while not c.sees("mark", "}"):
         items.append(item(c))
-    return s.Block(items, c.mark("}"))
+    return s.Block(opening, items, c.mark("}"))
 
 
 def sees_reference(c: Cursor) -> bool:
@@ -115,46 +115,46 @@ def item(c: Cursor) -> s.Stmt:
     return s.Declared(found)
 
 
-def reference_head(c: Cursor) -> tuple[bool, bool]:
-    """The head of a reference's declaration: whether it is const, and whether its type is `auto`."""
+def reference_head(c: Cursor) -> s.ReferenceHead:
+    """The head of a reference's declaration."""
+    place = c.token().place
     is_const = c.skips("key", "const")
     is_auto = c.take("key", "int", "auto").word == "auto"
     c.mark("&")
-    return is_const, is_auto
+    return s.ReferenceHead(place, is_const, is_auto)
 
 
 def declaration(c: Cursor) -> s.Declaration:
     """A declaration without its `;`."""
     if sees_reference(c):
-        is_const, is_auto = reference_head(c)
-        name = c.name()
+        head, name = reference_head(c), c.name()
         c.mark("=")
-        return s.ReferenceDeclaration(is_const, is_auto, name, expression(c))
+        return s.ReferenceDeclaration(head, name, expression(c))
     if c.sees("lib", *FORMS):
         return container_declaration(c)
+    place = c.token().place
     is_auto = c.skips("key", "auto")
     type_ = None if is_auto else scalar(c)
     name = c.name()
     if c.skips("mark", "="):
-        return s.ScalarDeclaration(type_, name, expression(c))
+        return s.ScalarDeclaration(place, type_, name, expression(c))
     if is_auto:
         raise Refused("auto without a value")
-    return s.ScalarDeclaration(type_, name, None)
+    return s.ScalarDeclaration(place, type_, name, None)
 
 
 def container_declaration(c: Cursor) -> s.ContainerDeclaration:
-    """The declaration of a container; empty braces are no braces."""
+    """The declaration of a container."""
     type_, name = container_type(c), c.name()
     if c.sees("mark", "("):
         return s.ContainerDeclaration(type_, name, "call", arguments(c))
     has_equal = c.skips("mark", "=")
     if c.sees("mark", "{"):
-        elements = arguments(c, "{", "}")
-        return s.ContainerDeclaration(type_, name, "list" if elements else "empty", elements)
+        return s.ContainerDeclaration(type_, name, "braces", arguments(c, "{", "}"), has_equal)
     if has_equal:
         source = c.name()
         return s.ContainerDeclaration(type_, name, "copy", [s.Name(source.place, source.name)])
-    return s.ContainerDeclaration(type_, name, "empty", [])
+    return s.ContainerDeclaration(type_, name, "absent", [])
 
 
 def statement(c: Cursor) -> s.Stmt:
@@ -174,21 +174,22 @@ def statement(c: Cursor) -> s.Stmt:
 
 def simple_statement(c: Cursor) -> s.Stmt:
     """A statement that ends with a `;`, without it."""
+    place = c.token().place
     if c.sees("key", "break", "continue"):
-        return s.Jump(c.take("key").word)
+        return s.Jump(place, c.take("key").word)
     if c.skips("key", "return"):
-        return s.Return(None if c.sees("mark", ";") else expression(c))
-    return s.Does(effect(c))
+        return s.Return(place, None if c.sees("mark", ";") else expression(c))
+    return s.Does(place, effect(c))
 
 
 def choice(c: Cursor) -> s.If:
     """An `if`; an `else` belongs to the nearest one."""
-    c.take("key", "if")
+    place = c.take("key", "if").place
     c.mark("(")
     tested = condition(c)
     c.mark(")")
     then = statement(c)
-    return s.If(tested, then, statement(c) if c.skips("key", "else") else None)
+    return s.If(place, tested, then, statement(c) if c.skips("key", "else") else None)
 
 
 def while_loop(c: Cursor, word: Token) -> s.While:
@@ -215,44 +216,40 @@ def for_loop(c: Cursor, word: Token) -> s.Stmt:
 
 def range_for(c: Cursor, word: Token) -> s.RangeFor:
     """A range-for, behind its parenthesis."""
-    is_reference, is_const = sees_reference(c), False
-    if is_reference:
-        is_const, _ = reference_head(c)
-    else:
-        c.take("key", "int", "auto")
+    element = reference_head(c) if sees_reference(c) else s.ElementValue(c.take("key", "int", "auto").word == "auto")
     name = c.name()
     c.mark(":")
     container = c.name()
     c.mark(")")
-    return s.RangeFor(word.place, is_reference, is_const, name, container, statement(c))
+    return s.RangeFor(word.place, element, name, container, statement(c))
 
 
 def condition(c: Cursor) -> s.Condition:
     """A condition."""
     if c.sees("lib", "cin"):
-        return s.ReadCondition(read(c), False)
+        return s.ReadCondition(read(c), None)
     if c.sees("mark", "!") and c.sees("mark", "(", ahead=1) and c.sees("lib", "cin", ahead=2):
-        c.mark("!")
+        negation = c.mark("!")
         c.mark("(")
         found = read(c)
         c.mark(")")
-        return s.ReadCondition(found, True)
+        return s.ReadCondition(found, negation)
     return expression(c)
 
 
 def read(c: Cursor) -> s.ReadEffect:
     """A read of variables."""
-    c.take("lib", "cin")
+    place = c.take("lib", "cin").place
     c.mark(">>")
     variables = [c.name()]
     while c.skips("mark", ">>"):
         variables.append(c.name())
-    return s.ReadEffect(variables)
+    return s.ReadEffect(place, variables)
 
 
 def print_effect(c: Cursor) -> s.PrintEffect:
     """A print of items."""
-    c.take("lib", "cout")
+    place = c.take("lib", "cout").place
     items: list[s.PrintItem] = []
     while c.skips("mark", "<<"):
         start = c.token()
@@ -263,7 +260,7 @@ def print_effect(c: Cursor) -> s.PrintEffect:
         else:
             value = sum_of(c)
             items.append(s.PrintItem(start.place, c.token().place, value))
-    return s.PrintEffect(items)
+    return s.PrintEffect(place, items)
 
 
 def effect(c: Cursor) -> s.Effect:

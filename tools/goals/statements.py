@@ -11,7 +11,7 @@ from .refusal import Refused
 from .scope import Named, Text
 from .terms import NOTHING, Bytes, Record, Term, Word, apply, at, integer, natural, row, some
 from .tokens import Place
-from .types import Container, Iterator, Nothing, Reference, Scalar, Type, common, kind_of, number_type
+from .types import Container, Iterator, Nothing, Reference, Scalar, Type, common, iterator_of, kind_of, number_type
 from .typing import Expressions, Signature, element_parts
 
 PAIRED = ("Map", "HashMap", "MultiMap")
@@ -50,9 +50,9 @@ class Statements(Expressions):
                 return self.block(x)
             case s.Declared(declaration):
                 return apply("declares", self.declaration(declaration))
-            case s.If(condition, then, None):
+            case s.If(_, condition, then, None):
                 return apply("choice", self.condition(condition), self.statement(then))
-            case s.If(condition, then, otherwise):
+            case s.If(_, condition, then, otherwise):
                 return apply("choice_else", self.condition(condition), self.statement(then), self.statement(otherwise))
             case s.While(place, condition, body):
                 return apply("while", natural(self.text.loop(place)), self.condition(condition), self.statement(body))
@@ -60,11 +60,11 @@ class Statements(Expressions):
                 return self.for_loop(x)
             case s.RangeFor():
                 return self.range_for(x)
-            case s.Jump(word):
+            case s.Jump(_, word):
                 return Word(word)
-            case s.Return(value):
+            case s.Return(_, value):
                 return apply("gives_back", some(None if value is None else self.returned(value)))
-            case s.Does(effect):
+            case s.Does(_, effect):
                 return apply("does", self.effect(effect))
         raise Refused("a statement")
 
@@ -94,21 +94,21 @@ class Statements(Expressions):
 
     def range_for(self, x: s.RangeFor) -> Term:
         """A range-for."""
-        number = natural(self.text.loop(x.place))
+        number, is_reference = natural(self.text.loop(x.place)), isinstance(x.element, s.ReferenceHead)
         variable, type_ = self.container(s.Name(x.container.place, x.container.name))
         self.tell(x.place, "for", [None, variable.label, variable.label])
         self.scope.enter()
         self.scope.declare_hidden()
-        self.scope.declare(x.name, Reference(type_.form in PAIRED) if x.is_reference else Scalar("Int"))
+        self.scope.declare(x.name, Reference(type_.form in PAIRED) if is_reference else Scalar("Int"))
         body = self.statement(x.body)
         self.scope.leave()
-        taken = Word("taken.Reference" if x.is_reference else "taken.Value")
+        taken = Word("taken.Reference" if is_reference else "taken.Value")
         return apply("range_for", number, taken, natural(variable.number), at(x.place), natural(variable.label), body)
 
     def condition(self, x: s.Condition) -> Term:
         """A condition."""
         if isinstance(x, s.ReadCondition):
-            return apply("not_read" if x.is_negated else "read", self.read_variables(x.read))
+            return apply("not_read" if x.negation else "read", self.read_variables(x.read))
         type_, term = self.typed(x)
         number_type(type_)
         return apply("test", term)
@@ -174,7 +174,7 @@ class Statements(Expressions):
                 parts = element_parts(self.left(x.value)[1])
                 self.scope.declare(x.name, Reference(False))
                 return apply("binds_reference", *parts)
-            case s.ScalarDeclaration(scalar, name, None):
+            case s.ScalarDeclaration(_, scalar, name, None):
                 self.scope.declare(name, Scalar(str(scalar)))
                 return apply("unset_scalar", Word(f"t.{scalar}"))
         type_, term = self.typed(x.value)
@@ -189,7 +189,7 @@ class Statements(Expressions):
         """A declaration of a container. Elements in braces are arguments as those of a call are."""
         form, arguments = x.type.form, [self.typed(e) for e in x.arguments]
         told = self.tell(x.type.place, "constructor", [None, *map(self.label, x.arguments)])
-        if x.how == "list":
+        if x.how == "braces" and arguments:
             (found,) = [r for r in rows_called(form, "constructor") if "InitializerList" in r.letters]
             listed = [converted("Int", *argument) for argument in arguments]
         else:
@@ -201,40 +201,41 @@ class Statements(Expressions):
 
 def parameter_type(x: s.Parameter) -> Type:
     """The type of a parameter's variable."""
-    if x.how == "container":
-        return Container(str(x.form), x.is_const)
-    return Iterator(str(x.form), x.is_const) if x.how == "iterator" else Scalar(str(x.scalar))
+    match x:
+        case s.ContainerParameter(_, is_const, type_):
+            return Container(type_.form, is_const)
+        case s.IteratorParameter(type_):
+            return iterator_of(type_)
+    return Scalar(x.scalar)
 
 
 def parameter_kind(x: s.Parameter) -> Term:
     """How a parameter takes its operand."""
-    match x.how:
-        case "value":
-            return apply("parameter.Value", Word(f"t.{x.scalar}"))
-        case "reference":
-            return apply("parameter.Reference", Word(f"t.{x.scalar}"))
-        case "container":
-            return apply("parameter.Container", Word("access.Const" if x.is_const else "access.Whole"), Word(f"f.{x.form}"))
-    return iterator_kind(str(x.form), x.is_const)
+    match x:
+        case s.ContainerParameter(_, is_const, type_):
+            return apply("parameter.Container", Word("access.Const" if is_const else "access.Whole"), Word(f"f.{type_.form}"))
+        case s.IteratorParameter(type_):
+            return iterator_kind(iterator_of(type_))
+    return apply("parameter.Reference" if x.is_reference else "parameter.Value", Word(f"t.{x.scalar}"))
 
 
-def iterator_kind(form: str, is_const: bool) -> Term:
+def iterator_kind(x: Iterator) -> Term:
     """An iterator as a parameter or a result."""
-    return apply("parameter.Iterator", Word("true" if is_const else "false"), Word(f"f.{form}"))
+    return apply("parameter.Iterator", Word("true" if x.is_const else "false"), Word(f"f.{x.form}"))
 
 
-def result_type(result: str | tuple[str, bool] | None) -> Type:
+def result_type(result: s.Result) -> Type:
     """What a function gives."""
     if result is None:
         return Nothing()
-    return Scalar(result) if isinstance(result, str) else Iterator(*result)
+    return Scalar(result) if isinstance(result, str) else iterator_of(result)
 
 
-def result_kind(result: str | tuple[str, bool] | None) -> Term:
+def result_kind(result: s.Result) -> Term:
     """What a function gives back, as its tree says it."""
     if result is None:
         return NOTHING
-    return some(apply("parameter.Value", Word(f"t.{result}")) if isinstance(result, str) else iterator_kind(*result))
+    return some(apply("parameter.Value", Word(f"t.{result}")) if isinstance(result, str) else iterator_kind(iterator_of(result)))
 
 
 def variable_term(x: Named) -> Term:

@@ -88,7 +88,7 @@ class Member(Expr):
     """`.first` and its like: the selector is `.` or `->`."""
     object: Expr
     selector: str
-    name: str
+    name: Word
 
 
 @dataclass(frozen=True)
@@ -99,7 +99,23 @@ class ContainerType:
 
 
 @dataclass(frozen=True)
+class IteratorType:
+    """A container's type, and the name behind its `::`, which may be any."""
+    container: ContainerType
+    name: Word
+
+
+@dataclass(frozen=True)
+class ReferenceHead:
+    """`int&`, `const auto&`: what stands before a reference's name, at its first token."""
+    place: Place
+    is_const: bool
+    is_auto: bool
+
+
+@dataclass(frozen=True)
 class ReadEffect:
+    place: Place
     variables: list[Word]
 
 
@@ -113,6 +129,7 @@ class PrintItem:
 
 @dataclass(frozen=True)
 class PrintEffect:
+    place: Place
     items: list[PrintItem]
 
 
@@ -135,9 +152,9 @@ Effect = ReadEffect | PrintEffect | Evaluation | Assignment
 
 @dataclass(frozen=True)
 class ReadCondition:
-    """`std::cin >> x`, which may be negated."""
+    """`std::cin >> x`, or `!(std::cin >> x)` with the place of the `!`."""
     read: ReadEffect
-    is_negated: bool
+    negation: Place | None
 
 
 Condition = ReadCondition | Expr
@@ -146,6 +163,7 @@ Condition = ReadCondition | Expr
 @dataclass(frozen=True)
 class ScalarDeclaration:
     """The scalar is `None` for `auto`, and the value `None` where there is none."""
+    place: Place
     scalar: str | None
     name: Word
     value: Expr | None
@@ -153,19 +171,19 @@ class ScalarDeclaration:
 
 @dataclass(frozen=True)
 class ReferenceDeclaration:
-    is_const: bool
-    is_auto: bool
+    head: ReferenceHead
     name: Word
     value: Expr
 
 
 @dataclass(frozen=True)
 class ContainerDeclaration:
-    """How it is made: `empty`, `copy` (of a name), `list` (elements in braces) or `call` (arguments in parentheses)."""
+    """How it is made: `absent`, `copy` (of a name), `braces` (behind a `=` or not) or `call` (arguments in parentheses)."""
     type: ContainerType
     name: Word
     how: str
     arguments: list[Expr]
+    has_equal: bool = False
 
 
 Declaration = ScalarDeclaration | ReferenceDeclaration | ContainerDeclaration
@@ -173,6 +191,7 @@ Declaration = ScalarDeclaration | ReferenceDeclaration | ContainerDeclaration
 
 @dataclass(frozen=True)
 class Block:
+    open: Place
     items: list[Stmt]
     close: Place
 
@@ -184,6 +203,7 @@ class Declared:
 
 @dataclass(frozen=True)
 class If:
+    place: Place
     condition: Condition
     then: Stmt
     otherwise: Stmt | None
@@ -206,10 +226,15 @@ class For:
 
 
 @dataclass(frozen=True)
+class ElementValue:
+    """`int` or `auto` before the variable of a range-for, which takes the values of elements."""
+    is_auto: bool
+
+
+@dataclass(frozen=True)
 class RangeFor:
     place: Place
-    is_reference: bool
-    is_const: bool
+    element: ElementValue | ReferenceHead
     name: Word
     container: Word
     body: Stmt
@@ -218,16 +243,20 @@ class RangeFor:
 @dataclass(frozen=True)
 class Jump:
     """`break` or `continue`."""
+    place: Place
     word: str
 
 
 @dataclass(frozen=True)
 class Return:
+    place: Place
     value: Expr | None
 
 
 @dataclass(frozen=True)
 class Does:
+    """Its place is that of its first token."""
+    place: Place
     effect: Effect
 
 
@@ -235,19 +264,38 @@ Stmt = Block | Declared | If | While | For | RangeFor | Jump | Return | Does
 
 
 @dataclass(frozen=True)
-class Parameter:
-    """How it takes its operand (`value`, `reference`, `container` or `iterator`), and of what."""
-    how: str
+class ScalarParameter:
+    """`int x` or `int& x`, at its first token."""
+    place: Place
+    scalar: str
+    is_reference: bool
     name: Word
-    scalar: str | None = None
-    form: str | None = None
-    is_const: bool = False
+
+
+@dataclass(frozen=True)
+class ContainerParameter:
+    """`std::vector<int>& v`, with `const` before it or not, at its first token."""
+    place: Place
+    is_const: bool
+    type: ContainerType
+    name: Word
+
+
+@dataclass(frozen=True)
+class IteratorParameter:
+    type: IteratorType
+    name: Word
+
+
+Parameter = ScalarParameter | ContainerParameter | IteratorParameter
+Result = str | IteratorType | None
 
 
 @dataclass(frozen=True)
 class Function:
-    """Its result is a scalar, a form with whether its iterator is const, or nothing."""
+    """Its result is a scalar, an iterator's type, or nothing; its place is that of its first token."""
+    place: Place
     name: Word
-    result: str | tuple[str, bool] | None
+    result: Result
     parameters: list[Parameter]
     body: Block

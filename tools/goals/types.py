@@ -2,6 +2,7 @@
 from dataclasses import dataclass
 
 from .refusal import Refused
+from .syntax import IteratorType
 
 
 @dataclass(frozen=True)
@@ -48,6 +49,7 @@ class Nothing:
 
 Type = Scalar | Container | Iterator | Pair | Reference | Appender | Nothing
 
+ITERATORS = {"iterator": False, "const_iterator": True}
 INT, BOOL, SIZE, DIFF = Scalar("Int"), Scalar("Bool"), Scalar("Size"), Scalar("Diff")
 
 
@@ -56,6 +58,13 @@ def number_type(type_: Type) -> str:
     if isinstance(type_, Scalar):
         return type_.name
     raise Refused(f"a number is due, and there is {type_}")
+
+
+def iterator_of(written: IteratorType) -> Iterator:
+    """The iterator that a type names."""
+    if written.name.name not in ITERATORS:
+        raise Refused(f"no iterator is called {written.name.name}")
+    return Iterator(written.container.form, ITERATORS[written.name.name])
 
 
 def common(left: str, right: str) -> str:

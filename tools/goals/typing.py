@@ -122,9 +122,9 @@ class Expressions:
                 if found.gives == "Element":
                     return INT, apply("element", called, listed)
             case s.Member(_, _, "->"):
-                return INT, self.element("->", "ArrowFirst" if e.name == "first" else "ArrowSecond", e.place, e.object)
+                return INT, self.element("->", "ArrowFirst" if e.name.name == "first" else "ArrowSecond", e.place, e.object)
             case s.Member(_, object_, "."):
-                return INT, self.use(object_, "First" if e.name == "first" else "Second")
+                return INT, self.use(object_, "First" if e.name.name == "first" else "Second")
         raise Refused(f"no left side at {e.place.line}:{e.place.col}")
 
     def left_name(self, e: s.Name) -> Found:
@@ -185,9 +185,9 @@ class Expressions:
         type_, term = self.typed(e.object)
         if not isinstance(type_, Pair):
             raise Refused(f"no pair at {e.place.line}:{e.place.col}")
-        if e.name == "second" and type_.has_bool:
+        if e.name.name == "second" and type_.has_bool:
             return BOOL, apply("second", at(e.place), term)
-        return type_.iterator, apply(e.name, at(e.place), term)
+        return type_.iterator, apply(e.name.name, at(e.place), term)
 
     def prefixed(self, e: s.Prefix) -> Found:
         """An operator before its operand."""
@@ -281,12 +281,12 @@ class Expressions:
 
     def handed(self, parameter: s.Parameter, e: s.Expr) -> Term:
         """An argument as a parameter takes it."""
-        match parameter.how:
-            case "value":
-                return converted(str(parameter.scalar), *self.typed(e))
-            case "reference":
+        match parameter:
+            case s.ScalarParameter(_, _, True):
                 return apply("handed_scalar", natural(self.variable(e, Scalar).number))
-            case "container":
+            case s.ScalarParameter(_, scalar):
+                return converted(scalar, *self.typed(e))
+            case s.ContainerParameter():
                 return apply("container", natural(self.container(e)[0].number))
         return self.typed(e)[1]
 

@@ -1,1 +1,5 @@
+-- ## Laws
 pub mod OneAnswer
+
+-- ## Worked examples
+pub mod Examples

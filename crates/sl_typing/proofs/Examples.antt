@@ -1,0 +1,27 @@
+-- Texts, each with the rule of typing that it breaks first, or with none.
+pub mod Words
+pub mod Names
+pub mod Declarations
+pub mod Calls
+pub mod Operands
+pub mod Parts
+pub mod Const
+pub mod Alias
+pub mod Order
+pub mod OpenOrder
+pub mod Loops
+pub mod Functions
+pub mod IteratorTypes
+pub mod Weaker
+pub mod Appenders
+pub mod Auto
+pub mod References
+pub mod WrongReferences
+pub mod Multiple
+pub mod ManyVariables
+pub mod ManyNumbers
+pub mod ManyElements
+pub mod ManyFunctions
+pub mod TooManyFunctions
+pub mod LongTexts
+pub mod Mixed
