@@ -1,5 +1,4 @@
 -- ## Laws
 pub mod OneAnswer
-
 -- ## Worked examples
 pub mod Examples
