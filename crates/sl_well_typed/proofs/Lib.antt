@@ -1,2 +1,0 @@
--- ## What is settled between the parts
-pub mod Matching
