@@ -2,7 +2,7 @@ ghost use Rattle.std.specs.Prelude.{◌≡◌, ◌+◌, ◌-◌, ◌^◌, ◌<�
 ghost use Rattle.sl_base.specs.Places.{place_at};
 
 /// A line and a column, from 1. A column is a byte, and only a line feed ends a line.
-#[derive(Clone, Copy)]
+#[derive(Clone, Copy, Debug)]
 pub struct Place {
     pub line: u32,
     pub col: u32,

@@ -8,9 +8,9 @@ pub struct NamedVariable {
     /// Its name; the two hidden iterators of a range-for have none.
     pub name: Option<Name>,
     /// The number of its name among the names of the text, from 0.
-    pub label: u16,
+    pub label: usize,
     /// Its number among the scalars, the containers or the iterators in scope, from 0; references count as iterators.
-    pub number: u8,
+    pub number: usize,
     pub variable_type: ExprType,
 }
 
@@ -18,7 +18,7 @@ pub struct NamedVariable {
 #[derive(Drop)]
 pub struct FunctionHead {
     /// Its place among the functions of the text, from 0.
-    pub number: u16,
+    pub number: usize,
     pub name: Name,
     pub parameters: Items<ParameterKind>,
     /// A function that gives nothing has none.
