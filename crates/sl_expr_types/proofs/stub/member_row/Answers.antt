@@ -1,0 +1,4 @@
+use Rattle.sl_expr_types.proofs.stub.member_row.Goals as goal
+
+pub returns : goal.returns
+returns c = ?

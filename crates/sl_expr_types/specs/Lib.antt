@@ -1,0 +1,5 @@
+-- ## Types of arguments
+pub mod Few
+-- ## What the private contracts say
+pub mod Means
+pub mod Stub
