@@ -11,9 +11,9 @@ use crate::looks::{is_first, is_left_side_of};
 use crate::nodes::{
     binary_type, own_call_type, prefix_type, selected_type, subscript_type, type_of_use,
 };
-use crate::stub::{function_named, type_of_name};
 use crate::types::{Types, empty, pushed};
 use sl_base::Scalar;
+use sl_scopes::names::{function_named, type_of_name};
 use sl_syntax::Expr;
 use sl_typing::{ExprType, Scope};
 
