@@ -155,3 +155,27 @@ types-more g xs i x h k =
 -- those of all
 pub types-all : (g : Scope) (xs : List ExprCode) (i : ℕ) → length xs ≤ i → few (map (type_at g) (take i xs)) ≡ few (types_of g (exprs_of xs))
 types-all g xs i h = ap few (ap (map (type_at g)) (take_all i xs h) ∙ sym (types_of-map g xs))
+
+-- the type of a call of an algorithm from what is found of its parts
+pub library-type : (g : Scope) (f : Identifier) (v : Vec ExprCode Global) (name : List ℕ) (b : Bool) (us : Option (List ExprType)) (xs ys : List ExprCode)
+    → name ≡ f.name → xs ≡ v.items → ys ≡ v.items → b ≡ appends name (exprs_of xs) → us ≡ few (types_of g (exprs_of ys))
+    → algorithm_type b name (listed us) ≡ type_of g (expr_of (e.LibraryCall f v))
+library-type g f v name b us xs ys is_name is_xs is_ys is_b is_us =
+    ap (λ (d : Bool). algorithm_type d name (listed us)) is_b
+    ∙ ap (λ (o : Option (List ExprType)). algorithm_type (appends name (exprs_of xs)) name (listed o)) is_us
+    ∙ ap (λ (n : List ℕ). algorithm_type (appends n (exprs_of xs)) n (listed (few (types_of g (exprs_of ys))))) is_name
+    ∙ ap (λ (zs : List ExprCode). algorithm_type (appends f.name (exprs_of zs)) f.name (listed (few (types_of g (exprs_of ys))))) is_xs
+    ∙ ap (λ (zs : List ExprCode). algorithm_type (appends f.name (exprs_of v.items)) f.name (listed (few (types_of g (exprs_of zs))))) is_ys
+    ∙ sym (type-LibraryCall g f v)
+
+-- the type of a member call from that of its object and what is found of its arguments
+pub member-type : (g : Scope) (x : Box ExprCode Global) (f : Identifier) (v : Vec ExprCode Global) (u : ExprType) (name : List ℕ)
+    (us : Option (List ExprType)) (ys : List ExprCode)
+    → u ≡ type_of g (expr_of x.value) → name ≡ f.name → ys ≡ v.items → us ≡ few (types_of g (exprs_of ys))
+    → member_type u name (listed us) ≡ type_of g (expr_of (e.MemberCall x f v))
+member-type g x f v u name us ys is_u is_name is_ys is_us =
+    ap (λ (w : ExprType). member_type w name (listed us)) is_u
+    ∙ ap (λ (o : Option (List ExprType)). member_type (type_of g (expr_of x.value)) name (listed o)) is_us
+    ∙ ap (λ (n : List ℕ). member_type (type_of g (expr_of x.value)) n (listed (few (types_of g (exprs_of ys))))) is_name
+    ∙ ap (λ (zs : List ExprCode). member_type (type_of g (expr_of x.value)) f.name (listed (few (types_of g (exprs_of zs))))) is_ys
+    ∙ sym (type-MemberCall g x f v)

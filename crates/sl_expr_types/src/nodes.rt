@@ -2,8 +2,8 @@
 ghost use Rattle.std.specs.Prelude.{◌≡◌, if◌then◌else◌, false, option_copied};
 ghost use Rattle.sl_typing.specs.TypeOf as spec;
 
-use sl_scopes::parameters::type_of_kind;
 use sl_base::{Form, Scalar};
+use sl_scopes::parameters::type_of_kind;
 use sl_syntax::typed::ParameterKind;
 use sl_syntax::{BinaryOperator, PrefixOperator, Selector};
 use sl_typing::{ExprType, FunctionHead, common, is_const, is_keyed};
