@@ -8,3 +8,5 @@ pub mod LooksLaws
 -- ## Types
 pub mod StubLaws
 pub mod TypeLaws
+-- ## Sites
+pub mod SiteLaws
