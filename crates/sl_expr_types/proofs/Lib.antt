@@ -6,7 +6,7 @@ pub mod LastLaws
 -- ## Looks
 pub mod LooksLaws
 -- ## Types
-pub mod StubLaws
+pub mod RowLaws
 pub mod TypeLaws
 -- ## Sites
 pub mod SiteLaws

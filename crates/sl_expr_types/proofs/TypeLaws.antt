@@ -25,7 +25,7 @@ use Rattle.sl_typing.specs.TypeOf.{selected_type, is_first, algorithm_gives}
 use Rattle.sl_typing.specs.Signatures.{result_type}
 use Rattle.sl_expr_types.specs.Few.{few, pushed_to, listed}
 use Rattle.sl_expr_types.proofs.FewLaws.{listed-few, listed-many, pushed_to-few}
-use Rattle.sl_expr_types.proofs.StubLaws.{member_row-many, algorithm_row-many}
+use Rattle.sl_expr_types.proofs.RowLaws.{member_row-many, algorithm_row-many}
 use Rattle.sl_expr_types.proofs.Views.{expr_of-Call, expr_of-LibraryCall, expr_of-Parentheses, expr_of-Prefix, expr_of-Binary, expr_of-Postfix}
 use Rattle.sl_expr_types.proofs.Views.{expr_of-Index, expr_of-MemberCall, expr_of-Member}
 

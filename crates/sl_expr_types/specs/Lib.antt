@@ -6,4 +6,3 @@ pub mod Capped
 pub mod Opened
 -- ## What the private contracts say
 pub mod Means
-pub mod Stub

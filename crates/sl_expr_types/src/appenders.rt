@@ -3,7 +3,7 @@ ghost use Rattle.std.specs.Prelude.{◌≡◌};
 ghost use Rattle.sl_syntax.specs.TreeView.{expr_of, exprs_of};
 ghost use Rattle.sl_typing.specs.TypeOf as spec;
 
-use crate::stub::has_output;
+use sl_candidates::has_output;
 use sl_syntax::Expr;
 
 /// Whether it is a call of `std::back_inserter`. It takes no memory.

@@ -2,11 +2,11 @@
 ghost use Rattle.std.specs.Prelude.{◌≡◌, option_map};
 ghost use Rattle.sl_expr_types.specs.Few.{listed};
 ghost use Rattle.sl_expr_types.specs.Means.Calls as means;
-ghost use Rattle.sl_expr_types.specs.Stub.{found_of};
+ghost use Rattle.sl_candidates.specs.Found.{found_of};
 ghost use Rattle.sl_typing.specs.TypeOf as spec;
 
 use crate::gives::{algorithm_gives, result_type};
-use crate::stub::{FoundRow, algorithm_row, member_row};
+use sl_candidates::{FoundRow, algorithm_row, member_row};
 use crate::types::{Types, slice_of};
 use sl_base::Form;
 use sl_typing::{ExprType, is_const};

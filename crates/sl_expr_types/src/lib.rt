@@ -9,7 +9,6 @@ mod looks;
 mod nodes;
 mod rows;
 mod sites;
-mod stub;
 mod types;
 
 pub use appenders::{appends, is_back_inserter};

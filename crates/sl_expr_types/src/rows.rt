@@ -1,11 +1,11 @@
 //! The rows that calls mean, from the types of their parts.
 ghost use Rattle.std.specs.Prelude.{◌≡◌, option_map};
 ghost use Rattle.sl_expr_types.specs.Few.{listed};
-ghost use Rattle.sl_expr_types.specs.Stub.{found_of};
+ghost use Rattle.sl_candidates.specs.Found.{found_of};
 ghost use Rattle.sl_typing.specs.Candidates.{algorithm_row as meant};
 ghost use Rattle.sl_typing.specs.Numbering as spec;
 
-use crate::stub::{FoundRow, algorithm_row, member_row, subscript_row};
+use sl_candidates::{FoundRow, algorithm_row, member_row, subscript_row};
 use crate::types::{Types, slice_of};
 use sl_typing::ExprType;
 

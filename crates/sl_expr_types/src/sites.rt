@@ -8,7 +8,7 @@ ghost use Rattle.sl_typing.specs.Sites as spec;
 use crate::appenders::appends;
 use crate::expression::type_of;
 use crate::looks::is_plain;
-use crate::stub::{member_kills, subscript_kills};
+use sl_candidates::{member_kills, subscript_kills};
 use sl_base::limits::SITES;
 use sl_syntax::Expr;
 use sl_typing::{ExprType, Scope};
