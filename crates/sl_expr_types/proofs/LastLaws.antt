@@ -3,21 +3,7 @@ use Rattle.std.proofs.Common.{◌≡◌, ℕ, ◌-◌, suc, zero, List, [], ◌�
 use Rattle.std.specs.List.{slice_get}
 use Rattle.sl_syntax.specs.declared.tree.expr.Expr.{Expr as ExprCode}
 use Rattle.sl_syntax.specs.TreeView.{expr_of, exprs_of}
-use Rattle.sl_typing.specs.declared.expr_type.ExprType.{ExprType}
-use Rattle.sl_typing.specs.Signatures.{last_type}
 use Rattle.sl_typing.specs.TypeOf.{is_back_inserter, end_in_appender, size}
-
-last_type-at : (us : List ExprType) (n : ℕ) (u : ExprType) → length us ≡ suc n → slice_get us n ≡ Some u → last_type us ≡ u
-last_type-at [] n u k e = absurd (omega arith)
-last_type-at (v ∷ []) zero u k e = cc
-last_type-at (v ∷ []) (suc n) u k e = absurd (omega arith)
-last_type-at (v ∷ w ∷ us) zero u k e = absurd (omega arith)
-last_type-at (v ∷ w ∷ us) (suc n) u k e = last_type-at (w ∷ us) n u (omega arith) e
-
--- the last type, where there is one
-pub last_type-get : (us : List ExprType) (u : ExprType) → slice_get us (length us - 1) ≡ Some u → last_type us ≡ u
-last_type-get [] u e = cc
-last_type-get (v ∷ us) u e = last_type-at (v ∷ us) (length (v ∷ us) - 1) u (omega arith) e
 
 or-false : (b : Bool) → b || false ≡ b
 or-false true = refl

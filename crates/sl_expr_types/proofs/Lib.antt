@@ -8,5 +8,3 @@ pub mod LooksLaws
 -- ## Types
 pub mod RowLaws
 pub mod TypeLaws
--- ## Sites
-pub mod SiteLaws

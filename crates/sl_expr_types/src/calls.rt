@@ -6,9 +6,9 @@ ghost use Rattle.sl_candidates.specs.Found.{found_of};
 ghost use Rattle.sl_typing.specs.TypeOf as spec;
 
 use crate::gives::{algorithm_gives, result_type};
-use sl_candidates::{FoundRow, algorithm_row, member_row};
 use crate::types::{Types, slice_of};
 use sl_base::Form;
+use sl_candidates::{FoundRow, algorithm_row, member_row};
 use sl_typing::{ExprType, is_const};
 
 // The type of what a row gives, if there is one.

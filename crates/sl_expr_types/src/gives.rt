@@ -4,28 +4,9 @@ ghost use Rattle.sl_typing.specs.Signatures as spec;
 ghost use Rattle.sl_typing.specs.TypeOf as calls;
 
 use sl_base::Form;
+use sl_candidates::{first_type, last_type};
 use sl_specs::ReturnType;
 use sl_typing::ExprType;
-
-/// The type of the first operand. It takes no memory.
-pub fn first_type(types: &[ExprType]) -> ExprType
-    ensures { result ≡ spec.first_type types.now }
-{
-    match types.first() {
-        None => ExprType::Wrong,
-        Some(first) => *first,
-    }
-}
-
-/// The type of the last operand. It takes no memory.
-pub fn last_type(types: &[ExprType]) -> ExprType
-    ensures { result ≡ spec.last_type types.now }
-{
-    match types.last() {
-        None => ExprType::Wrong,
-        Some(last) => *last,
-    }
-}
 
 /// The type of what a row gives, on an object that is const or isn't, of this form, for operands of these types. It takes no memory.
 pub fn result_type(gives: ReturnType, is_const: bool, form: Form, types: &[ExprType]) -> ExprType

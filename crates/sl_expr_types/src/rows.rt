@@ -5,8 +5,8 @@ ghost use Rattle.sl_candidates.specs.Found.{found_of};
 ghost use Rattle.sl_typing.specs.Candidates.{algorithm_row as meant};
 ghost use Rattle.sl_typing.specs.Numbering as spec;
 
-use sl_candidates::{FoundRow, algorithm_row, member_row, subscript_row};
 use crate::types::{Types, slice_of};
+use sl_candidates::{FoundRow, algorithm_row, member_row, subscript_row};
 use sl_typing::ExprType;
 
 /// The row of a member call on an object of this type, with arguments of these types, if there is one. It takes no memory.
