@@ -1,2 +1,7 @@
+-- ## Lists, and the sites of expressions
 pub mod Lists
 pub mod Expressions
+-- ## Names and scopes
+pub mod Positions
+pub mod ScopeLaws
+pub mod Lookups
