@@ -5,3 +5,4 @@ pub mod Expressions
 pub mod Positions
 pub mod ScopeLaws
 pub mod Lookups
+pub mod Growth
