@@ -6,3 +6,4 @@ pub mod Positions
 pub mod ScopeLaws
 pub mod Lookups
 pub mod Growth
+pub mod StatementGrowth
