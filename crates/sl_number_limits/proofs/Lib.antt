@@ -7,3 +7,4 @@ pub mod ScopeLaws
 pub mod Lookups
 pub mod Growth
 pub mod StatementGrowth
+pub mod ContextLaws

@@ -38,7 +38,7 @@ pub record Fits (g : Context) : Type 0 where
   pub names : length g.names ≤ names_limit g
   pub declared : length g.variables ≤ names_limit g
 
--- one more name and one more variable may be declared
-pub record HasRoom (g : Context) : Type 0 where
-  pub for_name : length g.names < names_limit g
-  pub for_variable : length g.variables < names_limit g
+-- so many more names, and variables, may be declared
+pub record HasRoom (more : ℕ) (g : Context) : Type 0 where
+  pub for_names : length g.names + more ≤ names_limit g
+  pub for_variables : length g.variables + more ≤ names_limit g
