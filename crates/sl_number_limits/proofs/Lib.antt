@@ -8,3 +8,4 @@ pub mod Lookups
 pub mod Growth
 pub mod StatementGrowth
 pub mod ContextLaws
+pub mod HiddenLaws

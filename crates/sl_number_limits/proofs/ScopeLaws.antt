@@ -82,3 +82,13 @@ variable_fits names more name label type g f h below all =
       total = f.total;
       functions = f.functions;
     }
+
+counted_before : (a b : ℕ) (t : Bool) (limit : ℕ) → b ≡ a + cond t 1 0 → b ≤ limit → a ≤ limit
+counted_before a b t limit e h = omega arith
+
+-- no sort was past its limit before a variable came
+pub counts_before : (name : Option (List ℕ)) (label : ℕ) (type : ExprType) (g : Scope) → AllCounted (with_variable name label type g) → AllCounted g
+counts_before name label type g all sort =
+    let v : NamedVariable = record { name = name; label = label; number = count_of (sort_of type) g; variable_type = type } in
+    counted_before (count_of sort g) (count_of sort (with_variable name label type g)) (same_sort sort (sort_of type)) (limit_of sort)
+    (sum_by_push (λ (w : NamedVariable). cond (same_sort sort (sort_of w.variable_type)) 1 0) g.variables v) (all sort)
