@@ -9,3 +9,4 @@ pub mod Growth
 pub mod StatementGrowth
 pub mod ContextLaws
 pub mod HiddenLaws
+pub mod Declarations

@@ -1,5 +1,5 @@
 -- Lists of faults that are empty, and tests that break no rule.
-use Rattle.std.proofs.Common.{◌≡◌, ℕ, Bool, true, false, List, [], ◌∷◌, ◌++◌, refl}
+use Rattle.std.proofs.Common.{◌≡◌, ℕ, Bool, true, false, List, [], ◌∷◌, ◌++◌, refl, rules}
 use Rattle.sl_base.specs.declared.place.Place.{Place}
 use Rattle.sl_typing.specs.declared.fault.Fault.{Fault}
 use Rattle.sl_typing.specs.Faults.{broken}
@@ -17,3 +17,6 @@ second_empty (x ∷ xs) ys e = absurd (cc)
 pub not_broken : (test : Bool) (at : Place) (rule : ℕ) → broken test at rule ≡ [] → test ≡ false
 not_broken true at rule e = absurd (cc)
 not_broken false at rule e = refl
+
+-- parts of an empty list are empty
+pub ruleset parts = (rules, first_empty, second_empty)
