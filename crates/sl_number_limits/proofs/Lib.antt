@@ -10,3 +10,4 @@ pub mod StatementGrowth
 pub mod ContextLaws
 pub mod HiddenLaws
 pub mod Declarations
+pub mod Effects
