@@ -11,3 +11,4 @@ pub mod ContextLaws
 pub mod HiddenLaws
 pub mod Declarations
 pub mod Effects
+pub mod StatementParts
