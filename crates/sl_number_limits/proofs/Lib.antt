@@ -12,3 +12,4 @@ pub mod HiddenLaws
 pub mod Declarations
 pub mod Effects
 pub mod StatementParts
+pub mod Statements
