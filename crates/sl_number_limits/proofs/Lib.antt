@@ -13,3 +13,4 @@ pub mod Declarations
 pub mod Effects
 pub mod StatementParts
 pub mod Statements
+pub mod Parameters
