@@ -14,3 +14,4 @@ pub mod Effects
 pub mod StatementParts
 pub mod Statements
 pub mod Parameters
+pub mod Functions
