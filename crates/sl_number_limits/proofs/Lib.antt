@@ -15,3 +15,4 @@ pub mod StatementParts
 pub mod Statements
 pub mod Parameters
 pub mod Functions
+pub mod Programs

@@ -29,6 +29,10 @@ pub record FitsScope (names : ℕ) (g : Scope) : Type 0 where
 abbrev pub names_limit : Context → ℕ
 names_limit g = g.statements + PARAMETERS * length g.scope.functions
 
+-- how many names, and declared variables, there are at most in a whole text
+abbrev pub most_names : ℕ
+most_names = STATEMENTS + PARAMETERS * FUNCTIONS
+
 -- what stands before a place, and what names mean there
 pub record Fits (g : Context) : Type 0 where
   pub scope : FitsScope (length g.names) g.scope
