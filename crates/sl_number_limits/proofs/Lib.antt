@@ -16,3 +16,4 @@ pub mod Statements
 pub mod Parameters
 pub mod Functions
 pub mod Programs
+pub mod TypedFunctions

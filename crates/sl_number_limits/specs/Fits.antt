@@ -2,6 +2,7 @@
 -- variables and functions that names can mean there have such numbers.
 use Rattle.std.specs.Prelude.{ℕ, ◌+◌, ◌*◌, ◌<◌, ◌≤◌, length, All}
 use Rattle.sl_base.specs.declared.limits.TheConstants.{FUNCTIONS, PARAMETERS, SITES, STATEMENTS}
+use Rattle.sl_syntax.specs.Typed as t
 use Rattle.sl_typing.specs.declared.scope.FunctionHead.{FunctionHead}
 use Rattle.sl_typing.specs.declared.scope.NamedVariable.{NamedVariable}
 use Rattle.sl_typing.specs.declared.scope.Scope.{Scope}
@@ -46,3 +47,8 @@ pub record Fits (g : Context) : Type 0 where
 pub record HasRoom (more : ℕ) (g : Context) : Type 0 where
   pub for_names : length g.names + more ≤ names_limit g
   pub for_variables : length g.variables + more ≤ names_limit g
+
+-- a typed function has no more parameters than there may be, and no more variables than a text may have
+pub record FitsTypedFunction (f : t.Function) : Type 0 where
+  pub parameters : length f.parameters ≤ PARAMETERS
+  pub variables : length f.variables ≤ most_names
