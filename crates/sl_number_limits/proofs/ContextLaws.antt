@@ -1,18 +1,16 @@
 -- What is within the limits stays within them while sites, variables and statements come, and scopes begin and end.
-use Rattle.std.proofs.Common.{◌≡◌, ℕ, ◌+◌, ◌*◌, ◌≤◌, List, [], ◌∷◌, ◌++◌, length, length-append, false, Some, None, refl, sym, ap, arith}
-use Rattle.sl_base.specs.declared.limits.TheConstants.{PARAMETERS, SITES, STATEMENTS}
+use Rattle.std.proofs.Common.{◌≡◌, ℕ, ◌+◌, ◌≤◌, List, [], ◌∷◌, length, length-append, false, Some, ap, arith}
+use Rattle.sl_base.specs.declared.limits.TheConstants.{SITES, STATEMENTS}
 use Rattle.sl_base.specs.declared.place.Place.{Place}
 use Rattle.sl_syntax.specs.declared.tree.identifier.Identifier.{Identifier}
 use Rattle.sl_syntax.specs.declared.typed.variable.Variable.{Variable}
 use Rattle.sl_typing.specs.declared.expr_type.ExprType.{ExprType}
-use Rattle.sl_typing.specs.declared.expr_type.ExprType.TheVariants as types
 use Rattle.sl_typing.specs.declared.scope.FunctionHead.{FunctionHead}
 use Rattle.sl_typing.specs.declared.scope.Scope.{Scope}
-use Rattle.sl_typing.specs.Types.{is_const}
-use Rattle.sl_typing.specs.Scopes.{count_of, sort_of, passes_some_limit, with_variable}
-use Rattle.sl_typing.specs.Contexts.{Context, declare, with_hidden, with_name, position, variable_kind, enter, leave, looping, started, started_loop}
+use Rattle.sl_typing.specs.Scopes.{passes_some_limit}
+use Rattle.sl_typing.specs.Contexts.{Context, declare, with_name, position, enter, leave, looping, started, started_loop}
 use Rattle.sl_typing.specs.Contexts.{with_sites}
-use Rattle.sl_number_limits.specs.Fits.{FitsScope, Fits, HasRoom, names_limit}
+use Rattle.sl_number_limits.specs.Fits.{Fits, HasRoom}
 use Rattle.sl_number_limits.proofs.Positions.{label_below, names_stay, one_more_name}
 use Rattle.sl_number_limits.proofs.ScopeLaws.{AllCounted, counts_stay, variable_fits, scope_stays}
 use Rattle.sl_number_limits.proofs.Growth.{Grows}

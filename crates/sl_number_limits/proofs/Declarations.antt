@@ -1,27 +1,22 @@
 -- Behind a declaration that breaks no rule all numbers are within the limits.
-use Rattle.std.proofs.Common.{◌≡◌, ℕ, ◌+◌, ◌≤◌, false, List, [], ◌∷◌, ◌++◌, length, length-append, Option, None, Some, refl, arith}
-use Rattle.std.specs.Prelude.{◌==◌, ◌||◌, not}
-use Rattle.sl_base.specs.declared.limits.TheConstants.{SITES, LIST_ELEMENTS}
+use Rattle.std.proofs.Common.{◌≡◌, ℕ, ◌+◌, ◌≤◌, false, [], length, length-append, Option, None, Some, arith}
+use Rattle.sl_base.specs.declared.limits.TheConstants.{SITES}
 use Rattle.sl_base.specs.declared.place.Place.{Place}
 use Rattle.sl_syntax.specs.declared.operator.Access.TheVariants as access
-use Rattle.sl_syntax.specs.declared.tree.identifier.Identifier.{Identifier}
 use Rattle.sl_syntax.specs.Tree as s
 use Rattle.sl_syntax.specs.Tree.{Expr, Exprs, Initializer, Declaration}
-use Rattle.sl_typing.specs.declared.expr_type.ExprType.{ExprType}
 use Rattle.sl_typing.specs.declared.expr_type.ExprType.TheVariants as types
 use Rattle.sl_typing.specs.declared.rules.TheConstants as rule
-use Rattle.sl_typing.specs.declared.scope.Scope.{Scope}
 use Rattle.sl_typing.specs.declared.standing.Standing.TheVariants as standing
 use Rattle.sl_typing.specs.Types.{value_type}
 use Rattle.sl_typing.specs.Scopes.{passes_some_limit}
-use Rattle.sl_typing.specs.Contexts.{Context, declare, with_sites}
+use Rattle.sl_typing.specs.Contexts.{Context, declare}
 use Rattle.sl_typing.specs.TypeOf.{type_of}
-use Rattle.sl_typing.specs.Looks.{place_of}
 use Rattle.sl_typing.specs.Sites.{behind, behind_all, sites_in, sites_in_all, site_count}
 use Rattle.sl_typing.specs.Ranges.{reference_type}
-use Rattle.sl_typing.specs.Faults.{broken, faults, faults_of_all}
+use Rattle.sl_typing.specs.Faults.{faults_of_all}
 use Rattle.sl_typing.specs.Flow.{behind_value, behind_initializer, behind_declaration}
-use Rattle.sl_typing.specs.StatementFaults.{expr_faults, value_faults, element_faults, initializer_faults, twice_faults, limit_faults, declaration_faults}
+use Rattle.sl_typing.specs.StatementFaults.{expr_faults, value_faults, element_faults, initializer_faults, limit_faults, declaration_faults}
 use Rattle.sl_number_limits.specs.Fits.{Fits, HasRoom}
 use Rattle.sl_number_limits.proofs.Lists.{parts, not_broken}
 use Rattle.sl_number_limits.proofs.Expressions.{sites_fit, sites_fit_all}

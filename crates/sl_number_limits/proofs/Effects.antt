@@ -1,5 +1,5 @@
 -- Behind an effect, a condition and the parts of a `for` that break no rule all numbers are within the limits.
-use Rattle.std.proofs.Common.{◌≡◌, ℕ, ◌≤◌, Bool, List, [], ◌∷◌, ◌++◌, length, Option, None, Some, refl}
+use Rattle.std.proofs.Common.{◌≡◌, Bool, List, [], ◌∷◌, length, Option, None, Some}
 use Rattle.std.specs.Prelude.{◌==◌, ◌&&◌, if◌then◌else◌}
 use Rattle.sl_base.specs.declared.limits.TheConstants.{SITES}
 use Rattle.sl_base.specs.declared.place.Place.{Place}
@@ -7,7 +7,7 @@ use Rattle.sl_syntax.specs.Tree as s
 use Rattle.sl_syntax.specs.Tree.{Expr, Out, Effect, Cond, First}
 use Rattle.sl_typing.specs.declared.rules.TheConstants as rule
 use Rattle.sl_typing.specs.Contexts.{Context, with_sites}
-use Rattle.sl_typing.specs.Sites.{behind, is_assignment_site, assignment_site}
+use Rattle.sl_typing.specs.Sites.{behind, is_assignment_site}
 use Rattle.sl_typing.specs.Flow.{behind_out, behind_outs, behind_left, behind_effect, behind_cond, behind_first, behind_test, behind_last}
 use Rattle.sl_typing.specs.StatementFaults.{expr_faults, out_faults, outs_faults, site_faults, effect_faults, cond_faults, first_faults, test_faults}
 use Rattle.sl_typing.specs.StatementFaults.{last_faults}

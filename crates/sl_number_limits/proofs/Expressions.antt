@@ -1,5 +1,5 @@
 -- The sites of an expression that breaks no rule are within the limit.
-use Rattle.std.proofs.Common.{◌≡◌, ℕ, ◌+◌, ◌≤◌, Bool, true, false, ◌&&◌, List, [], ◌∷◌, ◌++◌, length, length-append, refl, ap, arith, rules}
+use Rattle.std.proofs.Common.{◌≡◌, ℕ, ◌+◌, ◌≤◌, Bool, true, false, ◌&&◌, [], ◌∷◌, length, length-append, arith}
 use Rattle.std.specs.Prelude.{◌==◌, if◌then◌else◌}
 use Rattle.std.proofs.lemmas.Bool.Decides.{nat_tests}
 use Rattle.sl_base.specs.declared.limits.TheConstants.{SITES}
@@ -30,6 +30,7 @@ own_site_fits g n how e none h =
 
 mutual
   unfolding faults faults_of_all sites_in sites_in_all site_count inside at_word
+
   -- the sites of an expression
   pub sites_fit : (g : Scope) (n : ℕ) (how : Standing) (e : Expr) → faults g n how e ≡ [] → n ≤ SITES → n + site_count g e ≤ SITES
   sites_fit g n how (s.number at m) none h = omega arith
@@ -66,7 +67,7 @@ mutual
       let q : faults_of_all g (inside g n (s.member_call x f xs)) standing.Plain xs ≡ [] = search parts in
       let r : own_faults g n how (s.member_call x f xs) ≡ [] = search parts in
       let k = sites_fit_all g (inside g n (s.member_call x f xs)) standing.Plain xs q
-          (own_site_fits g n how (s.member_call x f xs) r (sites_fit g n standing.Plain x p h)) in
+      (own_site_fits g n how (s.member_call x f xs) r (sites_fit g n standing.Plain x p h)) in
       omega (arith, length-append {A = Place})
   sites_fit g n how (s.member x selector at f) none h =
       let p : faults g n (part_standing selector f.name) x ≡ [] = search parts in

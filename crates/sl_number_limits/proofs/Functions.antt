@@ -1,23 +1,20 @@
 -- At the places of a function, and behind functions, that break no rule all numbers are within the limits.
-use Rattle.std.proofs.Common.{◌≡◌, ℕ, ◌+◌, ◌*◌, ◌<◌, ◌≤◌, false, List, [], ◌∷◌, ◌++◌, length, length-append, refl, arith}
-use Rattle.std.specs.Prelude.{◌==◌, map}
+use Rattle.std.proofs.Common.{◌≡◌, ℕ, ◌<◌, ◌≤◌, false, List, [], ◌∷◌, length, length-append, arith}
+use Rattle.std.specs.Prelude.{◌==◌}
 use Rattle.std.proofs.lemmas.Bool.Decides.{nat_tests}
 use Rattle.std.proofs.lemmas.List.{length-map}
 use Rattle.std.proofs.lemmas.List.Elements.{All-nil, All-push}
 use Rattle.sl_base.specs.declared.limits.TheConstants.{FUNCTIONS, PARAMETERS}
-use Rattle.sl_base.specs.declared.place.Place.{Place}
 use Rattle.sl_syntax.specs.Tree.{Function}
 use Rattle.sl_typing.specs.declared.rules.TheConstants as rule
-use Rattle.sl_typing.specs.declared.scope.FunctionHead.{FunctionHead}
-use Rattle.sl_typing.specs.declared.scope.Scope.{Scope}
 use Rattle.sl_typing.specs.Scopes.{scalars, containers, iterators, parameter_kind}
-use Rattle.sl_typing.specs.Contexts.{Context, with_sites}
-use Rattle.sl_typing.specs.Sites.{brace_site, declares_container}
+use Rattle.sl_typing.specs.Contexts.{Context}
+use Rattle.sl_typing.specs.Sites.{declares_container}
 use Rattle.sl_typing.specs.Faults.{broken}
 use Rattle.sl_typing.specs.Flow.{head_of, before_parameters, in_function, at_brace, after_function, after_functions}
 use Rattle.sl_typing.specs.StatementFaults.{site_faults, items_faults}
 use Rattle.sl_typing.specs.ProgramFaults.{parameter_faults, function_faults, functions_faults, start}
-use Rattle.sl_number_limits.specs.Fits.{FitsVariable, FitsFunction, FitsScope, Fits, HasRoom}
+use Rattle.sl_number_limits.specs.Fits.{FitsVariable, FitsFunction, Fits, HasRoom}
 use Rattle.sl_number_limits.proofs.Lists.{parts, not_broken}
 use Rattle.sl_number_limits.proofs.ScopeLaws.{AllCounted}
 use Rattle.sl_number_limits.proofs.Effects.{site_fits}

@@ -1,9 +1,7 @@
 -- What stands before a place only grows along a function, and no function comes.
-use Rattle.std.proofs.Common.{◌≡◌, ℕ, ◌+◌, ◌≤◌, List, [], ◌∷◌, ◌++◌, length, length-append, Option, None, Some, refl, sym, ◌∙◌, arith}
+use Rattle.std.proofs.Common.{◌≡◌, ◌≤◌, List, [], ◌∷◌, ◌++◌, length, length-append, Option, None, Some, refl, ◌∙◌, arith}
 use Rattle.sl_base.specs.declared.place.Place.{Place}
 use Rattle.sl_syntax.specs.declared.tree.identifier.Identifier.{Identifier}
-use Rattle.sl_syntax.specs.declared.tree.function.Param.{Param}
-use Rattle.sl_syntax.specs.declared.typed.variable.Variable.{Variable}
 use Rattle.sl_syntax.specs.Tree as s
 use Rattle.sl_syntax.specs.Tree.{Expr, Exprs, Initializer, Declaration, Out, Effect, Cond, First, Stmt, Item, Items}
 use Rattle.sl_typing.specs.declared.expr_type.ExprType.{ExprType}
@@ -13,12 +11,10 @@ use Rattle.sl_syntax.specs.declared.operator.Access.TheVariants as access
 use Rattle.sl_typing.specs.Types.{value_type}
 use Rattle.sl_typing.specs.TypeOf.{type_of}
 use Rattle.sl_typing.specs.Ranges.{reference_type}
-use Rattle.sl_typing.specs.Scopes.{type_of_name, name_of_parameter, parameter_kind, type_of_kind}
-use Rattle.sl_typing.specs.Contexts.{Context, declare, declare_parameters, with_hidden, enter, leave, looping, started, started_loop, with_sites}
-use Rattle.sl_typing.specs.Sites.{behind, behind_all, assignment_site, brace_site, sites_in, sites_in_all}
+use Rattle.sl_typing.specs.Contexts.{Context, declare, with_hidden, started, started_loop, with_sites}
+use Rattle.sl_typing.specs.Sites.{behind, assignment_site, sites_in, sites_in_all}
 use Rattle.sl_typing.specs.Flow.{behind_value, behind_initializer, behind_declaration, behind_out, behind_outs, behind_left, behind_effect, behind_cond}
-use Rattle.sl_typing.specs.Flow.{behind_first, behind_test, behind_last, at_test, at_last, in_for, behind_hidden, in_range, in_while}
-use Rattle.sl_typing.specs.Flow.{after, after_item, after_items}
+use Rattle.sl_typing.specs.Flow.{behind_first, behind_test, behind_last}
 use Rattle.sl_number_limits.proofs.Positions.{names_stay}
 
 -- the second place stands behind the first, in the same function

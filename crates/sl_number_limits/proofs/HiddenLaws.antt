@@ -1,7 +1,5 @@
 -- The two hidden iterators of a range-for are within the limits.
-use Rattle.std.proofs.Common.{◌≡◌, ℕ, ◌<◌, ◌≤◌, false, List, [], ◌∷◌, length, Option, None, refl, arith}
-use Rattle.sl_base.specs.declared.form.Form.{Form}
-use Rattle.sl_syntax.specs.declared.operator.Access.{Access}
+use Rattle.std.proofs.Common.{◌≡◌, ℕ, ◌<◌, false, List, length, None, refl, arith}
 use Rattle.sl_typing.specs.declared.expr_type.ExprType.{ExprType}
 use Rattle.sl_typing.specs.declared.expr_type.ExprType.TheVariants as types
 use Rattle.sl_typing.specs.declared.scope.Scope.{Scope}

@@ -1,13 +1,12 @@
 -- Along the parameters of a function that breaks no rule all numbers are within the limits.
-use Rattle.std.proofs.Common.{◌≡◌, ℕ, ◌+◌, ◌≤◌, false, List, [], ◌∷◌, ◌++◌, length, refl, arith}
+use Rattle.std.proofs.Common.{◌≡◌, ℕ, ◌+◌, ◌≤◌, false, List, [], ◌∷◌, length, arith}
 use Rattle.std.specs.Prelude.{◌==◌}
 use Rattle.std.proofs.lemmas.Bool.Decides.{nat_tests}
 use Rattle.sl_base.specs.declared.limits.TheConstants.{PARAMETERS}
-use Rattle.sl_base.specs.declared.place.Place.{Place}
 use Rattle.sl_syntax.specs.declared.tree.function.Param.{Param}
 use Rattle.sl_typing.specs.declared.rules.TheConstants as rule
 use Rattle.sl_typing.specs.Scopes.{name_of_parameter, parameter_kind, type_of_kind}
-use Rattle.sl_typing.specs.Contexts.{Context, declare, declare_parameters}
+use Rattle.sl_typing.specs.Contexts.{Context, declare_parameters}
 use Rattle.sl_typing.specs.Faults.{broken}
 use Rattle.sl_typing.specs.StatementFaults.{limit_faults}
 use Rattle.sl_typing.specs.ProgramFaults.{behind_parameter, parameter_faults}

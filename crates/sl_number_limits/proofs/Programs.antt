@@ -1,27 +1,24 @@
 -- What a program that breaks no rule is typed as is within the limits.
-use Rattle.std.proofs.Common.{◌≡◌, ℕ, ◌+◌, ◌*◌, ◌<◌, ◌≤◌, Bool, true, false, List, [], ◌∷◌, ◌++◌, length, length-append, refl, sym, ◌∙◌, ap, arith}
-use Rattle.std.specs.Prelude.{if◌then◌else◌, not, map}
-use Rattle.std.specs.List.{All, list_any}
-use Rattle.std.proofs.lemmas.List.{length-map}
-use Rattle.std.proofs.lemmas.List.Elements.{All-nil, All-cons}
-use Rattle.sl_base.specs.declared.limits.TheConstants.{FUNCTIONS, PARAMETERS, SITES, STATEMENTS}
+use Rattle.std.proofs.Common.{◌≡◌, ℕ, ◌+◌, ◌<◌, ◌≤◌, Bool, true, false, List, [], ◌∷◌, ◌++◌, length, length-append, refl, ap, arith}
+use Rattle.std.specs.Prelude.{if◌then◌else◌, not}
+use Rattle.std.specs.List.{list_any}
+use Rattle.sl_base.specs.declared.limits.TheConstants.{FUNCTIONS, SITES, STATEMENTS}
 use Rattle.sl_syntax.specs.Tree.{Function, Program}
 use Rattle.sl_syntax.specs.Typed as t
 use Rattle.sl_typing.specs.declared.rules.TheConstants as rule
 use Rattle.sl_typing.specs.declared.scope.FunctionHead.{FunctionHead}
-use Rattle.sl_typing.specs.Scopes.{parameter_kind}
 use Rattle.sl_typing.specs.Contexts.{Context}
 use Rattle.sl_typing.specs.Sites.{brace_site}
 use Rattle.sl_typing.specs.Faults.{broken}
 use Rattle.sl_typing.specs.Flow.{head_of, before_parameters, in_function, at_brace, after_function, after_functions}
-use Rattle.sl_typing.specs.ProgramFaults.{is_main, first_place, function_faults, functions_faults, start, program_faults}
-use Rattle.sl_typing.specs.Typing.{typed_function, typed_functions, main_number, typed_program, Typed}
-use Rattle.sl_number_limits.specs.Fits.{Fits, names_limit, most_names}
+use Rattle.sl_typing.specs.ProgramFaults.{is_main, first_place, functions_faults, start, program_faults}
+use Rattle.sl_typing.specs.Typing.{typed_functions, main_number, typed_program, Typed}
+use Rattle.sl_number_limits.specs.Fits.{Fits, most_names}
 use Rattle.sl_number_limits.proofs.Lists.{parts, not_broken}
-use Rattle.sl_number_limits.proofs.Growth.{Grows, along, sites_grow}
+use Rattle.sl_number_limits.proofs.Growth.{along, sites_grow}
 use Rattle.sl_number_limits.proofs.StatementGrowth.{after_items_grow}
 use Rattle.sl_number_limits.proofs.Parameters.{parameters_grow}
-use Rattle.sl_number_limits.proofs.Functions.{function_parameters_fit, at_function_brace, after_function_fits, after_functions_fit, start_fits}
+use Rattle.sl_number_limits.proofs.Functions.{after_functions_fit, start_fits}
 
 -- the functions of a program that breaks no rule break none
 pub functions_break_none : (p : Program) → program_faults p ≡ [] → functions_faults start p ≡ []

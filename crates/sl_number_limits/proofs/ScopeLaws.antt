@@ -1,7 +1,6 @@
 -- What comes into a scope keeps it within the limits.
-use Rattle.std.proofs.Common.{◌≡◌, ℕ, ◌+◌, ◌<◌, ◌≤◌, Bool, true, false, cond, ◌&&◌, ◌||◌, List, [], ◌∷◌, ◌++◌, length, Option, refl, sym, ap, subst, arith, rules}
+use Rattle.std.proofs.Common.{◌≡◌, ℕ, ◌+◌, ◌<◌, ◌≤◌, Bool, true, false, cond, ◌&&◌, ◌||◌, List, Option, refl, arith}
 use Rattle.std.specs.Prelude.{nat_le, nat_lt}
-use Rattle.std.specs.List.{All, count_by}
 use Rattle.std.proofs.lemmas.Bool.Decides.{nat_tests}
 use Rattle.std.proofs.lemmas.List.Elements.{All-push, All-weaker}
 use Rattle.std.proofs.lemmas.List.Sums.{sum_by_push}
@@ -10,7 +9,7 @@ use Rattle.sl_typing.specs.declared.scope.NamedVariable.{NamedVariable}
 use Rattle.sl_typing.specs.declared.scope.Scope.{Scope}
 use Rattle.sl_typing.specs.Scopes.{Sort, scalars, containers, iterators, sort_of, same_sort, count_of, limit_of, passes_limit, passes_some_limit}
 use Rattle.sl_typing.specs.Scopes.{with_variable}
-use Rattle.sl_number_limits.specs.Fits.{FitsVariable, FitsFunction, FitsScope}
+use Rattle.sl_number_limits.specs.Fits.{FitsVariable, FitsScope}
 
 -- no sort is past its limit
 abbrev pub AllCounted : Scope → Type 0

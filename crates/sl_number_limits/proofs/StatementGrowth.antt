@@ -1,15 +1,15 @@
 -- What stands before a place only grows along statements and items.
-use Rattle.std.proofs.Common.{List, [], ◌∷◌, ◌++◌, Option, None, Some, refl}
+use Rattle.std.proofs.Common.{Option, refl}
 use Rattle.sl_base.specs.declared.place.Place.{Place}
 use Rattle.sl_syntax.specs.declared.tree.element.Element.{Element}
 use Rattle.sl_syntax.specs.declared.tree.identifier.Identifier.{Identifier}
 use Rattle.sl_syntax.specs.Tree as s
 use Rattle.sl_syntax.specs.Tree.{Effect, Cond, First, Stmt, Item, Items}
 use Rattle.sl_typing.specs.Scopes.{type_of_name}
-use Rattle.sl_typing.specs.Contexts.{Context, declare, with_hidden, enter, leave, looping, started, started_loop, with_sites}
+use Rattle.sl_typing.specs.Contexts.{Context, declare, enter, leave, looping, started, started_loop, with_sites}
 use Rattle.sl_typing.specs.Ranges.{element_type}
 use Rattle.sl_typing.specs.Sites.{brace_site}
-use Rattle.sl_typing.specs.Flow.{behind_value, behind_effect, behind_cond, behind_first, behind_test, behind_last, at_test, at_last, in_for}
+use Rattle.sl_typing.specs.Flow.{behind_value, behind_effect, behind_cond, behind_last, at_test, at_last, in_for}
 use Rattle.sl_typing.specs.Flow.{behind_hidden, in_range, in_while, behind_declaration, after, after_item, after_items}
 use Rattle.sl_number_limits.proofs.Growth.{Grows, stays, along, rescoped, sites_grow, declared_grows, started_grows, started_loop_grows, hidden_grows}
 use Rattle.sl_number_limits.proofs.Growth.{value_grows, declaration_grows, effect_grows, cond_grows, first_grows, test_grows, last_grows}
@@ -66,6 +66,7 @@ range_grows g at how x over =
 
 mutual
   unfolding after after_item after_items
+
   -- behind a statement
   pub after_grows : (g : Context) (a : Stmt) → Grows g (after g a)
   after_grows g (s.block at items close) =

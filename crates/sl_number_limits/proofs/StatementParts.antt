@@ -1,5 +1,5 @@
 -- At each part of a statement that breaks no rule all numbers are within the limits: a lemma for each place.
-use Rattle.std.proofs.Common.{◌≡◌, ℕ, ◌+◌, ◌≤◌, false, List, [], ◌∷◌, ◌++◌, length, Option, None, Some, refl, arith}
+use Rattle.std.proofs.Common.{◌≡◌, ℕ, ◌+◌, ◌≤◌, false, [], Option, arith}
 use Rattle.std.specs.Prelude.{◌==◌}
 use Rattle.std.proofs.lemmas.Bool.Decides.{nat_tests}
 use Rattle.sl_base.specs.declared.limits.TheConstants.{STATEMENTS}
@@ -10,14 +10,14 @@ use Rattle.sl_syntax.specs.Tree as s
 use Rattle.sl_syntax.specs.Tree.{Expr, Declaration, Effect, Cond, First, Stmt, Item, Items}
 use Rattle.sl_typing.specs.declared.rules.TheConstants as rule
 use Rattle.sl_typing.specs.Scopes.{type_of_name}
-use Rattle.sl_typing.specs.Contexts.{Context, declare, with_hidden, enter, looping, started, started_loop}
+use Rattle.sl_typing.specs.Contexts.{Context, declare, enter, started, started_loop}
 use Rattle.sl_typing.specs.Ranges.{element_type}
-use Rattle.sl_typing.specs.Flow.{behind_cond, behind_test, behind_last, at_test, at_last, in_for, behind_hidden, in_range, in_while}
+use Rattle.sl_typing.specs.Flow.{behind_cond, behind_last, at_test, at_last, in_for, behind_hidden, in_range, in_while}
 use Rattle.sl_typing.specs.StatementFaults.{cond_faults, first_faults, test_faults, last_faults, limit_faults, statement_faults, declaration_place}
 use Rattle.sl_typing.specs.StatementFaults.{stmt_faults, item_faults, items_faults}
 use Rattle.sl_number_limits.specs.Fits.{Fits, HasRoom}
 use Rattle.sl_number_limits.proofs.Lists.{parts, not_broken}
-use Rattle.sl_number_limits.proofs.ContextLaws.{started_fits, started_has_room, started_loop_fits, started_loop_has_room, enter_fits, enter_has_room}
+use Rattle.sl_number_limits.proofs.ContextLaws.{started_fits, started_loop_fits, started_loop_has_room, enter_fits, enter_has_room}
 use Rattle.sl_number_limits.proofs.ContextLaws.{looping_fits, declare_fits}
 use Rattle.sl_number_limits.proofs.HiddenLaws.{hidden_fits, room_behind_hidden}
 use Rattle.sl_number_limits.proofs.Declarations.{none_passed}

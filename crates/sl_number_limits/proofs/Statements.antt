@@ -1,17 +1,17 @@
 -- Behind a statement, and at each item of a block, that break no rule all numbers are within the limits.
-use Rattle.std.proofs.Common.{◌≡◌, ℕ, List, [], ◌∷◌, ◌++◌, Option, None, Some, refl}
+use Rattle.std.proofs.Common.{◌≡◌, []}
 use Rattle.sl_base.specs.declared.place.Place.{Place}
 use Rattle.sl_syntax.specs.Tree as s
 use Rattle.sl_syntax.specs.Tree.{Effect, Cond, First, Stmt, Item, Items}
-use Rattle.sl_typing.specs.Contexts.{Context, enter, leave, started, with_sites}
+use Rattle.sl_typing.specs.Contexts.{Context, enter, started, with_sites}
 use Rattle.sl_typing.specs.Sites.{brace_site, declares_container}
-use Rattle.sl_typing.specs.Flow.{behind_value, behind_effect, behind_cond, in_for, in_range, in_while, behind_declaration, after, after_item, after_items}
-use Rattle.sl_typing.specs.StatementFaults.{cond_faults, value_faults, effect_faults, declaration_faults, site_faults, statement_faults}
+use Rattle.sl_typing.specs.Flow.{behind_cond, in_for, in_range, in_while, after, after_item, after_items}
+use Rattle.sl_typing.specs.StatementFaults.{value_faults, effect_faults, declaration_faults, site_faults, statement_faults}
 use Rattle.sl_typing.specs.StatementFaults.{stmt_faults, item_faults, items_faults}
 use Rattle.sl_number_limits.specs.Fits.{Fits}
 use Rattle.sl_number_limits.proofs.Lists.{parts}
 use Rattle.sl_number_limits.proofs.ContextLaws.{started_has_room, enter_fits, leave_fits}
-use Rattle.sl_number_limits.proofs.Growth.{Grows, along, sites_grow}
+use Rattle.sl_number_limits.proofs.Growth.{along, sites_grow}
 use Rattle.sl_number_limits.proofs.StatementGrowth.{entered, while_grows, for_grows, range_grows, after_grows, after_items_grow}
 use Rattle.sl_number_limits.proofs.Declarations.{value_fits, declaration_fits}
 use Rattle.sl_number_limits.proofs.Effects.{site_fits, effect_fits}
@@ -20,6 +20,7 @@ use Rattle.sl_number_limits.proofs.StatementParts.{at_declaration}
 
 mutual
   unfolding after after_item after_items stmt_faults item_faults items_faults
+
   -- behind a statement
   pub after_fits : (g : Context) (a : Stmt) → Fits g → stmt_faults g a ≡ [] → Fits (after g a)
   after_fits g (s.block at items close) f none =

@@ -1,18 +1,16 @@
 -- Each function of a typed text is within the limits.
-use Rattle.std.proofs.Common.{◌≡◌, ℕ, ◌+◌, ◌≤◌, List, [], ◌∷◌, ◌++◌, length, refl, sym, subst, ap, arith}
-use Rattle.std.specs.Prelude.{map}
+use Rattle.std.proofs.Common.{◌≡◌, List, [], ◌∷◌, ap, arith}
 use Rattle.std.specs.List.{All}
 use Rattle.std.proofs.lemmas.List.{length-map}
 use Rattle.std.proofs.lemmas.List.Elements.{All-nil, All-cons, All-same}
-use Rattle.sl_base.specs.declared.limits.TheConstants.{PARAMETERS}
 use Rattle.sl_syntax.specs.Tree.{Function, Program}
 use Rattle.sl_syntax.specs.Typed as t
 use Rattle.sl_typing.specs.Scopes.{parameter_kind}
 use Rattle.sl_typing.specs.Contexts.{Context}
 use Rattle.sl_typing.specs.Flow.{at_brace, after_function}
-use Rattle.sl_typing.specs.ProgramFaults.{function_faults, functions_faults, start, program_faults}
+use Rattle.sl_typing.specs.ProgramFaults.{function_faults, functions_faults, start}
 use Rattle.sl_typing.specs.Typing.{typed_function, typed_functions, typed_program, Typed}
-use Rattle.sl_number_limits.specs.Fits.{Fits, FitsTypedFunction, most_names}
+use Rattle.sl_number_limits.specs.Fits.{Fits, FitsTypedFunction}
 use Rattle.sl_number_limits.proofs.Lists.{parts}
 use Rattle.sl_number_limits.proofs.Functions.{function_parameters_fit, at_function_brace, after_function_fits, start_fits}
 use Rattle.sl_number_limits.proofs.Programs.{few_variables, functions_break_none}
