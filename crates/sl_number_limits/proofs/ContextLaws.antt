@@ -1,5 +1,8 @@
 -- What is within the limits stays within them while sites, variables and statements come, and scopes begin and end.
 use Rattle.std.proofs.Common.{◌≡◌, ℕ, ◌+◌, ◌≤◌, List, [], ◌∷◌, length, length-append, false, Some, ap, arith}
+use Rattle.std.specs.List.{All}
+use Rattle.std.proofs.Math.Nat.{lt_of_lt_of_le}
+use Rattle.std.proofs.lemmas.List.Elements.{All-push, All-weaker}
 use Rattle.sl_base.specs.declared.limits.TheConstants.{SITES, STATEMENTS}
 use Rattle.sl_base.specs.declared.place.Place.{Place}
 use Rattle.sl_syntax.specs.declared.tree.identifier.Identifier.{Identifier}
@@ -8,9 +11,9 @@ use Rattle.sl_typing.specs.declared.expr_type.ExprType.{ExprType}
 use Rattle.sl_typing.specs.declared.scope.FunctionHead.{FunctionHead}
 use Rattle.sl_typing.specs.declared.scope.Scope.{Scope}
 use Rattle.sl_typing.specs.Scopes.{passes_some_limit}
-use Rattle.sl_typing.specs.Contexts.{Context, declare, with_name, position, enter, leave, looping, started, started_loop}
+use Rattle.sl_typing.specs.Contexts.{Context, variable_kind, declare, with_name, position, enter, leave, looping, started, started_loop}
 use Rattle.sl_typing.specs.Contexts.{with_sites}
-use Rattle.sl_number_limits.specs.Fits.{Fits, HasRoom}
+use Rattle.sl_number_limits.specs.Fits.{IsLabelled, Fits, HasRoom}
 use Rattle.sl_number_limits.proofs.Positions.{label_below, names_stay, one_more_name}
 use Rattle.sl_number_limits.proofs.ScopeLaws.{AllCounted, counts_stay, variable_fits, scope_stays}
 use Rattle.sl_number_limits.proofs.Growth.{Grows}
@@ -24,11 +27,16 @@ sites_come places g f h = record {
   loops = f.loops;
   names = f.names;
   declared = f.declared;
+  labels = f.labels;
 }
 
 -- sites take no room
 pub room_behind_sites : (more : ℕ) (places : List Place) (g : Context) → HasRoom more g → HasRoom more (with_sites places g)
 room_behind_sites more places g r = record { for_names = r.for_names; for_variables = r.for_variables }
+
+-- names of variables are among more names
+pub labels_stay : (names more : ℕ) → names ≤ more → (vs : List Variable) → All (IsLabelled names) vs → All (IsLabelled more) vs
+labels_stay names more h = All-weaker (IsLabelled names) (IsLabelled more) (λ v l. lt_of_lt_of_le l h)
 
 -- a variable is declared where there is room for it, and no limit is passed since some place before
 pub declare_fits : (x : Identifier) (type : ExprType) (before : Scope) (g : Context) → AllCounted before → Fits g → HasRoom 1 g
@@ -44,6 +52,9 @@ declare_fits x type before g all f r none =
       loops = f.loops;
       names = omega arith;
       declared = omega (arith, length-append {A = Variable});
+      labels = All-push (IsLabelled (length names)) g.variables
+          (record { kind = variable_kind type; name = position x.name names; place = x.place })
+          (labels_stay (length g.names) (length names) (names_stay x.name g.names) g.variables f.labels) (label_below x.name g.names);
     }
 
 -- a variable takes room for one
@@ -61,6 +72,7 @@ started_fits g f h = record {
   loops = omega arith;
   names = omega arith;
   declared = omega arith;
+  labels = f.labels;
 }
 
 -- it has room for what it declares
@@ -76,6 +88,7 @@ started_loop_fits at g f h = record {
   loops = let e = length-append g.loops (at ∷ []) in omega arith;
   names = omega arith;
   declared = omega arith;
+  labels = f.labels;
 }
 
 pub started_loop_has_room : (at : Place) (g : Context) → Fits g → HasRoom 1 (started_loop at g)
@@ -90,6 +103,7 @@ enter_fits g f = record {
   loops = f.loops;
   names = f.names;
   declared = f.declared;
+  labels = f.labels;
 }
 
 pub enter_has_room : (more : ℕ) (g : Context) → HasRoom more g → HasRoom more (enter g)
@@ -104,6 +118,7 @@ looping_fits g f = record {
   loops = f.loops;
   names = f.names;
   declared = f.declared;
+  labels = f.labels;
 }
 
 -- a scope ends
@@ -117,4 +132,5 @@ leave_fits g h f k a =
       loops = k.loops;
       names = omega arith;
       declared = omega arith;
+      labels = k.labels;
     }

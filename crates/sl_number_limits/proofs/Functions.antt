@@ -14,7 +14,7 @@ use Rattle.sl_typing.specs.Faults.{broken}
 use Rattle.sl_typing.specs.Flow.{head_of, before_parameters, in_function, at_brace, after_function, after_functions}
 use Rattle.sl_typing.specs.StatementFaults.{site_faults, items_faults}
 use Rattle.sl_typing.specs.ProgramFaults.{parameter_faults, function_faults, functions_faults, start}
-use Rattle.sl_number_limits.specs.Fits.{FitsVariable, FitsFunction, Fits, HasRoom}
+use Rattle.sl_number_limits.specs.Fits.{FitsVariable, FitsFunction, IsLabelled, Fits, HasRoom}
 use Rattle.sl_number_limits.proofs.Lists.{parts, not_broken}
 use Rattle.sl_number_limits.proofs.ScopeLaws.{AllCounted}
 use Rattle.sl_number_limits.proofs.Effects.{site_fits}
@@ -66,6 +66,7 @@ before_parameters_fit g f fits none =
       loops = fits.loops;
       names = omega arith;
       declared = omega arith;
+      labels = All-nil (IsLabelled (length g.names));
     }
 
 -- they have room
@@ -120,4 +121,5 @@ start_fits = record {
   loops = omega arith;
   names = omega arith;
   declared = omega arith;
+  labels = All-nil (IsLabelled 0);
 }

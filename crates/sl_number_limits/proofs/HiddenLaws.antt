@@ -30,6 +30,7 @@ of_type name before g all f (types.Container access form) is none =
       loops = f.loops;
       names = f.names;
       declared = f.declared;
+      labels = f.labels;
     }
 of_type name before g all f u is none = f
 

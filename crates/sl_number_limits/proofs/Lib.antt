@@ -15,5 +15,6 @@ pub mod StatementParts
 pub mod Statements
 pub mod Parameters
 pub mod Functions
+pub mod Lasting
 pub mod Programs
 pub mod TypedFunctions

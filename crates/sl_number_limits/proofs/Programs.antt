@@ -18,6 +18,7 @@ use Rattle.sl_number_limits.proofs.Lists.{parts, not_broken}
 use Rattle.sl_number_limits.proofs.Growth.{along, sites_grow}
 use Rattle.sl_number_limits.proofs.StatementGrowth.{after_items_grow}
 use Rattle.sl_number_limits.proofs.Parameters.{parameters_grow}
+use Rattle.sl_number_limits.proofs.Lasting.{function_grows}
 use Rattle.sl_number_limits.proofs.Functions.{after_functions_fit, start_fits}
 
 -- the functions of a program that breaks no rule break none
@@ -38,10 +39,7 @@ few_variables g f = let n = f.declared in let k = f.statements in let l = f.scop
 
 -- a function adds itself to those that are known
 function_comes : (g : Context) (f : Function) → (after_function g f).scope.functions ≡ g.scope.functions ++ head_of g f ∷ []
-function_comes g f =
-    (along (before_parameters g f) (in_function g f) (after_function g f) (parameters_grow (before_parameters g f) f.params)
-    (along (in_function g f) (at_brace g f) (after_function g f) (after_items_grow (in_function g f) f.items)
-    (sites_grow (brace_site f.items f.closes) (at_brace g f)))).functions
+function_comes g f = (function_grows g f).functions
 
 -- how many functions are known at the end
 pub functions_come : (g : Context) (fs : List Function) → length (after_functions g fs).scope.functions ≡ length g.scope.functions + length fs

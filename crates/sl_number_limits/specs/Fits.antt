@@ -2,6 +2,7 @@
 -- variables and functions that names can mean there have such numbers.
 use Rattle.std.specs.Prelude.{ℕ, ◌+◌, ◌*◌, ◌<◌, ◌≤◌, length, All}
 use Rattle.sl_base.specs.declared.limits.TheConstants.{FUNCTIONS, PARAMETERS, SITES, STATEMENTS}
+use Rattle.sl_syntax.specs.declared.typed.variable.Variable.{Variable}
 use Rattle.sl_syntax.specs.Typed as t
 use Rattle.sl_typing.specs.declared.scope.FunctionHead.{FunctionHead}
 use Rattle.sl_typing.specs.declared.scope.NamedVariable.{NamedVariable}
@@ -26,6 +27,10 @@ pub record FitsScope (names : ℕ) (g : Scope) : Type 0 where
   pub total : length g.functions ≤ FUNCTIONS
   pub functions : All FitsFunction g.functions
 
+-- the number of a declared variable's name is one of so many names
+abbrev pub IsLabelled : ℕ → Variable → Type 0
+IsLabelled names v = v.name < names
+
 -- how many names there are at most: a statement declares one, and a function its parameters
 abbrev pub names_limit : Context → ℕ
 names_limit g = g.statements + PARAMETERS * length g.scope.functions
@@ -42,13 +47,15 @@ pub record Fits (g : Context) : Type 0 where
   pub loops : length g.loops ≤ g.statements
   pub names : length g.names ≤ names_limit g
   pub declared : length g.variables ≤ names_limit g
+  pub labels : All (IsLabelled (length g.names)) g.variables
 
 -- so many more names, and variables, may be declared
 pub record HasRoom (more : ℕ) (g : Context) : Type 0 where
   pub for_names : length g.names + more ≤ names_limit g
   pub for_variables : length g.variables + more ≤ names_limit g
 
--- a typed function has no more parameters than there may be, and no more variables than a text may have
-pub record FitsTypedFunction (f : t.Function) : Type 0 where
+-- a typed function has no more parameters than there may be, and no more variables than a text may have, whose names are among so many
+pub record FitsTypedFunction (names : ℕ) (f : t.Function) : Type 0 where
   pub parameters : length f.parameters ≤ PARAMETERS
   pub variables : length f.variables ≤ most_names
+  pub labels : All (IsLabelled names) f.variables

@@ -12,14 +12,14 @@ ghost use Rattle.sl_typing.specs.Typing.{Typed};
 ghost use Rattle.sl_number_limits.specs.Fits.{Fits, FitsTypedFunction, most_names};
 
 /// A typed text has so few functions, sites, loops and names that 16 bits hold the number of each; `main` is one of the functions. Each
-/// function has as many parameters and variables as fit.
+/// function has as many parameters and variables as fit, and its variables have names of the text.
 pub fn typed_programs_fit()
     ensures functions { (p : Program) (u : texts.Typed) → Typed p u → length u.functions ≤ FUNCTIONS }
     ensures main { (p : Program) (u : texts.Typed) → Typed p u → u.main < length u.functions }
     ensures sites { (p : Program) (u : texts.Typed) → Typed p u → length u.sites ≤ SITES }
     ensures loops { (p : Program) (u : texts.Typed) → Typed p u → length u.loops ≤ STATEMENTS }
     ensures names { (p : Program) (u : texts.Typed) → Typed p u → length u.names ≤ most_names }
-    ensures each { (p : Program) (u : texts.Typed) → Typed p u → All FitsTypedFunction u.functions }
+    ensures each { (p : Program) (u : texts.Typed) → Typed p u → All (FitsTypedFunction (length u.names)) u.functions }
     ensures narrow { most_names < 65536 }
 {}
 
