@@ -11,6 +11,7 @@ pub mod ContextLaws
 pub mod HiddenLaws
 pub mod Declarations
 pub mod Effects
+pub mod SiteNumbers
 pub mod StatementParts
 pub mod Statements
 pub mod Parameters
