@@ -19,3 +19,4 @@ pub mod Functions
 pub mod Lasting
 pub mod Programs
 pub mod TypedFunctions
+pub mod Narrow
