@@ -12,6 +12,7 @@ pub mod HiddenLaws
 pub mod Declarations
 pub mod Effects
 pub mod SiteNumbers
+pub mod PartFaults
 pub mod StatementParts
 pub mod Statements
 pub mod Parameters

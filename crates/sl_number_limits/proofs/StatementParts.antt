@@ -16,6 +16,9 @@ use Rattle.sl_typing.specs.Flow.{behind_cond, behind_last, at_test, at_last, in_
 use Rattle.sl_typing.specs.StatementFaults.{cond_faults, first_faults, test_faults, last_faults, limit_faults, statement_faults, declaration_place}
 use Rattle.sl_typing.specs.StatementFaults.{stmt_faults, item_faults, items_faults}
 use Rattle.sl_number_limits.specs.Fits.{Fits, HasRoom}
+use Rattle.sl_number_limits.proofs.PartFaults.{choice_condition, choice_begins, choice_else_condition, choice_else_begins, while_condition, while_begins}
+use Rattle.sl_number_limits.proofs.PartFaults.{for_first, for_test, for_last, for_begins, range_hidden, range_variable, range_begins}
+use Rattle.sl_number_limits.proofs.PartFaults.{return_begins, effect_begins, declaration_begins}
 use Rattle.sl_number_limits.proofs.Lists.{parts, not_broken}
 use Rattle.sl_number_limits.proofs.ContextLaws.{started_fits, started_loop_fits, started_loop_has_room, enter_fits, enter_has_room}
 use Rattle.sl_number_limits.proofs.ContextLaws.{looping_fits, declare_fits}
@@ -45,113 +48,82 @@ head_has_room g at f = enter_has_room 1 (started_loop at g) (started_loop_has_ro
 
 -- at the condition of a choice, and in its branch
 pub at_choice : (g : Context) (at : Place) (k : Cond) (a : Stmt) → Fits g → stmt_faults g (s.choice at k a) ≡ [] → Fits (started g)
-unfolding stmt_faults item_faults items_faults
 at_choice g at k a f none =
-    let p : statement_faults g at ≡ [] = search parts in
-    at_start g at f p
+    at_start g at f (choice_begins g at k a none)
 
 pub in_choice : (g : Context) (at : Place) (k : Cond) (a : Stmt) → Fits g → stmt_faults g (s.choice at k a) ≡ []
     → Fits (behind_cond (started g) k)
-unfolding stmt_faults item_faults items_faults
 in_choice g at k a f none =
-    let p : cond_faults (started g) k ≡ [] = search parts in
-    cond_fits (started g) k (at_choice g at k a f none) p
+    cond_fits (started g) k (at_choice g at k a f none) (choice_condition g at k a none)
 
 -- the same of a choice with two branches
 pub at_choice_else : (g : Context) (at : Place) (k : Cond) (a b : Stmt) → Fits g → stmt_faults g (s.choice_else at k a b) ≡ [] → Fits (started g)
-unfolding stmt_faults item_faults items_faults
 at_choice_else g at k a b f none =
-    let p : statement_faults g at ≡ [] = search parts in
-    at_start g at f p
+    at_start g at f (choice_else_begins g at k a b none)
 
 pub in_choice_else : (g : Context) (at : Place) (k : Cond) (a b : Stmt) → Fits g → stmt_faults g (s.choice_else at k a b) ≡ []
     → Fits (behind_cond (started g) k)
-unfolding stmt_faults item_faults items_faults
 in_choice_else g at k a b f none =
-    let p : cond_faults (started g) k ≡ [] = search parts in
-    cond_fits (started g) k (at_choice_else g at k a b f none) p
+    cond_fits (started g) k (at_choice_else g at k a b f none) (choice_else_condition g at k a b none)
 
 -- at the condition of a `while`, and in its body
 pub at_while : (g : Context) (at : Place) (k : Cond) (a : Stmt) → Fits g → stmt_faults g (s.while at k a) ≡ [] → Fits (started_loop at g)
-unfolding stmt_faults item_faults items_faults
 at_while g at k a f none =
-    let p : statement_faults g at ≡ [] = search parts in
-    at_loop g at f p
+    at_loop g at f (while_begins g at k a none)
 
 pub in_while_fits : (g : Context) (at : Place) (k : Cond) (a : Stmt) → Fits g → stmt_faults g (s.while at k a) ≡ [] → Fits (in_while g at k)
-unfolding stmt_faults item_faults items_faults
 in_while_fits g at k a f none =
-    let p : cond_faults (started_loop at g) k ≡ [] = search parts in
-    looping_fits (behind_cond (started_loop at g) k) (cond_fits (started_loop at g) k (at_while g at k a f none) p)
+    looping_fits (behind_cond (started_loop at g) k) (cond_fits (started_loop at g) k (at_while g at k a f none) (while_condition g at k a none))
 
 -- at the first part of a `for`, at its condition, at its last part and in its body
 pub at_for : (g : Context) (at : Place) (first : Option First) (k : Option Cond) (last : Option Effect) (a : Stmt) → Fits g
     → stmt_faults g (s.for at first k last a) ≡ [] → Fits (enter (started_loop at g))
-unfolding stmt_faults item_faults items_faults
 at_for g at first k last a f none =
-    let p : statement_faults g at ≡ [] = search parts in
-    at_head g at f p
+    at_head g at f (for_begins g at first k last a none)
 
 pub at_test_fits : (g : Context) (at : Place) (first : Option First) (k : Option Cond) (last : Option Effect) (a : Stmt) → Fits g
     → stmt_faults g (s.for at first k last a) ≡ [] → Fits (at_test g at first)
-unfolding stmt_faults item_faults items_faults
 at_test_fits g at first k last a f none =
-    let p : first_faults (enter (started_loop at g)) first ≡ [] = search parts in
-    first_fits (enter (started_loop at g)) first (at_for g at first k last a f none) (head_has_room g at f) p
+    first_fits (enter (started_loop at g)) first (at_for g at first k last a f none) (head_has_room g at f) (for_first g at first k last a none)
 
 pub at_last_fits : (g : Context) (at : Place) (first : Option First) (k : Option Cond) (last : Option Effect) (a : Stmt) → Fits g
     → stmt_faults g (s.for at first k last a) ≡ [] → Fits (at_last g at first k)
-unfolding stmt_faults item_faults items_faults
 at_last_fits g at first k last a f none =
-    let p : test_faults (at_test g at first) k ≡ [] = search parts in
-    test_fits (at_test g at first) k (at_test_fits g at first k last a f none) p
+    test_fits (at_test g at first) k (at_test_fits g at first k last a f none) (for_test g at first k last a none)
 
 pub in_for_fits : (g : Context) (at : Place) (first : Option First) (k : Option Cond) (last : Option Effect) (a : Stmt) → Fits g
     → stmt_faults g (s.for at first k last a) ≡ [] → Fits (in_for g at first k last)
-unfolding stmt_faults item_faults items_faults
 in_for_fits g at first k last a f none =
-    let p : last_faults (at_last g at first k) last ≡ [] = search parts in
-    looping_fits (behind_last (at_last g at first k) last) (last_fits (at_last g at first k) last (at_last_fits g at first k last a f none) p)
+    looping_fits (behind_last (at_last g at first k) last) (last_fits (at_last g at first k) last (at_last_fits g at first k last a f none) (for_last g at first k last a none))
 
 -- behind the hidden iterators of a range-for, and in its body
 pub behind_hidden_fits : (g : Context) (at : Place) (how : Element) (x over : Identifier) (a : Stmt) → Fits g
     → stmt_faults g (s.range_for at how x over a) ≡ [] → Fits (behind_hidden g at over)
-unfolding stmt_faults item_faults items_faults
 behind_hidden_fits g at how x over a f none =
-    let p : statement_faults g at ≡ [] = search parts in
-    let q : limit_faults (enter (started_loop at g)) (behind_hidden g at over) at ≡ [] = search parts in
-    let h = at_head g at f p in
+    let h = at_head g at f (range_begins g at how x over a none) in
     hidden_fits over.name (enter (started_loop at g)).scope (enter (started_loop at g)) h.scope.counts h
-    (none_passed (enter (started_loop at g)) (behind_hidden g at over) at q)
+    (none_passed (enter (started_loop at g)) (behind_hidden g at over) at (range_hidden g at how x over a none))
 
 pub in_range_fits : (g : Context) (at : Place) (how : Element) (x over : Identifier) (a : Stmt) → Fits g
     → stmt_faults g (s.range_for at how x over a) ≡ [] → Fits (in_range g at how x over)
-unfolding stmt_faults item_faults items_faults
 in_range_fits g at how x over a f none =
     let u = element_type how (type_of_name g.scope over.name) in
-    let q : limit_faults (behind_hidden g at over) (in_range g at how x over) x.place ≡ [] = search parts in
     let h = behind_hidden_fits g at how x over a f none in
     looping_fits (declare x u (behind_hidden g at over))
     (declare_fits x u (behind_hidden g at over).scope (behind_hidden g at over) h.scope.counts h
     (room_behind_hidden 1 (type_of_name g.scope over.name) (enter (started_loop at g)) (head_has_room g at f))
-    (none_passed (behind_hidden g at over) (in_range g at how x over) x.place q))
+    (none_passed (behind_hidden g at over) (in_range g at how x over) x.place (range_variable g at how x over a none)))
 
 -- at the value that is given back, and at an effect
 pub at_value : (g : Context) (at : Place) (value : Option Expr) → Fits g → stmt_faults g (s.gives_back at value) ≡ [] → Fits (started g)
-unfolding stmt_faults item_faults items_faults
 at_value g at value f none =
-    let p : statement_faults g at ≡ [] = search parts in
-    at_start g at f p
+    at_start g at f (return_begins g at value none)
 
 pub at_effect : (g : Context) (at : Place) (w : Effect) → Fits g → stmt_faults g (s.does at w) ≡ [] → Fits (started g)
-unfolding stmt_faults item_faults items_faults
 at_effect g at w f none =
-    let p : statement_faults g at ≡ [] = search parts in
-    at_start g at f p
+    at_start g at f (effect_begins g at w none)
 
 -- at a declaration
 pub at_declaration : (g : Context) (d : Declaration) → Fits g → item_faults g (s.declares d) ≡ [] → Fits (started g)
-unfolding stmt_faults item_faults items_faults
 at_declaration g d f none =
-    let p : statement_faults g (declaration_place d) ≡ [] = search parts in
-    at_start g (declaration_place d) f p
+    at_start g (declaration_place d) f (declaration_begins g d none)
