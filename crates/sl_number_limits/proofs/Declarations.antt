@@ -41,7 +41,8 @@ value_has_room g None r = r
 value_has_room g (Some e) r = room_behind_sites 1 (sites_in g.scope e) g r
 
 -- the sites of elements in braces
-pub elements_fit : (g : Context) (k : ℕ) (xs : Exprs) → Fits g → element_faults g k xs ≡ [] → length g.sites + length (sites_in_all g.scope xs) ≤ SITES
+pub elements_fit : (g : Context) (k : ℕ) (xs : Exprs) → Fits g → element_faults g k xs ≡ []
+    → length g.sites + length (sites_in_all g.scope xs) ≤ SITES
 unfolding sites_in_all
 elements_fit g k s.none f none = let l = f.sites in omega arith
 elements_fit g k (s.with x xs) f none =

@@ -12,10 +12,10 @@ use Rattle.sl_typing.specs.Contexts.{Context}
 use Rattle.sl_typing.specs.Sites.{declares_container}
 use Rattle.sl_typing.specs.Faults.{broken}
 use Rattle.sl_typing.specs.Flow.{head_of, before_parameters, in_function, at_brace, after_function, after_functions}
-use Rattle.sl_typing.specs.StatementFaults.{site_faults, items_faults}
-use Rattle.sl_typing.specs.ProgramFaults.{parameter_faults, function_faults, functions_faults, start}
+use Rattle.sl_typing.specs.ProgramFaults.{function_faults, functions_faults, start}
 use Rattle.sl_number_limits.specs.Fits.{FitsVariable, FitsFunction, IsLabelled, Fits, HasRoom}
 use Rattle.sl_number_limits.proofs.Lists.{parts, not_broken}
+use Rattle.sl_number_limits.proofs.PartFaults.{function_parameters, function_items, function_brace, first_function, other_functions}
 use Rattle.sl_number_limits.proofs.ScopeLaws.{AllCounted}
 use Rattle.sl_number_limits.proofs.Effects.{site_fits}
 use Rattle.sl_number_limits.proofs.Statements.{after_items_fit}
@@ -33,8 +33,7 @@ function_number_fits g f fits none =
 -- so are its parameters
 pub function_parameters_fit : (g : Context) (f : Function) → function_faults g f ≡ [] → length f.params ≤ PARAMETERS
 function_parameters_fit g f none =
-    let p : parameter_faults (before_parameters g f) 0 f.params ≡ [] = search parts in
-    let l = parameter_count_fits (before_parameters g f) 0 f.params p (omega arith) in
+    let l = parameter_count_fits (before_parameters g f) 0 f.params (function_parameters g f none) (omega arith) in
     omega arith
 
 -- nothing is in scope before parameters
@@ -79,28 +78,23 @@ parameters_have_room g f fits none =
 -- at the start of its body
 pub in_function_fits : (g : Context) (f : Function) → Fits g → function_faults g f ≡ [] → Fits (in_function g f)
 in_function_fits g f fits none =
-    let p : parameter_faults (before_parameters g f) 0 f.params ≡ [] = search parts in
-    parameters_fit (before_parameters g f) 0 f.params (before_parameters_fit g f fits none) (parameters_have_room g f fits none) p
+    parameters_fit (before_parameters g f) 0 f.params (before_parameters_fit g f fits none) (parameters_have_room g f fits none)
+    (function_parameters g f none)
 
 -- at its closing brace
 pub at_function_brace : (g : Context) (f : Function) → Fits g → function_faults g f ≡ [] → Fits (at_brace g f)
-at_function_brace g f fits none =
-    let p : items_faults (in_function g f) f.items ≡ [] = search parts in
-    after_items_fit (in_function g f) f.items (in_function_fits g f fits none) p
+at_function_brace g f fits none = after_items_fit (in_function g f) f.items (in_function_fits g f fits none) (function_items g f none)
 
 -- behind it
 pub after_function_fits : (g : Context) (f : Function) → Fits g → function_faults g f ≡ [] → Fits (after_function g f)
 after_function_fits g f fits none =
-    let p : site_faults (at_brace g f) (declares_container f.items) f.closes ≡ [] = search parts in
-    site_fits (at_brace g f) (declares_container f.items) f.closes (at_function_brace g f fits none) p
+    site_fits (at_brace g f) (declares_container f.items) f.closes (at_function_brace g f fits none) (function_brace g f none)
 
 -- behind functions
 pub after_functions_fit : (g : Context) (fs : List Function) → Fits g → functions_faults g fs ≡ [] → Fits (after_functions g fs)
 after_functions_fit g [] fits none = fits
 after_functions_fit g (f ∷ fs) fits none =
-    let p : function_faults g f ≡ [] = search parts in
-    let q : functions_faults (after_function g f) fs ≡ [] = search parts in
-    after_functions_fit (after_function g f) fs (after_function_fits g f fits p) q
+    after_functions_fit (after_function g f) fs (after_function_fits g f fits (first_function g f fs none)) (other_functions g f fs none)
 
 start_counted : AllCounted start.scope
 start_counted scalars = omega arith

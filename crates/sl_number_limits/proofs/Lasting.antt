@@ -1,5 +1,5 @@
 -- Sites, loops, statements and names last to the end of a text.
-use Rattle.std.proofs.Common.{◌≡◌, ℕ, ◌≤◌, List, [], ◌∷◌, length, refl, arith}
+use Rattle.std.proofs.Common.{◌≤◌, List, [], ◌∷◌, length, arith}
 use Rattle.sl_syntax.specs.Tree.{Function}
 use Rattle.sl_typing.specs.Contexts.{Context}
 use Rattle.sl_typing.specs.Sites.{brace_site}

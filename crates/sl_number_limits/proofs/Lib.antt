@@ -5,8 +5,10 @@ pub mod Expressions
 pub mod Positions
 pub mod ScopeLaws
 pub mod Lookups
+-- ## What stands before a place only grows
 pub mod Growth
 pub mod StatementGrowth
+-- ## Each part that breaks no rule keeps all within the limits
 pub mod ContextLaws
 pub mod HiddenLaws
 pub mod Declarations
@@ -15,9 +17,11 @@ pub mod SiteNumbers
 pub mod PartFaults
 pub mod StatementParts
 pub mod Statements
+-- ## Functions and programs
 pub mod Parameters
 pub mod Functions
 pub mod Lasting
 pub mod Programs
 pub mod TypedFunctions
+-- ## How wide numbers are
 pub mod Narrow

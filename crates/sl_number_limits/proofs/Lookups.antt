@@ -33,12 +33,14 @@ found P test (y ∷ ys) all x e =
     found_step P (test y) y x (find test ys) e (All-head P y ys all) (found P test ys (All-tail P y ys all) x)
 
 -- the variable that a name means
-pub variable_found : (names : ℕ) (g : Scope) (name : List ℕ) → FitsScope names g → (v : NamedVariable) → variable_named g name ≡ Some v → FitsVariable names v
+pub variable_found : (names : ℕ) (g : Scope) (name : List ℕ) → FitsScope names g → (v : NamedVariable) → variable_named g name ≡ Some v
+    → FitsVariable names v
 variable_found names g name f =
     found (FitsVariable names) (is_variable_named name) (reverse g.variables) (all_reversed (FitsVariable names) g.variables f.variables)
 
 -- the function that a name means
-pub function_found : (names : ℕ) (g : Scope) (name : List ℕ) → FitsScope names g → (h : FunctionHead) → function_named g name ≡ Some h → FitsFunction h
+pub function_found : (names : ℕ) (g : Scope) (name : List ℕ) → FitsScope names g → (h : FunctionHead) → function_named g name ≡ Some h
+    → FitsFunction h
 function_found names g name f =
     found FitsFunction (is_function_named name) (reverse g.functions) (all_reversed FitsFunction g.functions f.functions)
 

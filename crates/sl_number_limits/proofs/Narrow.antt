@@ -1,13 +1,12 @@
 -- Numbers within the limits are as narrow as a typed text holds them: 8 bits for a variable, 16 for the others.
 use Rattle.std.proofs.Common.{◌≡◌, ℕ, ◌<◌, ◌≤◌, List, length, Option, Some, None, refl, arith}
-use Rattle.sl_base.specs.declared.limits.TheConstants.{FUNCTIONS}
 use Rattle.sl_syntax.specs.declared.tree.identifier.Identifier.{Identifier}
 use Rattle.sl_syntax.specs.Typed as t
 use Rattle.sl_syntax.specs.Tree.{Program}
 use Rattle.sl_typing.specs.declared.expr_type.ExprType.{ExprType}
-use Rattle.sl_typing.specs.declared.expr_type.ExprType.TheVariants as types
 use Rattle.sl_typing.specs.declared.scope.Scope.{Scope}
-use Rattle.sl_typing.specs.Scopes.{Sort, scalars, containers, iterators, sort_of, count_of, limit_of, type_of_name, number_of_name, label_of_name, function_named}
+use Rattle.sl_typing.specs.Scopes.{Sort, scalars, containers, iterators, sort_of, count_of, limit_of, type_of_name, number_of_name, label_of_name}
+use Rattle.sl_typing.specs.Scopes.{function_named}
 use Rattle.sl_typing.specs.Contexts.{Context, declare, with_name, position}
 use Rattle.sl_typing.specs.Numbering.{label_in, number_of_function}
 use Rattle.sl_typing.specs.Typing.{Typed}

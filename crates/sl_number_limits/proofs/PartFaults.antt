@@ -1,5 +1,5 @@
 -- The parts of a statement, of items, of functions and of a program that break no rule break none: a lemma for each part.
-use Rattle.std.proofs.Common.{◌≡◌, ℕ, List, [], ◌∷◌, Option}
+use Rattle.std.proofs.Common.{◌≡◌, List, [], ◌∷◌, Option}
 use Rattle.sl_base.specs.declared.place.Place.{Place}
 use Rattle.sl_syntax.specs.declared.tree.element.Element.{Element}
 use Rattle.sl_syntax.specs.declared.tree.identifier.Identifier.{Identifier}
@@ -7,10 +7,12 @@ use Rattle.sl_syntax.specs.Tree as s
 use Rattle.sl_syntax.specs.Tree.{Expr, Declaration, Effect, Cond, First, Stmt, Item, Items, Function}
 use Rattle.sl_typing.specs.Contexts.{Context, enter, started, started_loop}
 use Rattle.sl_typing.specs.Sites.{declares_container}
-use Rattle.sl_typing.specs.Flow.{behind_cond, behind_hidden, at_test, at_last, in_for, in_range, in_while, after, after_item, after_items, before_parameters}
+use Rattle.sl_typing.specs.Flow.{behind_cond, behind_hidden, at_test, at_last, in_for, in_range, in_while, after, after_item, after_items}
+use Rattle.sl_typing.specs.Flow.{before_parameters}
 use Rattle.sl_typing.specs.Flow.{in_function, at_brace, after_function}
 use Rattle.sl_typing.specs.StatementFaults.{value_faults, effect_faults, cond_faults, declaration_faults, first_faults, test_faults, last_faults}
-use Rattle.sl_typing.specs.StatementFaults.{name_faults, site_faults, limit_faults, statement_faults, declaration_place, stmt_faults, item_faults, items_faults}
+use Rattle.sl_typing.specs.StatementFaults.{name_faults, site_faults, limit_faults, statement_faults, declaration_place, stmt_faults, item_faults}
+use Rattle.sl_typing.specs.StatementFaults.{items_faults}
 use Rattle.sl_typing.specs.ProgramFaults.{parameter_faults, function_faults, functions_faults}
 use Rattle.sl_number_limits.proofs.Lists.{parts}
 
@@ -75,27 +77,32 @@ unfolding stmt_faults item_faults items_faults
 while_begins g at k a none = search parts
 
 -- a `for`
-pub for_first : (g : Context) (at : Place) (first : Option First) (k : Option Cond) (last : Option Effect) (a : Stmt) → stmt_faults g (s.for at first k last a) ≡ []
+pub for_first : (g : Context) (at : Place) (first : Option First) (k : Option Cond) (last : Option Effect) (a : Stmt)
+    → stmt_faults g (s.for at first k last a) ≡ []
     → first_faults (enter (started_loop at g)) first ≡ []
 unfolding stmt_faults item_faults items_faults
 for_first g at first k last a none = search parts
 
-pub for_test : (g : Context) (at : Place) (first : Option First) (k : Option Cond) (last : Option Effect) (a : Stmt) → stmt_faults g (s.for at first k last a) ≡ []
+pub for_test : (g : Context) (at : Place) (first : Option First) (k : Option Cond) (last : Option Effect) (a : Stmt)
+    → stmt_faults g (s.for at first k last a) ≡ []
     → test_faults (at_test g at first) k ≡ []
 unfolding stmt_faults item_faults items_faults
 for_test g at first k last a none = search parts
 
-pub for_last : (g : Context) (at : Place) (first : Option First) (k : Option Cond) (last : Option Effect) (a : Stmt) → stmt_faults g (s.for at first k last a) ≡ []
+pub for_last : (g : Context) (at : Place) (first : Option First) (k : Option Cond) (last : Option Effect) (a : Stmt)
+    → stmt_faults g (s.for at first k last a) ≡ []
     → last_faults (at_last g at first k) last ≡ []
 unfolding stmt_faults item_faults items_faults
 for_last g at first k last a none = search parts
 
-pub for_body : (g : Context) (at : Place) (first : Option First) (k : Option Cond) (last : Option Effect) (a : Stmt) → stmt_faults g (s.for at first k last a) ≡ []
+pub for_body : (g : Context) (at : Place) (first : Option First) (k : Option Cond) (last : Option Effect) (a : Stmt)
+    → stmt_faults g (s.for at first k last a) ≡ []
     → stmt_faults (in_for g at first k last) a ≡ []
 unfolding stmt_faults item_faults items_faults
 for_body g at first k last a none = search parts
 
-pub for_begins : (g : Context) (at : Place) (first : Option First) (k : Option Cond) (last : Option Effect) (a : Stmt) → stmt_faults g (s.for at first k last a) ≡ []
+pub for_begins : (g : Context) (at : Place) (first : Option First) (k : Option Cond) (last : Option Effect) (a : Stmt)
+    → stmt_faults g (s.for at first k last a) ≡ []
     → statement_faults g at ≡ []
 unfolding stmt_faults item_faults items_faults
 for_begins g at first k last a none = search parts

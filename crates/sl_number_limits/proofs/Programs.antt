@@ -8,16 +8,12 @@ use Rattle.sl_syntax.specs.Typed as t
 use Rattle.sl_typing.specs.declared.rules.TheConstants as rule
 use Rattle.sl_typing.specs.declared.scope.FunctionHead.{FunctionHead}
 use Rattle.sl_typing.specs.Contexts.{Context}
-use Rattle.sl_typing.specs.Sites.{brace_site}
 use Rattle.sl_typing.specs.Faults.{broken}
-use Rattle.sl_typing.specs.Flow.{head_of, before_parameters, in_function, at_brace, after_function, after_functions}
+use Rattle.sl_typing.specs.Flow.{head_of, after_function, after_functions}
 use Rattle.sl_typing.specs.ProgramFaults.{is_main, first_place, functions_faults, start, program_faults}
 use Rattle.sl_typing.specs.Typing.{typed_functions, main_number, typed_program, Typed}
 use Rattle.sl_number_limits.specs.Fits.{Fits, most_names}
 use Rattle.sl_number_limits.proofs.Lists.{parts, not_broken}
-use Rattle.sl_number_limits.proofs.Growth.{along, sites_grow}
-use Rattle.sl_number_limits.proofs.StatementGrowth.{after_items_grow}
-use Rattle.sl_number_limits.proofs.Parameters.{parameters_grow}
 use Rattle.sl_number_limits.proofs.Lasting.{function_grows}
 use Rattle.sl_number_limits.proofs.Functions.{after_functions_fit, start_fits}
 

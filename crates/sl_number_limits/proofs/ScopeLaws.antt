@@ -69,7 +69,8 @@ scope_stays names more g h f = record {
 }
 
 -- a variable comes into scope
-pub variable_fits : (names more : ℕ) (name : Option (List ℕ)) (label : ℕ) (type : ExprType) (g : Scope) → FitsScope names g → names ≤ more → label < more
+pub variable_fits : (names more : ℕ) (name : Option (List ℕ)) (label : ℕ) (type : ExprType) (g : Scope) → FitsScope names g → names ≤ more
+    → label < more
     → AllCounted (with_variable name label type g) → FitsScope more (with_variable name label type g)
 variable_fits names more name label type g f h below all =
     let v : NamedVariable = record { name = name; label = label; number = count_of (sort_of type) g; variable_type = type } in

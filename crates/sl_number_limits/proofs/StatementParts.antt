@@ -13,13 +13,14 @@ use Rattle.sl_typing.specs.Scopes.{type_of_name}
 use Rattle.sl_typing.specs.Contexts.{Context, declare, enter, started, started_loop}
 use Rattle.sl_typing.specs.Ranges.{element_type}
 use Rattle.sl_typing.specs.Flow.{behind_cond, behind_last, at_test, at_last, in_for, behind_hidden, in_range, in_while}
-use Rattle.sl_typing.specs.StatementFaults.{cond_faults, first_faults, test_faults, last_faults, limit_faults, statement_faults, declaration_place}
-use Rattle.sl_typing.specs.StatementFaults.{stmt_faults, item_faults, items_faults}
+use Rattle.sl_typing.specs.StatementFaults.{statement_faults, declaration_place}
+use Rattle.sl_typing.specs.StatementFaults.{stmt_faults, item_faults}
 use Rattle.sl_number_limits.specs.Fits.{Fits, HasRoom}
-use Rattle.sl_number_limits.proofs.PartFaults.{choice_condition, choice_begins, choice_else_condition, choice_else_begins, while_condition, while_begins}
+use Rattle.sl_number_limits.proofs.PartFaults.{choice_condition, choice_begins, choice_else_condition, choice_else_begins, while_condition}
+use Rattle.sl_number_limits.proofs.PartFaults.{while_begins}
 use Rattle.sl_number_limits.proofs.PartFaults.{for_first, for_test, for_last, for_begins, range_hidden, range_variable, range_begins}
 use Rattle.sl_number_limits.proofs.PartFaults.{return_begins, effect_begins, declaration_begins}
-use Rattle.sl_number_limits.proofs.Lists.{parts, not_broken}
+use Rattle.sl_number_limits.proofs.Lists.{not_broken}
 use Rattle.sl_number_limits.proofs.ContextLaws.{started_fits, started_loop_fits, started_loop_has_room, enter_fits, enter_has_room}
 use Rattle.sl_number_limits.proofs.ContextLaws.{looping_fits, declare_fits}
 use Rattle.sl_number_limits.proofs.HiddenLaws.{hidden_fits, room_behind_hidden}
@@ -48,28 +49,23 @@ head_has_room g at f = enter_has_room 1 (started_loop at g) (started_loop_has_ro
 
 -- at the condition of a choice, and in its branch
 pub at_choice : (g : Context) (at : Place) (k : Cond) (a : Stmt) → Fits g → stmt_faults g (s.choice at k a) ≡ [] → Fits (started g)
-at_choice g at k a f none =
-    at_start g at f (choice_begins g at k a none)
+at_choice g at k a f none = at_start g at f (choice_begins g at k a none)
 
 pub in_choice : (g : Context) (at : Place) (k : Cond) (a : Stmt) → Fits g → stmt_faults g (s.choice at k a) ≡ []
     → Fits (behind_cond (started g) k)
-in_choice g at k a f none =
-    cond_fits (started g) k (at_choice g at k a f none) (choice_condition g at k a none)
+in_choice g at k a f none = cond_fits (started g) k (at_choice g at k a f none) (choice_condition g at k a none)
 
 -- the same of a choice with two branches
 pub at_choice_else : (g : Context) (at : Place) (k : Cond) (a b : Stmt) → Fits g → stmt_faults g (s.choice_else at k a b) ≡ [] → Fits (started g)
-at_choice_else g at k a b f none =
-    at_start g at f (choice_else_begins g at k a b none)
+at_choice_else g at k a b f none = at_start g at f (choice_else_begins g at k a b none)
 
 pub in_choice_else : (g : Context) (at : Place) (k : Cond) (a b : Stmt) → Fits g → stmt_faults g (s.choice_else at k a b) ≡ []
     → Fits (behind_cond (started g) k)
-in_choice_else g at k a b f none =
-    cond_fits (started g) k (at_choice_else g at k a b f none) (choice_else_condition g at k a b none)
+in_choice_else g at k a b f none = cond_fits (started g) k (at_choice_else g at k a b f none) (choice_else_condition g at k a b none)
 
 -- at the condition of a `while`, and in its body
 pub at_while : (g : Context) (at : Place) (k : Cond) (a : Stmt) → Fits g → stmt_faults g (s.while at k a) ≡ [] → Fits (started_loop at g)
-at_while g at k a f none =
-    at_loop g at f (while_begins g at k a none)
+at_while g at k a f none = at_loop g at f (while_begins g at k a none)
 
 pub in_while_fits : (g : Context) (at : Place) (k : Cond) (a : Stmt) → Fits g → stmt_faults g (s.while at k a) ≡ [] → Fits (in_while g at k)
 in_while_fits g at k a f none =
@@ -78,8 +74,7 @@ in_while_fits g at k a f none =
 -- at the first part of a `for`, at its condition, at its last part and in its body
 pub at_for : (g : Context) (at : Place) (first : Option First) (k : Option Cond) (last : Option Effect) (a : Stmt) → Fits g
     → stmt_faults g (s.for at first k last a) ≡ [] → Fits (enter (started_loop at g))
-at_for g at first k last a f none =
-    at_head g at f (for_begins g at first k last a none)
+at_for g at first k last a f none = at_head g at f (for_begins g at first k last a none)
 
 pub at_test_fits : (g : Context) (at : Place) (first : Option First) (k : Option Cond) (last : Option Effect) (a : Stmt) → Fits g
     → stmt_faults g (s.for at first k last a) ≡ [] → Fits (at_test g at first)
@@ -116,14 +111,11 @@ in_range_fits g at how x over a f none =
 
 -- at the value that is given back, and at an effect
 pub at_value : (g : Context) (at : Place) (value : Option Expr) → Fits g → stmt_faults g (s.gives_back at value) ≡ [] → Fits (started g)
-at_value g at value f none =
-    at_start g at f (return_begins g at value none)
+at_value g at value f none = at_start g at f (return_begins g at value none)
 
 pub at_effect : (g : Context) (at : Place) (w : Effect) → Fits g → stmt_faults g (s.does at w) ≡ [] → Fits (started g)
-at_effect g at w f none =
-    at_start g at f (effect_begins g at w none)
+at_effect g at w f none = at_start g at f (effect_begins g at w none)
 
 -- at a declaration
 pub at_declaration : (g : Context) (d : Declaration) → Fits g → item_faults g (s.declares d) ≡ [] → Fits (started g)
-at_declaration g d f none =
-    at_start g (declaration_place d) f (declaration_begins g d none)
+at_declaration g d f none = at_start g (declaration_place d) f (declaration_begins g d none)

@@ -12,7 +12,7 @@ use Rattle.sl_typing.specs.ProgramFaults.{function_faults, functions_faults, sta
 use Rattle.sl_typing.specs.Typing.{typed_function, typed_functions, typed_program, Typed}
 use Rattle.sl_number_limits.specs.Fits.{Fits, FitsTypedFunction}
 use Rattle.std.proofs.Math.Nat.{le_trans}
-use Rattle.sl_number_limits.proofs.Lists.{parts}
+use Rattle.sl_number_limits.proofs.PartFaults.{first_function, other_functions}
 use Rattle.sl_number_limits.proofs.ContextLaws.{labels_stay}
 use Rattle.sl_number_limits.proofs.Lasting.{brace_lasts}
 use Rattle.sl_number_limits.proofs.Functions.{function_parameters_fit, at_function_brace, after_function_fits, start_fits}
@@ -36,11 +36,10 @@ pub typed_functions_fit : (names : ℕ) (g : Context) (fs : List Function) → l
     → functions_faults g fs ≡ [] → All (FitsTypedFunction names) (typed_functions g fs)
 typed_functions_fit names g [] more fits none = All-nil (FitsTypedFunction names)
 typed_functions_fit names g (f ∷ fs) more fits none =
-    let p : function_faults g f ≡ [] = search parts in
-    let q : functions_faults (after_function g f) fs ≡ [] = search parts in
     All-cons (FitsTypedFunction names) (typed_function g f) (typed_functions (after_function g f) fs)
-    (typed_function_fits names g f (le_trans (brace_lasts g f fs).names more) fits p)
-    (typed_functions_fit names (after_function g f) fs more (after_function_fits g f fits p) q)
+    (typed_function_fits names g f (le_trans (brace_lasts g f fs).names more) fits (first_function g f fs none))
+    (typed_functions_fit names (after_function g f) fs more (after_function_fits g f fits (first_function g f fs none))
+    (other_functions g f fs none))
 
 -- the functions of a typed text
 pub each_function_fits : (p : Program) (u : t.Typed) → Typed p u → All (FitsTypedFunction (length u.names)) u.functions
