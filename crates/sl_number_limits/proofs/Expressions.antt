@@ -60,7 +60,8 @@ mutual
       let p : faults g n standing.Plain x ≡ [] = search parts in
       let q : faults g (inside g n (s.index x at y)) standing.Plain y ≡ [] = search parts in
       let r : own_faults g n how (s.index x at y) ≡ [] = search parts in
-      let k = sites_fit g (inside g n (s.index x at y)) standing.Plain y q (own_site_fits g n how (s.index x at y) r (sites_fit g n standing.Plain x p h)) in
+      let k = sites_fit g (inside g n (s.index x at y)) standing.Plain y q
+      (own_site_fits g n how (s.index x at y) r (sites_fit g n standing.Plain x p h)) in
       omega (arith, length-append {A = Place})
   sites_fit g n how (s.member_call x f xs) none h =
       let p : faults g n standing.Plain x ≡ [] = search parts in

@@ -28,7 +28,8 @@ below_limit n e h = grind (arith, nat_tests)
 pub function_number_fits : (g : Context) (f : Function) → Fits g → function_faults g f ≡ [] → length g.scope.functions < FUNCTIONS
 function_number_fits g f fits none =
     let p : broken (length g.scope.functions == FUNCTIONS) f.name.place rule.TOO_MANY_FUNCTIONS ≡ [] = search parts in
-    below_limit (length g.scope.functions) (not_broken (length g.scope.functions == FUNCTIONS) f.name.place rule.TOO_MANY_FUNCTIONS p) fits.scope.total
+    below_limit (length g.scope.functions) (not_broken (length g.scope.functions == FUNCTIONS) f.name.place rule.TOO_MANY_FUNCTIONS p)
+    fits.scope.total
 
 -- so are its parameters
 pub function_parameters_fit : (g : Context) (f : Function) → function_faults g f ≡ [] → length f.params ≤ PARAMETERS

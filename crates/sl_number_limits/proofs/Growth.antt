@@ -14,8 +14,7 @@ use Rattle.sl_typing.specs.Ranges.{reference_type}
 use Rattle.sl_typing.specs.Contexts.{Context, declare, with_hidden, started, started_loop, with_sites}
 use Rattle.sl_typing.specs.Sites.{behind, assignment_site, sites_in, sites_in_all}
 use Rattle.sl_typing.specs.Flow.{behind_value, behind_initializer, behind_declaration, behind_out, behind_outs, behind_left, behind_effect}
-use Rattle.sl_typing.specs.Flow.{behind_cond}
-use Rattle.sl_typing.specs.Flow.{behind_first, behind_test, behind_last}
+use Rattle.sl_typing.specs.Flow.{behind_cond, behind_first, behind_test, behind_last}
 use Rattle.sl_number_limits.proofs.Positions.{names_stay}
 
 -- the second place stands behind the first, in the same function

@@ -41,7 +41,8 @@ while_grows g at k =
 
 -- in a `for`
 pub at_test_grows : (g : Context) (at : Place) (first : Option First) → Grows g (at_test g at first)
-at_test_grows g at first = along g (enter (started_loop at g)) (at_test g at first) (loop_entered g at) (first_grows (enter (started_loop at g)) first)
+at_test_grows g at first =
+    along g (enter (started_loop at g)) (at_test g at first) (loop_entered g at) (first_grows (enter (started_loop at g)) first)
 
 pub at_last_grows : (g : Context) (at : Place) (first : Option First) (k : Option Cond) → Grows g (at_last g at first k)
 at_last_grows g at first k = along g (at_test g at first) (at_last g at first k) (at_test_grows g at first) (test_grows (at_test g at first) k)

@@ -89,7 +89,8 @@ at_last_fits g at first k last a f none =
 pub in_for_fits : (g : Context) (at : Place) (first : Option First) (k : Option Cond) (last : Option Effect) (a : Stmt) → Fits g
     → stmt_faults g (s.for at first k last a) ≡ [] → Fits (in_for g at first k last)
 in_for_fits g at first k last a f none =
-    looping_fits (behind_last (at_last g at first k) last) (last_fits (at_last g at first k) last (at_last_fits g at first k last a f none) (for_last g at first k last a none))
+    looping_fits (behind_last (at_last g at first k) last)
+    (last_fits (at_last g at first k) last (at_last_fits g at first k last a f none) (for_last g at first k last a none))
 
 -- behind the hidden iterators of a range-for, and in its body
 pub behind_hidden_fits : (g : Context) (at : Place) (how : Element) (x over : Identifier) (a : Stmt) → Fits g
