@@ -18,18 +18,28 @@ use Rattle.sl_typing.specs.Faults.{faults_of_all}
 use Rattle.sl_typing.specs.Flow.{behind_value, behind_initializer, behind_declaration}
 use Rattle.sl_typing.specs.StatementFaults.{expr_faults, value_faults, element_faults, initializer_faults, limit_faults, declaration_faults}
 use Rattle.sl_number_limits.specs.Fits.{Fits, HasRoom}
-use Rattle.sl_number_limits.proofs.Lists.{parts, not_broken}
+use Rattle.sl_number_limits.proofs.ValueFaults.{scalar_value, scalar_limit, auto_value, auto_limit, reference_value, reference_limit}
+use Rattle.sl_number_limits.proofs.ValueFaults.{container_value, container_limit, first_element, other_elements}
+use Rattle.sl_number_limits.proofs.Lists.{not_broken}
 use Rattle.sl_number_limits.proofs.Expressions.{sites_fit, sites_fit_all}
 use Rattle.sl_number_limits.proofs.ContextLaws.{sites_come, room_behind_sites, declare_fits}
+
+-- the sites of an expression, and of arguments
+pub expr_sites_fit : (g : Context) (e : Expr) → Fits g → expr_faults g e ≡ [] → length g.sites + site_count g.scope e ≤ SITES
+expr_sites_fit g e f none = sites_fit g.scope (length g.sites) standing.Plain e none f.sites
+
+pub argument_sites_fit : (g : Context) (xs : Exprs) → Fits g → faults_of_all g.scope (length g.sites) standing.Plain xs ≡ []
+    → length g.sites + length (sites_in_all g.scope xs) ≤ SITES
+argument_sites_fit g xs f none = sites_fit_all g.scope (length g.sites) standing.Plain xs none f.sites
 
 -- behind an expression
 pub behind_fits : (g : Context) (e : Expr) → Fits g → expr_faults g e ≡ [] → Fits (behind g e)
 unfolding site_count
-behind_fits g e f none = sites_come (sites_in g.scope e) g f (sites_fit g.scope (length g.sites) standing.Plain e none f.sites)
+behind_fits g e f none = sites_come (sites_in g.scope e) g f (expr_sites_fit g e f none)
 
 -- behind arguments
 pub behind_all_fits : (g : Context) (xs : Exprs) → Fits g → faults_of_all g.scope (length g.sites) standing.Plain xs ≡ [] → Fits (behind_all g xs)
-behind_all_fits g xs f none = sites_come (sites_in_all g.scope xs) g f (sites_fit_all g.scope (length g.sites) standing.Plain xs none f.sites)
+behind_all_fits g xs f none = sites_come (sites_in_all g.scope xs) g f (argument_sites_fit g xs f none)
 
 -- behind an initialiser, which may be missing
 pub value_fits : (g : Context) (value : Option Expr) → Fits g → value_faults g value ≡ [] → Fits (behind_value g value)
@@ -46,9 +56,7 @@ pub elements_fit : (g : Context) (k : ℕ) (xs : Exprs) → Fits g → element_f
 unfolding sites_in_all
 elements_fit g k s.none f none = let l = f.sites in omega arith
 elements_fit g k (s.with x xs) f none =
-    let p : expr_faults g x ≡ [] = search parts in
-    let q : element_faults (behind g x) (k + 1) xs ≡ [] = search parts in
-    let l = elements_fit (behind g x) (k + 1) xs (behind_fits g x f p) q in
+    let l = elements_fit (behind g x) (k + 1) xs (behind_fits g x f (first_element g k x xs none)) (other_elements g k x xs none) in
     omega (arith, length-append {A = Place})
 
 -- behind what a container is made from
@@ -71,27 +79,20 @@ none_passed g h at none = not_broken (passes_some_limit g.scope h.scope) at rule
 -- behind a declaration
 pub declaration_fits : (g : Context) (d : Declaration) → Fits g → HasRoom 1 g → declaration_faults g d ≡ [] → Fits (behind_declaration g d)
 declaration_fits g (s.declares_scalar at type x value) f r none =
+    let u = types.Scalar type in
     let h = behind_value g value in
-    let p : value_faults g value ≡ [] = search parts in
-    let q : limit_faults g (declare x (types.Scalar type) (behind_value g value)) x.place ≡ [] = search parts in
-    declare_fits x (types.Scalar type) g.scope h f.scope.counts (value_fits g value f p) (value_has_room g value r)
-    (none_passed g (declare x (types.Scalar type) h) x.place q)
+    declare_fits x u g.scope h f.scope.counts (value_fits g value f (scalar_value g at type x value none)) (value_has_room g value r)
+    (none_passed g (declare x u h) x.place (scalar_limit g at type x value none))
 declaration_fits g (s.declares_auto at x e) f r none =
     let u = value_type (type_of g.scope e) in
-    let p : expr_faults g e ≡ [] = search parts in
-    let q : limit_faults g (declare x (value_type (type_of g.scope e)) (behind g e)) x.place ≡ [] = search parts in
-    declare_fits x u g.scope (behind g e) f.scope.counts (behind_fits g e f p) (room_behind_sites 1 (sites_in g.scope e) g r)
-    (none_passed g (declare x u (behind g e)) x.place q)
+    declare_fits x u g.scope (behind g e) f.scope.counts (behind_fits g e f (auto_value g at x e none))
+    (room_behind_sites 1 (sites_in g.scope e) g r) (none_passed g (declare x u (behind g e)) x.place (auto_limit g at x e none))
 declaration_fits g (s.declares_reference head x e) f r none =
     let u = reference_type head (type_of g.scope e) in
-    let p : expr_faults g e ≡ [] = search parts in
-    let q : limit_faults g (declare x (reference_type head (type_of g.scope e)) (behind g e)) x.place ≡ [] = search parts in
-    declare_fits x u g.scope (behind g e) f.scope.counts (behind_fits g e f p) (room_behind_sites 1 (sites_in g.scope e) g r)
-    (none_passed g (declare x u (behind g e)) x.place q)
+    declare_fits x u g.scope (behind g e) f.scope.counts (behind_fits g e f (reference_value g head x e none))
+    (room_behind_sites 1 (sites_in g.scope e) g r) (none_passed g (declare x u (behind g e)) x.place (reference_limit g head x e none))
 declaration_fits g (s.declares_container ct x value) f r none =
     let u = types.Container access.Whole ct.form in
     let h = behind_initializer g value in
-    let p : initializer_faults g value ≡ [] = search parts in
-    let q : limit_faults g (declare x (types.Container access.Whole ct.form) (behind_initializer g value)) x.place ≡ [] = search parts in
-    declare_fits x u g.scope h f.scope.counts (initializer_fits g value f p) (initializer_has_room g value r)
-    (none_passed g (declare x u h) x.place q)
+    declare_fits x u g.scope h f.scope.counts (initializer_fits g value f (container_value g ct x value none)) (initializer_has_room g value r)
+    (none_passed g (declare x u h) x.place (container_limit g ct x value none))

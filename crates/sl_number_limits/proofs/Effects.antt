@@ -9,10 +9,11 @@ use Rattle.sl_typing.specs.declared.rules.TheConstants as rule
 use Rattle.sl_typing.specs.Contexts.{Context, with_sites}
 use Rattle.sl_typing.specs.Sites.{behind, is_assignment_site}
 use Rattle.sl_typing.specs.Flow.{behind_out, behind_outs, behind_left, behind_effect, behind_cond, behind_first, behind_test, behind_last}
-use Rattle.sl_typing.specs.StatementFaults.{expr_faults, out_faults, outs_faults, site_faults, effect_faults, cond_faults, first_faults, test_faults}
+use Rattle.sl_typing.specs.StatementFaults.{out_faults, outs_faults, site_faults, effect_faults, cond_faults, first_faults, test_faults}
 use Rattle.sl_typing.specs.StatementFaults.{last_faults}
 use Rattle.sl_number_limits.specs.Fits.{Fits, HasRoom}
-use Rattle.sl_number_limits.proofs.Lists.{parts, not_broken}
+use Rattle.sl_number_limits.proofs.ValueFaults.{printed, first_out, other_outs, left_side, equals_sign, right_side}
+use Rattle.sl_number_limits.proofs.Lists.{not_broken}
 use Rattle.sl_number_limits.proofs.Expressions.{one_site_fits}
 use Rattle.sl_number_limits.proofs.ContextLaws.{sites_come}
 use Rattle.sl_number_limits.proofs.Declarations.{behind_fits, declaration_fits}
@@ -25,10 +26,7 @@ out_fits g o f none = f
 -- behind the items of a print
 pub outs_fit : (g : Context) (os : List Out) → Fits g → outs_faults g os ≡ [] → Fits (behind_outs g os)
 outs_fit g [] f none = f
-outs_fit g (o ∷ os) f none =
-    let p : out_faults g o ≡ [] = search parts in
-    let q : outs_faults (behind_out g o) os ≡ [] = search parts in
-    outs_fit (behind_out g o) os (out_fits g o f p) q
+outs_fit g (o ∷ os) f none = outs_fit (behind_out g o) os (out_fits g o f (first_out g o os none)) (other_outs g o os none)
 
 -- a site that stands alone, as a closing brace
 pub site_fits : (g : Context) (is : Bool) (at : Place) → Fits g → site_faults g is at ≡ []
@@ -40,22 +38,17 @@ site_fits g is at f none =
 -- behind the left side of an assignment, and its `=`
 pub left_fits : (g : Context) (w : Effect) → Fits g → effect_faults g w ≡ [] → Fits (behind_left g w)
 left_fits g (s.assigns x op at y) f none =
-    let p : expr_faults g x ≡ [] = search parts in
-    let q : site_faults (behind g x) (is_assignment_site g.scope x op) at ≡ [] = search parts in
-    site_fits (behind g x) (is_assignment_site g.scope x op) at (behind_fits g x f p) q
+    site_fits (behind g x) (is_assignment_site g.scope x op) at (behind_fits g x f (left_side g x op at y none)) (equals_sign g x op at y none)
 left_fits g w f none = f
 
 -- behind an effect
 pub effect_fits : (g : Context) (w : Effect) → Fits g → effect_faults g w ≡ [] → Fits (behind_effect g w)
 effect_fits g (s.reads r) f none = f
-effect_fits g (s.prints at os) f none =
-    let p : outs_faults g os ≡ [] = search parts in
-    outs_fit g os f p
+effect_fits g (s.prints at os) f none = outs_fit g os f (printed g at os none)
 effect_fits g (s.evaluates e) f none = behind_fits g e f none
 effect_fits g (s.assigns x op at y) f none =
     let w = s.assigns x op at y in
-    let p : expr_faults (behind_left g (s.assigns x op at y)) y ≡ [] = search parts in
-    behind_fits (behind_left g w) y (left_fits g w f none) p
+    behind_fits (behind_left g w) y (left_fits g w f none) (right_side g x op at y none)
 
 -- behind a condition
 pub cond_fits : (g : Context) (k : Cond) → Fits g → cond_faults g k ≡ [] → Fits (behind_cond g k)

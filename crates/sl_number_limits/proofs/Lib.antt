@@ -11,6 +11,7 @@ pub mod StatementGrowth
 -- ## Each part that breaks no rule keeps all within the limits
 pub mod ContextLaws
 pub mod HiddenLaws
+pub mod ValueFaults
 pub mod Declarations
 pub mod Effects
 pub mod SiteNumbers

@@ -17,9 +17,10 @@ use Rattle.sl_typing.specs.Sites.{is_site, own_site, site_number, at_word, insid
 use Rattle.sl_typing.specs.Rules.{is_site_too_many}
 use Rattle.sl_typing.specs.Faults.{broken, own_faults, faults, faults_of_all}
 use Rattle.sl_typing.specs.Flow.{after_items}
-use Rattle.sl_typing.specs.StatementFaults.{expr_faults, site_faults, effect_faults}
+use Rattle.sl_typing.specs.StatementFaults.{site_faults, effect_faults}
 use Rattle.sl_typing.specs.StatementNumbering.{assignment_number, brace_number}
 use Rattle.sl_number_limits.specs.Fits.{Fits}
+use Rattle.sl_number_limits.proofs.ValueFaults.{left_side, equals_sign}
 use Rattle.sl_number_limits.proofs.Lists.{parts, not_broken}
 use Rattle.sl_number_limits.proofs.Expressions.{own_site_fits, sites_fit}
 use Rattle.sl_number_limits.proofs.Declarations.{behind_fits}
@@ -81,8 +82,8 @@ site_number_fits g n how e none h k told = absurd (cc)
 pub assignment_number_fits : (g : Context) (x : Expr) (op : Assignment) (at : Place) (y : Expr) → Fits g
     → effect_faults g (s.assigns x op at y) ≡ [] → (k : ℕ) → assignment_number (behind g x) x op ≡ Some k → k < SITES
 assignment_number_fits g x op at y f none k told =
-    let p : expr_faults g x ≡ [] = search parts in
-    let q : site_faults (behind g x) (is_assignment_site g.scope x op) at ≡ [] = search parts in
+    let p = left_side g x op at y none in
+    let q = equals_sign g x op at y none in
     let e = not_broken (is_assignment_site g.scope x op && (length (behind g x).sites == SITES)) at rule.TOO_MANY_SITES q in
     number_told (is_assignment_site g.scope x op) (length (behind g x).sites) k e (behind_fits g x f p).sites told
 
