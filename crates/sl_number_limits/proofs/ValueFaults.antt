@@ -21,7 +21,8 @@ pub scalar_value : (g : Context) (at : Place) (type : Scalar) (x : Identifier) (
 scalar_value g at type x value none = search parts
 
 pub scalar_limit : (g : Context) (at : Place) (type : Scalar) (x : Identifier) (value : Option Expr)
-    → declaration_faults g (s.declares_scalar at type x value) ≡ [] → limit_faults g (behind_declaration g (s.declares_scalar at type x value)) x.place ≡ []
+    → declaration_faults g (s.declares_scalar at type x value) ≡ []
+    → limit_faults g (behind_declaration g (s.declares_scalar at type x value)) x.place ≡ []
 scalar_limit g at type x value none = search parts
 
 -- `auto`
@@ -47,7 +48,8 @@ pub container_value : (g : Context) (ct : ContainerType) (x : Identifier) (value
 container_value g ct x value none = search parts
 
 pub container_limit : (g : Context) (ct : ContainerType) (x : Identifier) (value : Initializer)
-    → declaration_faults g (s.declares_container ct x value) ≡ [] → limit_faults g (behind_declaration g (s.declares_container ct x value)) x.place ≡ []
+    → declaration_faults g (s.declares_container ct x value) ≡ []
+    → limit_faults g (behind_declaration g (s.declares_container ct x value)) x.place ≡ []
 container_limit g ct x value none = search parts
 
 -- elements in braces
