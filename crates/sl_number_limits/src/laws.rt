@@ -12,7 +12,7 @@ ghost use Rattle.sl_typing.specs.Typing.{Typed};
 ghost use Rattle.sl_number_limits.specs.Fits.{Fits, FitsTypedFunction, most_names};
 
 /// A typed text has at most 64 functions, of which `main` is one, 4,096 sites, 20,000 loops and 20,512 names, so 16 bits hold each number.
-/// Each function has at most 8 parameters, and variables with names of the text, at most as many as names.
+/// Each function has at most 8 parameters and 20,512 variables, whose names are among those of the text.
 pub fn typed_programs_fit()
     ensures functions { (p : Program) (u : texts.Typed) → Typed p u → length u.functions ≤ FUNCTIONS }
     ensures main { (p : Program) (u : texts.Typed) → Typed p u → u.main < length u.functions }
