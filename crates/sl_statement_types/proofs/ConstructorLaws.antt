@@ -1,6 +1,5 @@
 -- No constructor of the library has more than eight arguments.
-use Rattle.std.proofs.Common.{◌≡◌, ℕ, ◌<◌, ◌≤◌, ◌+◌, nat_le, Bool, true, false, ◌&&◌, not, List, [], ◌∷◌, length, map, sum, Option, Some, None, refl, sym, ap, ◌∙◌, arith, if◌then◌else◌, ◌⊎◌, inl, inr}
-use Rattle.std.specs.Prelude.{is_none}
+use Rattle.std.proofs.Common.{◌≡◌, ℕ, ◌<◌, ◌≤◌, ◌+◌, nat_le, Bool, true, false, ◌&&◌, not, List, [], ◌∷◌, length, map, sum, Some, None, refl, sym, ap, ◌∙◌, arith, if◌then◌else◌, ◌⊎◌, inl, inr}
 use Rattle.std.specs.List.{list_all}
 use Rattle.std.proofs.lemmas.Grind.{common_steps}
 use Rattle.sl_base.specs.declared.form.Form.{Form}
@@ -10,7 +9,7 @@ use Rattle.sl_specs.specs.Rows.{Row}
 use Rattle.sl_specs.specs.Table.{table}
 use Rattle.sl_typing.specs.declared.expr_type.ExprType.{ExprType}
 use Rattle.sl_typing.specs.Arguments.{most, fewest, takes_list, takes_count, letters_take}
-use Rattle.sl_typing.specs.Candidates.{Found, first_from, first_row, is_row_of, is_constructor_of, constructor_row}
+use Rattle.sl_typing.specs.Candidates.{first_from, first_row, is_row_of, is_constructor_of, constructor_row}
 use Rattle.sl_expr_types.specs.Few.{few, listed}
 use Rattle.sl_expr_types.proofs.FewLaws.{listed-few, listed-many}
 

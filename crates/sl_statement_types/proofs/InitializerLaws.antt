@@ -12,7 +12,7 @@ use Rattle.sl_typing.specs.Arguments.{is_listed}
 use Rattle.sl_typing.specs.Candidates.{Found, has_row, is_constructor_of, list_constructor}
 use Rattle.sl_typing.specs.Contexts.{Context}
 use Rattle.sl_typing.specs.StatementFaults.{has_no_constructor, wrong_initializer}
-use Rattle.sl_typing.specs.TypeOf.{type_of, types_of, size}
+use Rattle.sl_typing.specs.TypeOf.{type_of, types_of}
 use Rattle.sl_expr_types.proofs.LastLaws.{size-exprs_of}
 
 -- a constructor from so many arguments

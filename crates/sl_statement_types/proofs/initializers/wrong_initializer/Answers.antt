@@ -1,4 +1,4 @@
-use Rattle.std.proofs.Common.{◌∙◌, ap, sym}
+use Rattle.std.proofs.Common.{sym}
 use Rattle.sl_statement_types.proofs.InitializerLaws.{wrong_list}
 use Rattle.sl_statement_types.proofs.initializers.wrong_initializer.Goals as goal
 
