@@ -33,7 +33,10 @@ pub fn changes_argument(kind: ParameterKind) -> bool
 {
     match kind {
         ParameterKind::Reference(_) => true,
-        ParameterKind::Container { access: Access::Whole, .. } => true,
+        ParameterKind::Container {
+            access: Access::Whole,
+            ..
+        } => true,
         _ => false,
     }
 }

@@ -2,7 +2,6 @@
 #![tactic(auto)]
 
 mod changes;
-
 mod deeds;
 mod named;
 mod order;

@@ -13,7 +13,8 @@ use sl_typing::Scope;
 
 // Whether a part may stand beside another one, in any order, by what that one does.
 fn stands_beside(scope: &Scope, doing: &Expr, e: &Expr) -> bool
-    ensures { result ≡ spec.stands_beside scope.now (spec.deeds scope.now (expr_of doing.now)) (expr_of e.now) }
+    ensures { result ≡ spec.stands_beside scope.now (spec.deeds scope.now (expr_of doing.now))
+        (expr_of e.now) }
 {
     stands_beside_changes(scope, doing, e) & stands_beside_writes(scope, doing, e)
 }
@@ -43,7 +44,8 @@ pub fn clash(scope: &Scope, x: &Expr, y: &Expr) -> bool
 
 // Whether that of a part and one of these could.
 fn clashes(scope: &Scope, x: &Expr, ys: &[Expr]) -> bool
-    ensures { result ≡ list_any (λ (y : ExprCode). means.clash_of scope.now (expr_of x.now) (expr_of y)) ys.now }
+    ensures { result ≡ list_any (λ (y : ExprCode).
+        means.clash_of scope.now (expr_of x.now) (expr_of y)) ys.now }
 {
     ys.iter().any(|y| clash_of(scope, x, y))
 }
@@ -78,7 +80,12 @@ pub fn order_matters(scope: &Scope, e: &Expr) -> bool
     ensures { result ≡ spec.order_matters scope.now (expr_of e.now) }
 {
     match e {
-        Expr::Binary { left, operator, right, .. } => !is_ordered(*operator) & clash(scope, left, right),
+        Expr::Binary {
+            left,
+            operator,
+            right,
+            ..
+        } => !is_ordered(*operator) & clash(scope, left, right),
         Expr::Call { arguments, .. } => some_clash(scope, arguments),
         Expr::LibraryCall { arguments, .. } => some_clash(scope, arguments),
         Expr::MemberCall { arguments, .. } => some_clash(scope, arguments),

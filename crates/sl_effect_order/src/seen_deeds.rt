@@ -18,7 +18,11 @@ pub struct SeenDeeds {
 pub fn nothing_done() -> SeenDeeds
     ensures { (test : List ℕ → Bool) → result ≡ means.seen test spec.nothing_done }
 {
-    SeenDeeds { changes: false, writes: false, spares: true }
+    SeenDeeds {
+        changes: false,
+        writes: false,
+        spares: true,
+    }
 }
 
 // A write of elements alone.
@@ -26,7 +30,11 @@ pub fn nothing_done() -> SeenDeeds
 pub fn writing() -> SeenDeeds
     ensures { (test : List ℕ → Bool) → result ≡ means.seen test spec.writing }
 {
-    SeenDeeds { changes: false, writes: true, spares: true }
+    SeenDeeds {
+        changes: false,
+        writes: true,
+        spares: true,
+    }
 }
 
 // A change of variables, for all of which the other part is still, or for some isn't.
@@ -34,7 +42,11 @@ pub fn writing() -> SeenDeeds
 pub fn changing(spares: bool) -> SeenDeeds
     ensures { result ≡ means.change_seen spares }
 {
-    SeenDeeds { changes: true, writes: false, spares }
+    SeenDeeds {
+        changes: true,
+        writes: false,
+        spares,
+    }
 }
 
 // What two parts do.

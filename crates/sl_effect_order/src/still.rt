@@ -17,7 +17,8 @@ fn is_quiet(name: &[u8]) -> bool
     ensures { result ≡ spec.is_quiet name.now }
 {
     (b"begin".as_slice() == name)
-        | ((b"end".as_slice() == name) | ((b"size".as_slice() == name) | (b"empty".as_slice() == name)))
+        | ((b"end".as_slice() == name)
+            | ((b"size".as_slice() == name) | (b"empty".as_slice() == name)))
 }
 
 // Whether a name is the one that is asked about, if there is one.
@@ -34,7 +35,8 @@ fn is_asked(name: &[u8], asked: Option<&Name>) -> bool
 // asked about; where `calls` says so, also the calls above on names.
 #[tactic(auto, using(crate::proofs::StillLaws::still_laws))]
 pub fn is_still(scope: &Scope, asked: Option<&Name>, calls: bool, e: &Expr) -> bool
-    ensures { result ≡ spec.is_still scope.now (option_to_list (option_copied asked.entry)) calls (expr_of e.now) }
+    ensures { result ≡ spec.is_still scope.now (option_to_list (option_copied asked.entry)) calls
+        (expr_of e.now) }
 {
     match e {
         Expr::Number { .. } => true,
@@ -65,9 +67,10 @@ pub fn is_still(scope: &Scope, asked: Option<&Name>, calls: bool, e: &Expr) -> b
 }
 
 // Whether an expression is still for a variable that is changed, if there is one.
-#[tactic(auto, using(crate::proofs::SeenLaws::spares_one))]
+#[tactic(auto, using(crate::proofs::StillLaws::spares_one))]
 pub fn spares(scope: &Scope, changed: Option<&Name>, calls: bool, other: &Expr) -> bool
-    ensures { result ≡ list_all (means.spares scope.now calls (expr_of other.now)) (option_to_list (option_copied changed.entry)) }
+    ensures { result ≡ list_all (means.spares scope.now calls (expr_of other.now))
+        (option_to_list (option_copied changed.entry)) }
 {
     match changed {
         Some(name) => is_still(scope, Some(name), calls, other),

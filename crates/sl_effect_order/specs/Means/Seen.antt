@@ -2,9 +2,7 @@
 use Rattle.std.specs.Prelude.{ℕ, Bool, true, false, not, ◌&&◌, ◌||◌, List, [], ◌∷◌, if◌then◌else◌}
 use Rattle.std.specs.List.{list_all}
 use Rattle.sl_syntax.specs.declared.typed.parameter.ParameterKind.{ParameterKind}
-use Rattle.sl_syntax.specs.declared.tree.expr.Expr.{Expr as ExprCode}
 use Rattle.sl_syntax.specs.Tree.{Expr}
-use Rattle.sl_syntax.specs.TreeView.{expr_of}
 use Rattle.sl_typing.specs.declared.scope.Scope.{Scope}
 use Rattle.sl_typing.specs.Types.{is_container}
 use Rattle.sl_typing.specs.TypeOf.{type_of}
