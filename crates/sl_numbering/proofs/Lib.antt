@@ -1,1 +1,9 @@
+-- ## Names
 pub mod TrimmedNames
+pub mod SmallNumbers
+pub mod ToldNames
+-- ## Sites
+pub mod SiteLaws
+-- ## Expressions
+pub mod TypedLaws
+pub mod OperandLaws

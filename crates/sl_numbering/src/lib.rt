@@ -1,22 +1,23 @@
-//! Typed expressions: names, rows and sites as numbers, and each conversion written out.
 #![tactic(auto)]
 
 mod calls;
 mod conversion;
+mod expression;
 mod heads;
 mod members;
+mod names;
 mod operand;
 mod operators;
+mod sites;
 mod steps;
+mod stub;
 mod variables;
 mod ways;
 
-pub use calls::{call, element, move_call, row_call};
 pub use conversion::{converted, handed};
-pub use heads::{head, one, operator_head, trimmed};
-pub use members::{part_of, selected};
+pub use expression::{operands, typed};
+pub use heads::{head, one, operator_head};
+pub use names::{name_number, told, told_behind, variable_number};
 pub use operand::Operand;
-pub use operators::{calculated, joined, postfixed, prefixed};
-pub use steps::stepped;
-pub use variables::{left_of, number_in, variable};
+pub use variables::{left_of, number_in};
 pub use ways::{Way, Ways};

@@ -1,11 +1,19 @@
 //! Variables as operands, and the numbers and left sides in typed expressions.
-ghost use Rattle.std.specs.Prelude.{◌≡◌};
+ghost use Rattle.std.specs.Prelude.{◌≡◌, pos};
+ghost use Rattle.sl_syntax.specs.Typed as t;
 ghost use Rattle.sl_syntax.specs.TypedView as view;
 ghost use Rattle.sl_typing.specs.Numbering as spec;
 
-use sl_base::Place;
+use sl_base::{Place, Scalar};
 use sl_syntax::typed::{ElementPart, Expr, Left};
 use sl_typing::ExprType;
+
+/// A number of a type. It takes no memory.
+pub fn literal(scalar: Scalar, value: u32) -> Expr
+    ensures { view.expr_of result ≡ t.literal scalar (pos value) }
+{
+    Expr::Literal { scalar, value }
+}
 
 /// A variable of a type, by its number among those of its sort, at its name, with the name's number. It takes no memory.
 pub fn variable(variable_type: ExprType, number: u8, place: Place, name: u16) -> Expr

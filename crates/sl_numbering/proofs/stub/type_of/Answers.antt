@@ -1,0 +1,4 @@
+use Rattle.sl_numbering.proofs.stub.type_of.Goals as goal
+
+pub returns : goal.returns
+returns c = ?
