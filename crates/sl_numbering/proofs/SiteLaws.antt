@@ -1,6 +1,7 @@
 -- The numbers of sites in the nodes of a tree of the code.
 use Rattle.std.proofs.Common.{◌≡◌, ℕ, ◌+◌, ◌<◌, ◌≤◌, true, length, ◌++◌, Box, Vec, refl, ap, ◌∙◌, sym, arith, length-append}
 use Rattle.std.specs.declared.alloc.Global.{Global}
+use Rattle.sl_base.specs.declared.limits.TheConstants.{SITES}
 use Rattle.sl_base.specs.declared.place.Place.{Place}
 use Rattle.sl_syntax.specs.declared.operator.BinaryOperator.{BinaryOperator}
 use Rattle.sl_syntax.specs.declared.operator.PostfixOperator.{PostfixOperator}
@@ -15,7 +16,13 @@ use Rattle.sl_syntax.specs.TreeView.{expr_of, exprs_of}
 use Rattle.sl_syntax.proofs.TreeViews.{expr_of-Call, expr_of-LibraryCall, expr_of-Parentheses, expr_of-Prefix, expr_of-Binary, expr_of-Postfix}
 use Rattle.sl_syntax.proofs.TreeViews.{expr_of-Index, expr_of-MemberCall, expr_of-Member}
 use Rattle.sl_typing.specs.declared.scope.Scope.{Scope}
+use Rattle.sl_expr_types.specs.Capped.{capped}
 use Rattle.sl_typing.specs.Sites.{sites_in, sites_in_all, site_count, own_site, is_site, at_word, inside}
+
+-- a number of sites that are few enough counts as itself
+pub capped-few : (n : ℕ) → n ≤ SITES → capped n ≡ n
+unfolding capped
+capped-few n h = omega arith
 
 -- how many sites expressions have
 abbrev pub count_all : Scope → Exprs → ℕ

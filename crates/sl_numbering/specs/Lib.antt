@@ -1,6 +1,5 @@
 -- ## What the code sees
 pub mod WaysView
-pub mod Stub
 -- ## Which scopes have numbers that a typed text can write
 pub mod Numbered
 -- ## What the private contracts say

@@ -4,16 +4,18 @@ ghost use Rattle.sl_syntax.specs.Typed as t;
 ghost use Rattle.sl_syntax.specs.TypedView as view;
 ghost use Rattle.sl_typing.specs.Numbering as spec;
 ghost use Rattle.sl_numbering.specs.Means.Algorithms as means;
-ghost use Rattle.sl_numbering.specs.Stub.{found_of};
+ghost use Rattle.sl_candidates.specs.Found.{found_of};
 
 use crate::conversion::handed;
 use crate::heads::{head, one};
 use crate::operand::Operand;
-use crate::stub::{FoundRow, row_of_subscript};
+use crate::rows::letters_of;
 use crate::variables::{no_expr, number_in};
 use crate::ways::Ways;
 use sl_base::{Place, Site};
-use sl_specs::{Letter, ReturnType};
+use sl_candidates::FoundRow;
+use sl_expr_types::row_of_subscript;
+use sl_specs::ReturnType;
 use sl_syntax::Identifier;
 use sl_syntax::typed::{Callee, Expr, Fix, Head, Left};
 use std::alloc::{AllocError, Global};
@@ -62,16 +64,6 @@ pub fn own_call(function: u16, place: Place, operands: Vec<Expr>) -> Expr
         function,
         place,
         operands,
-    }
-}
-
-/// The letters of a row, if there is one. It takes no memory.
-pub fn letters_of(row: Option<FoundRow>) -> &'static [Letter]
-    ensures { result.now ≡ spec.letters_of (option_map found_of row) }
-{
-    match row {
-        None => &[],
-        Some(found) => found.entry.signature.letters,
     }
 }
 

@@ -9,20 +9,19 @@ ghost use Rattle.sl_typing.specs.TypeOf as types;
 ghost use Rattle.sl_numbering.specs.Numbered.{IsNumbered};
 ghost use Rattle.sl_numbering.specs.WaysView.{ways_seen};
 
-use crate::calls::{called_algorithm, called_row, letters_of, own_call, subscripted};
+use crate::calls::{called_algorithm, called_row, own_call, subscripted};
 use crate::conversion::handed;
 use crate::members::selected;
 use crate::names::{function_number, parameters, told, told_behind, variable_use};
 use crate::operand::Operand;
 use crate::operators::{joined, postfixed, prefixed};
-use crate::sites::{inside, site_number};
-use crate::stub::{
-    appends, is_first, row_of_algorithm_call, row_of_member_call, sites_of, type_of,
-};
+use crate::rows::{letters_of, row_of_algorithm_call, row_of_member_call};
+use crate::sites::{inside, site_number, sites_of};
 use crate::variables::{literal, number_in};
 use crate::ways::Ways;
 use sl_base::Scalar;
 use sl_base::limits::SITES;
+use sl_expr_types::{appends, is_first, type_of};
 use sl_syntax::Expr;
 use sl_syntax::typed::Expr as TypedExpr;
 use sl_typing::Scope;
@@ -30,6 +29,7 @@ use std::alloc::{AllocError, Global};
 
 /// An expression that breaks no rule, with its names, rows and sites as numbers, where so many sites stand before it.
 #[cycle(numbering)]
+#[tactic(none)]
 pub fn typed(alloc: Global, scope: &Scope, before: usize, x: &Expr) -> Result<TypedExpr, AllocError>
     requires numbered { IsNumbered scope.now }
     requires sites { before + site_count scope.now (expr_of x.now) ≤ SITES }
@@ -192,6 +192,7 @@ pub fn typed(alloc: Global, scope: &Scope, before: usize, x: &Expr) -> Result<Ty
 
 // An expression and its type.
 #[cycle(numbering)]
+#[tactic(none)]
 fn typed_operand(
     alloc: Global,
     scope: &Scope,
@@ -212,6 +213,7 @@ fn typed_operand(
 
 /// Arguments that break no rule, as they are handed over in these ways, where so many sites stand before them.
 #[cycle(numbering)]
+#[tactic(none)]
 pub fn operands(
     alloc: Global,
     scope: &Scope,

@@ -8,9 +8,9 @@ mod members;
 mod names;
 mod operand;
 mod operators;
+mod rows;
 mod sites;
 mod steps;
-mod stub;
 mod variables;
 mod ways;
 

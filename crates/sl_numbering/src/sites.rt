@@ -3,11 +3,19 @@ ghost use Rattle.std.specs.Prelude.{◌≡◌, ◌+◌, ◌≤◌};
 ghost use Rattle.sl_syntax.specs.TreeView.{expr_of};
 ghost use Rattle.sl_typing.specs.Sites as spec;
 
-use crate::stub::{is_site, sites_of};
 use sl_base::Site;
 use sl_base::limits::SITES;
+use sl_expr_types::{is_site, site_count};
 use sl_syntax::Expr;
 use sl_typing::Scope;
+
+/// The number of sites in an expression, of which there are few enough. It takes no memory.
+pub fn sites_of(scope: &Scope, x: &Expr) -> usize
+    requires { spec.site_count scope.now (expr_of x.now) ≤ SITES }
+    ensures { result ≡ spec.site_count scope.now (expr_of x.now) }
+{
+    site_count(scope, x)
+}
 
 /// The number of sites before a node's own word, where so many stand before the node and all fit. It takes no memory.
 #[tactic(auto, using(crate::proofs::SiteLaws::site_laws), unfolding(crate::specs::Opened::at_word))]
