@@ -5,5 +5,6 @@ pub mod ToldNames
 -- ## Sites
 pub mod SiteLaws
 -- ## Expressions
+pub mod NodeLaws
 pub mod TypedLaws
 pub mod OperandLaws

@@ -1,5 +1,6 @@
 -- Arguments that are handed over one by one, from the first.
 use Rattle.std.proofs.Common.{◌≡◌, ℕ, ◌+◌, ◌<◌, ◌≤◌, List, [], ◌∷◌, ◌++◌, length, get_or, drop, refl, ap, ◌∙◌, sym, arith, length-append, drop-cons, add-one}
+use Rattle.sl_base.specs.declared.limits.TheConstants.{SITES}
 use Rattle.sl_syntax.specs.declared.tree.expr.Expr.{Expr as ExprCode}
 use Rattle.sl_syntax.specs.declared.typed.expr.Expr.{Expr as TypedCode}
 use Rattle.sl_syntax.specs.Tree as s
@@ -72,3 +73,12 @@ all_operands g n ws xs i done whole none_left h =
     sym (ap (before_others (view.operands_of done)) (ap (λ (ys : List ExprCode). operands g n ws (exprs_of ys)) none_left ∙ operands_end g n ws)
     ∙ before_none (view.operands_of done))
     ∙ h
+
+-- the sites in the argument at a place fit, and so do those behind it
+pub argument_fits : (g : Scope) (n : ℕ) (xs : List ExprCode) (i : ℕ) (x : ExprCode) → i < length xs → x ≡ get_or xs i x
+    → n + count_all g (from_place i xs) ≤ SITES → n + site_count g (expr_of x) ≤ SITES
+argument_fits g n xs i x within is h = omega (arith, h, count_from g xs i x within, ap (λ (y : ExprCode). site_count g (expr_of y)) is)
+
+pub rest_fits : (g : Scope) (n m : ℕ) (xs : List ExprCode) (i : ℕ) (x : ExprCode) → i < length xs → x ≡ get_or xs i x
+    → m ≡ site_count g (expr_of x) → n + count_all g (from_place i xs) ≤ SITES → n + m + count_all g (from_place (i + 1) xs) ≤ SITES
+rest_fits g n m xs i x within is m_is h = omega (arith, h, m_is, count_from g xs i x within, ap (λ (y : ExprCode). site_count g (expr_of y)) is)

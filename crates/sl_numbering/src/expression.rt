@@ -17,7 +17,7 @@ use crate::operand::Operand;
 use crate::operators::{joined, postfixed, prefixed};
 use crate::rows::{letters_of, row_of_algorithm_call, row_of_member_call};
 use crate::sites::{inside, site_number, sites_of};
-use crate::variables::{literal, number_in};
+use crate::variables::{literal, number_in, truth};
 use crate::ways::Ways;
 use sl_base::Scalar;
 use sl_base::limits::SITES;
@@ -29,7 +29,6 @@ use std::alloc::{AllocError, Global};
 
 /// An expression that breaks no rule, with its names, rows and sites as numbers, where so many sites stand before it.
 #[cycle(numbering)]
-#[tactic(none)]
 pub fn typed(alloc: Global, scope: &Scope, before: usize, x: &Expr) -> Result<TypedExpr, AllocError>
     requires numbered { IsNumbered scope.now }
     requires sites { before + site_count scope.now (expr_of x.now) ≤ SITES }
@@ -37,35 +36,28 @@ pub fn typed(alloc: Global, scope: &Scope, before: usize, x: &Expr) -> Result<Ty
 {
     match x {
         Expr::Number { value, .. } => Ok(literal(Scalar::Int, *value)),
-        Expr::Truth { value, .. } => Ok(literal(Scalar::Bool, u32::from(*value))),
+        Expr::Truth { value, .. } => Ok(truth(*value)),
         Expr::Name(name) => Ok(variable_use(scope, name)),
         Expr::Call {
             function,
             arguments,
         } => {
-            let ways = Ways::Parameters(parameters(scope, function.name.as_slice()));
+            let name = function.name.as_slice();
+            let ways = Ways::Parameters(parameters(scope, name));
             let values = operands(alloc, scope, before, ways, arguments)?;
-            Ok(own_call(
-                function_number(scope, function.name.as_slice()),
-                function.place,
-                values,
-            ))
+            Ok(own_call(function_number(scope, name), function.place, values))
         }
         Expr::LibraryCall {
             function,
             arguments,
         } => {
             let name = function.name.as_slice();
-            let appending = appends(name, arguments);
-            let row = row_of_algorithm_call(scope, appending, name, arguments);
-            let values = operands(
-                alloc,
-                scope,
-                inside(scope, before, x),
-                Ways::Letters(letters_of(row)),
-                arguments,
-            )?;
-            let names = told_behind(alloc, None, scope, arguments)?;
+            let given = arguments.as_slice();
+            let appending = appends(name, given);
+            let row = row_of_algorithm_call(scope, appending, name, given);
+            let ways = Ways::Letters(letters_of(row));
+            let values = operands(alloc, scope, inside(scope, before, x), ways, given)?;
+            let names = told_behind(alloc, None, scope, given)?;
             let site = site_number(scope, before, x);
             called_algorithm(
                 alloc,
@@ -146,27 +138,20 @@ pub fn typed(alloc: Global, scope: &Scope, before: usize, x: &Expr) -> Result<Ty
             arguments,
         } => {
             let container = typed_operand(alloc, scope, before, object)?;
-            let row = row_of_member_call(
-                scope,
-                container.value_type,
-                function.name.as_slice(),
-                arguments,
-            );
-            let values = operands(
-                alloc,
-                scope,
-                inside(scope, before, x),
-                Ways::Letters(letters_of(row)),
-                arguments,
-            )?;
-            let names = told_behind(alloc, told(scope, object), scope, arguments)?;
+            let name = function.name.as_slice();
+            let given = arguments.as_slice();
+            let row = row_of_member_call(scope, container.value_type, name, given);
+            let ways = Ways::Letters(letters_of(row));
+            let values = operands(alloc, scope, inside(scope, before, x), ways, given)?;
+            let names = told_behind(alloc, told(scope, object), scope, given)?;
             let site = site_number(scope, before, x);
+            let number = number_in(&container.value);
             called_row(
                 alloc,
                 row,
                 function.place,
                 site,
-                number_in(&container.value),
+                number,
                 names.as_slice(),
                 values,
             )
@@ -192,7 +177,6 @@ pub fn typed(alloc: Global, scope: &Scope, before: usize, x: &Expr) -> Result<Ty
 
 // An expression and its type.
 #[cycle(numbering)]
-#[tactic(none)]
 fn typed_operand(
     alloc: Global,
     scope: &Scope,
@@ -213,7 +197,6 @@ fn typed_operand(
 
 /// Arguments that break no rule, as they are handed over in these ways, where so many sites stand before them.
 #[cycle(numbering)]
-#[tactic(none)]
 pub fn operands(
     alloc: Global,
     scope: &Scope,

@@ -15,6 +15,17 @@ pub fn literal(scalar: Scalar, value: u32) -> Expr
     Expr::Literal { scalar, value }
 }
 
+/// `true` or `false`, as 1 or 0. It takes no memory.
+pub fn truth(value: bool) -> Expr
+    ensures { view.expr_of result ≡ t.literal Scalar.Bool (spec.truth_number value) }
+{
+    if value {
+        literal(Scalar::Bool, 1)
+    } else {
+        literal(Scalar::Bool, 0)
+    }
+}
+
 /// A variable of a type, by its number among those of its sort, at its name, with the name's number. It takes no memory.
 pub fn variable(variable_type: ExprType, number: u8, place: Place, name: u16) -> Expr
     ensures { view.expr_of result ≡ spec.variable variable_type number place name }
