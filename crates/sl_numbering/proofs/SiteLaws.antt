@@ -1,5 +1,5 @@
 -- The numbers of sites in the nodes of a tree of the code.
-use Rattle.std.proofs.Common.{◌≡◌, ℕ, ◌+◌, ◌<◌, ◌≤◌, true, length, ◌++◌, Box, Vec, refl, ap, ◌∙◌, sym, arith, length-append}
+use Rattle.std.proofs.Common.{◌≡◌, ℕ, ◌+◌, ◌<◌, ◌≤◌, true, length, Box, Vec, refl, ap, ◌∙◌, arith, length-append}
 use Rattle.std.specs.declared.alloc.Global.{Global}
 use Rattle.sl_base.specs.declared.limits.TheConstants.{SITES}
 use Rattle.sl_base.specs.declared.place.Place.{Place}

@@ -1,12 +1,10 @@
 -- The numbers that names have in a scope whose numbers are small.
-use Rattle.std.proofs.Common.{◌≡◌, ℕ, ◌<◌, ◌^◌, Bool, true, false, cond, List, [], ◌∷◌, reverse, find, All, Option, Some, None, IfSome, lit<}
+use Rattle.std.proofs.Common.{ℕ, ◌<◌, ◌^◌, Bool, true, false, cond, List, [], ◌∷◌, reverse, find, All, Option, Some, None, IfSome, lit<}
 use mathlib.Core.List.{reverse_aux}
 use Rattle.std.proofs.lemmas.List.Elements.{All-nil, All-cons, All-head, All-tail}
-use Rattle.sl_typing.specs.declared.scope.FunctionHead.{FunctionHead}
 use Rattle.sl_typing.specs.declared.scope.NamedVariable.{NamedVariable}
 use Rattle.sl_typing.specs.declared.scope.Scope.{Scope}
 use Rattle.sl_typing.specs.Scopes.{variable_named, is_variable_named, number_of_name, label_of_name, function_named, is_function_named}
-use Rattle.sl_typing.specs.Numbering.{number_of_function}
 use Rattle.sl_numbering.specs.Numbered.{IsNumbered}
 
 reversed : {X : Type 0} (P : X → Type 0) (xs ys : List X) → All P xs → All P ys → All P (reverse_aux xs ys)

@@ -1,8 +1,7 @@
 -- Scopes whose numbers are small enough for a typed text.
 --
--- Chosen here: a text that breaks no rule has no others. A rule limits the variables in scope and the functions, and no text is long enough for more
--- names.
-use Rattle.std.specs.Prelude.{ℕ, ◌<◌, ◌^◌, All}
+-- Chosen here: a caller shows it, since rules limit the variables in scope, the functions and the statements of a text.
+use Rattle.std.specs.Prelude.{◌<◌, ◌^◌, All}
 use Rattle.sl_typing.specs.declared.scope.Scope.{Scope}
 
 -- the numbers of variables, of their names and of functions are small

@@ -14,6 +14,7 @@ mod steps;
 mod variables;
 mod ways;
 
+pub use calls::{call, move_call};
 pub use conversion::{converted, handed};
 pub use expression::{operands, typed};
 pub use heads::{head, one, operator_head};

@@ -1,18 +1,14 @@
-use Rattle.std.proofs.Common.{◌≡◌, ℕ, ◌+◌, ◌<◌, ◌≤◌, Bool, List, [], ◌∷◌, ◌++◌, length, get_or, map, Option, None, option_map, ap, ◌∙◌, sym, refl, arith, rules}
+use Rattle.std.proofs.Common.{◌≡◌, ℕ, ◌+◌, List, [], ◌∷◌, ◌++◌, get_or, option_map, ap, ◌∙◌, sym, arith}
 use Rattle.std.proofs.lemmas.List.{drop_all}
 use Rattle.sl_syntax.specs.declared.tree.expr.Expr.{Expr as ExprCode}
 use Rattle.sl_syntax.specs.TreeView.{expr_of, exprs_of}
 use Rattle.sl_syntax.specs.TypedView as view
 use Rattle.sl_candidates.specs.Found.{found_of}
 use Rattle.sl_typing.specs.declared.expr_type.ExprType.{ExprType}
-use Rattle.sl_typing.specs.declared.scope.Scope.{Scope}
 use Rattle.sl_specs.specs.declared.letter.Letter.{Letter}
-use Rattle.sl_typing.specs.Candidates.{algorithm_row}
-use Rattle.sl_typing.specs.Numbering.{Way, handed, first_way, typed, operands, told, told_all, row_of_member, number_of_function, letters_of, ways, number_in}
-use Rattle.sl_typing.specs.Order.{parameters_of}
-use Rattle.sl_typing.specs.Scopes.{function_named}
-use Rattle.sl_typing.specs.Sites.{site_count, inside, site_number}
-use Rattle.sl_typing.specs.TypeOf.{type_of, types_of, appends, is_first}
+use Rattle.sl_typing.specs.Numbering.{Way, handed, first_way, typed, operands, told, ways}
+use Rattle.sl_typing.specs.Sites.{inside}
+use Rattle.sl_typing.specs.TypeOf.{type_of, is_first}
 use Rattle.sl_numbering.specs.WaysView.{ways_seen}
 use Rattle.sl_numbering.proofs.NodeLaws.{nodes_of, nodes_of_all, sites_of, nodes-item, nodes-Call, nodes-LibraryCall, nodes-Parentheses, nodes-Prefix}
 use Rattle.sl_numbering.proofs.NodeLaws.{nodes-Binary, nodes-Postfix, nodes-Index, nodes-MemberCall, nodes-Member}

@@ -1,4 +1,4 @@
-use Rattle.std.proofs.Common.{◌≡◌, List, Option, ℕ, None, take, arith, refl, sym, ◌∙◌, ap}
+use Rattle.std.proofs.Common.{None, arith, refl, sym, ◌∙◌}
 use Rattle.sl_numbering.proofs.TrimmedNames.{kept-told, kept-untold}
 use Rattle.sl_numbering.proofs.heads.trimmed.Goals as goal
 use Rattle.sl_numbering.proofs.heads.trimmed.Goals.{then-is_some, else-is_some}
