@@ -28,7 +28,7 @@ use sl_typing::Scope;
 use std::alloc::{AllocError, Global};
 
 /// An expression that breaks no rule, with its names, rows and sites as numbers, where so many sites stand before it:
-/// with its own they are at most 4,096, and the numbers in the scope are small. It takes memory for each node.
+/// with its own they are at most 4,096, and the numbers in the scope are small. Its only error is want of memory.
 #[cycle(numbering)]
 pub fn typed(alloc: Global, scope: &Scope, before: usize, x: &Expr) -> Result<TypedExpr, AllocError>
     requires numbered { IsNumbered scope.now }
@@ -197,7 +197,7 @@ fn typed_operand(
 }
 
 /// Arguments that break no rule, as they are handed over in these ways, where so many sites stand before them: with
-/// their own they are at most 4,096, and the numbers in the scope are small. It takes memory for each node.
+/// their own they are at most 4,096, and the numbers in the scope are small. Its only error is want of memory.
 #[cycle(numbering)]
 pub fn operands(
     alloc: Global,
