@@ -1,0 +1,10 @@
+-- ## Names
+pub mod TrimmedNames
+pub mod SmallNumbers
+pub mod ToldNames
+-- ## Sites
+pub mod SiteLaws
+-- ## Expressions
+pub mod NodeLaws
+pub mod TypedLaws
+pub mod OperandLaws
