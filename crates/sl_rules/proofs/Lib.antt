@@ -1,0 +1,4 @@
+-- ## The first of several faults
+pub mod FirstLaws
+-- ## The faults of an expression, variant by variant
+pub mod FaultLaws

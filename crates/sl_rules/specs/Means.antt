@@ -1,0 +1,2 @@
+-- The rules of a node as the code tests them. Nobody has to believe it.
+pub mod Checks
