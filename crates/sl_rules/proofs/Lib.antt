@@ -2,3 +2,5 @@
 pub mod FirstLaws
 -- ## The faults of an expression, variant by variant
 pub mod FaultLaws
+-- ## Numbers of sites past the limit
+pub mod CappedLaws

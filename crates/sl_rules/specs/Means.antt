@@ -1,2 +1,3 @@
 -- The rules of a node as the code tests them. Nobody has to believe it.
+pub mod Capped
 pub mod Checks

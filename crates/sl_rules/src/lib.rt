@@ -4,5 +4,6 @@
 mod checks;
 mod fault;
 mod operators;
+mod stubs;
 
 pub use fault::broken;
