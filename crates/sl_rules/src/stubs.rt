@@ -1,41 +1,18 @@
 //! Stands in for what other crates bring.
 ghost use Rattle.std.specs.Prelude.{◌≡◌, ℕ, ◌+◌, is_some, length};
-ghost use Rattle.std.specs.Option.{option_copied};
 ghost use Rattle.sl_syntax.specs.TreeView.{expr_of, exprs_of};
 ghost use Rattle.sl_typing.specs.Arguments as arguments_spec;
 ghost use Rattle.sl_typing.specs.Candidates as candidates;
 ghost use Rattle.sl_typing.specs.Looks as looks;
 ghost use Rattle.sl_typing.specs.Order as order;
 ghost use Rattle.sl_typing.specs.Rules as rule;
-ghost use Rattle.sl_typing.specs.Scopes as scopes;
 ghost use Rattle.sl_typing.specs.Sites as sites;
 ghost use Rattle.sl_typing.specs.TypeOf as typing;
 ghost use Rattle.sl_rules.specs.Means.Capped.{capped};
 
 use sl_base::{Form, Name};
 use sl_syntax::{BinaryOperator, Expr, PrefixOperator, Selector};
-use sl_typing::{ExprType, FunctionHead, NamedVariable, Scope};
-
-#[tactic(none)]
-pub fn variable_named<'a>(_scope: &'a Scope, _name: &[u8]) -> Option<&'a NamedVariable>
-    ensures { option_copied result ≡ scopes.variable_named _scope.now _name.now }
-{
-    None
-}
-
-#[tactic(none)]
-pub fn function_named<'a>(_scope: &'a Scope, _name: &[u8]) -> Option<&'a FunctionHead>
-    ensures { option_copied result ≡ scopes.function_named _scope.now _name.now }
-{
-    None
-}
-
-#[tactic(none)]
-pub fn type_of_name(_scope: &Scope, _name: &[u8]) -> ExprType
-    ensures { result ≡ scopes.type_of_name _scope.now _name.now }
-{
-    ExprType::Wrong
-}
+use sl_typing::{ExprType, Scope};
 
 #[tactic(none)]
 pub fn type_of(_scope: &Scope, _e: &Expr) -> ExprType
