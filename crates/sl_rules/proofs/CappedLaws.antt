@@ -63,6 +63,7 @@ both p q = cc
 
 mutual
   unfolding faults faults_of_all
+
   pub faults-same : (g : Scope) (n m : ℕ) (how : Standing) (e : Expr) → capped n ≡ capped m → faults g n how e ≡ faults g m how e
   faults-same g n m how (s.number at k) h = refl
   faults-same g n m how (s.truth at x) h = refl

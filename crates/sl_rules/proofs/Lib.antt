@@ -4,3 +4,7 @@ pub mod FirstLaws
 pub mod FaultLaws
 -- ## Numbers of sites past the limit
 pub mod CappedLaws
+-- ## Elements, by their looks
+pub mod ElementLaws
+-- ## Arguments and their parameters
+pub mod ArgumentLaws

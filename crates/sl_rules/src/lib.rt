@@ -2,8 +2,13 @@
 #![tactic(auto)]
 
 mod checks;
+mod elements;
 mod fault;
+mod names;
 mod operators;
+mod parameters;
+mod parts;
+mod standings;
 mod stubs;
 
 pub use fault::broken;
