@@ -16,17 +16,21 @@ use Rattle.sl_typing.specs.Sites.{is_site, own_site, site_count, at_word, inside
 use Rattle.sl_rules.specs.Means.Capped.{capped}
 
 pub capped-twice : (n : ℕ) → capped (capped n) ≡ capped n
+unfolding capped
 capped-twice n = omega arith
 
 pub capped-add : (a b : ℕ) → capped (capped a + capped b) ≡ capped (a + b)
+unfolding capped
 capped-add a b = omega arith
 
 -- a number more on both sides
 add-same : (n m k : ℕ) → capped n ≡ capped m → capped (n + k) ≡ capped (m + k)
+unfolding capped
 add-same n m k h = omega arith
 
 -- whether it is the last number within the limit
 pub last-same : (n m : ℕ) → capped n ≡ capped m → (n == SITES) ≡ (m == SITES)
+unfolding capped
 last-same n m h = grind (arith, nat_tests)
 
 at_word-same : (g : Scope) (n m : ℕ) (e : Expr) → capped n ≡ capped m → capped (at_word g n e) ≡ capped (at_word g m e)

@@ -8,3 +8,5 @@ pub mod CappedLaws
 pub mod ElementLaws
 -- ## Arguments and their parameters
 pub mod ArgumentLaws
+-- ## Rows, from the types that are kept
+pub mod FewLaws

@@ -2,3 +2,4 @@
 pub mod Capped
 pub mod Checks
 pub mod Parameters
+pub mod Rows

@@ -9,6 +9,8 @@ mod operators;
 mod parameters;
 mod parts;
 mod standings;
+mod rows;
+mod sites;
 mod stubs;
 
 pub use fault::broken;

@@ -2,14 +2,6 @@
 ghost use Rattle.std.specs.Prelude.{◌≡◌, codes};
 ghost use Rattle.std.specs.Str.{bytes_eq};
 ghost use Rattle.sl_typing.specs.Rules as rule;
-ghost use Rattle.sl_typing.specs.TypeOf as typing;
-
-/// Whether it is `first` or `second`.
-pub fn is_part_name(name: &[u8]) -> bool
-    ensures { result ≡ typing.is_part_name name.now }
-{
-    (name == b"first".as_slice()) | (name == b"second".as_slice())
-}
 
 /// Whether it is `main`.
 pub fn is_main_name(name: &[u8]) -> bool
@@ -30,4 +22,11 @@ pub fn is_advance(name: &[u8]) -> bool
     ensures { result ≡ bytes_eq name.now (codes "advance") }
 {
     name == b"advance".as_slice()
+}
+
+/// Whether it is `back_inserter`.
+pub fn is_back_inserter_name(name: &[u8]) -> bool
+    ensures { result ≡ bytes_eq name.now (codes "back_inserter") }
+{
+    name == b"back_inserter".as_slice()
 }

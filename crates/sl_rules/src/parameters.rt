@@ -9,7 +9,7 @@ ghost use Rattle.sl_typing.specs.Scopes as scopes;
 ghost use Rattle.sl_typing.specs.WrongType as spec;
 ghost use Rattle.sl_rules.specs.Means.Parameters as means;
 
-use crate::stubs::{is_plain, plain_name, type_of};
+use sl_expr_types::{is_plain, plain_name, type_of};
 use sl_base::Name;
 use sl_syntax::typed::ParameterKind;
 use sl_syntax::{Access, Expr};

@@ -3,8 +3,7 @@ ghost use Rattle.std.specs.Prelude.{◌≡◌};
 ghost use Rattle.sl_syntax.specs.TreeView.{expr_of};
 ghost use Rattle.sl_typing.specs.WrongType as spec;
 
-use crate::names::is_part_name;
-use crate::stubs::is_plain;
+use sl_expr_types::{is_part_name, is_plain};
 use sl_syntax::{Expr, Selector};
 use sl_typing::ExprType;
 

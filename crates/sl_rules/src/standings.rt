@@ -5,8 +5,8 @@ ghost use Rattle.sl_typing.specs.Faults as spec;
 ghost use Rattle.sl_typing.specs.Rules as rule;
 ghost use Rattle.sl_typing.specs.WrongType as wrong;
 
-use crate::names::is_part_name;
-use crate::stubs::has_output;
+use sl_candidates::has_output;
+use sl_expr_types::is_part_name;
 use sl_syntax::{Expr, Selector};
 use sl_typing::Standing;
 
