@@ -13,11 +13,12 @@ use Rattle.sl_syntax.specs.TreeView.{expr_of, exprs_of}
 use Rattle.sl_typing.specs.declared.scope.Scope.{Scope}
 use Rattle.std.specs.Prelude.{if◌then◌else◌}
 use Rattle.std.specs.Str.{bytes_eq}
-use Rattle.sl_typing.specs.Looks.{plain_name}
+use Rattle.sl_base.specs.declared.form.Form.{Form}
+use Rattle.sl_typing.specs.Looks.{is_plain, plain_name}
 use Rattle.sl_typing.specs.Rules.{hands_const, bound_names, some_twice, is_reference}
 use Rattle.sl_typing.specs.Scopes.{is_among}
 use Rattle.sl_typing.specs.TypeOf.{size}
-use Rattle.sl_typing.specs.WrongType.{fit_parameters}
+use Rattle.sl_typing.specs.WrongType.{fit_parameters, may_be_element, second_may_be_element, first_is_plain}
 use Rattle.sl_rules.specs.Means.Parameters.{fits_optional, hands_optional, bound_name}
 
 pub size_exprs_of : (xs : List ExprCode) → size (exprs_of xs) ≡ length xs
@@ -172,3 +173,28 @@ twice_turn ks xs i x twice again whole within is e h =
     let step : some_twice (bound_names (drop i ks) (exprs_of (drop i xs))) ≡ (again || some_twice (bound_names (drop (suc i) ks) rest)) =
     rw front (twice_step ks i (expr_of x) rest ∙ ap (λ b. b || some_twice (bound_names (drop (suc i) ks) rest)) (sym now)) in
     rw next (or_assoc twice again (some_twice (bound_names (drop (suc i) ks) rest)) ∙ ap (λ b. twice || b) (sym step) ∙ h)
+
+pub second-none : (g : Scope) (names : List (List ℕ)) (form : Form) (xs : List ExprCode) → slice_get xs 1 ≡ None
+    → second_may_be_element g names form (exprs_of xs) ≡ false
+second-none g names form [] h = refl
+second-none g names form (x ∷ []) h = refl
+second-none g names form (x ∷ y ∷ xs) h = cc
+
+pub second-some : (g : Scope) (names : List (List ℕ)) (form : Form) (xs : List ExprCode) (x : ExprCode) → slice_get xs 1 ≡ Some x
+    → second_may_be_element g names form (exprs_of xs) ≡ may_be_element g names form (expr_of x)
+second-some g names form [] z h = cc
+second-some g names form (x ∷ []) z h = cc
+second-some g names form (x ∷ y ∷ xs) z h =
+    let same : y ≡ z = cc in ap (λ (e : ExprCode). may_be_element g names form (expr_of e)) same
+
+pub ruleset seconds = (second-none, second-some)
+
+pub first-none : (xs : List ExprCode) → slice_get xs 0 ≡ None → first_is_plain (exprs_of xs) ≡ false
+first-none [] h = refl
+first-none (x ∷ xs) h = cc
+
+pub first-some : (xs : List ExprCode) (x : ExprCode) → slice_get xs 0 ≡ Some x → first_is_plain (exprs_of xs) ≡ is_plain (expr_of x)
+first-some [] z h = cc
+first-some (x ∷ xs) z h = let same : x ≡ z = cc in ap (λ (e : ExprCode). is_plain (expr_of e)) same
+
+pub ruleset firsts = (first-none, first-some)

@@ -1,2 +1,5 @@
--- The promises are those of sl_typing. Here stands only what the private contracts say beside it.
+-- The promises are those of sl_typing.
+-- ## What proofs open
+pub mod Opened
+-- ## What the private contracts say
 pub mod Means

@@ -36,7 +36,7 @@ impl Checks {
     };
 
     /// The first rule that is broken, at this place.
-    #[tactic(auto, using(crate::proofs::FirstLaws::first_of_append))]
+    #[tactic(auto, using(crate::proofs::FirstLaws::first_of_append), unfolding(crate::specs::Means::Checks::broken_by))]
     pub fn first_fault(self, place: Place) -> Option<Fault>
         ensures { result ≡ first_of (broken_by self place) }
     {

@@ -1,11 +1,15 @@
 //! The rules that an expression breaks.
 #![tactic(auto)]
 
+mod algorithms;
+mod assignments;
 mod checks;
 mod elements;
 mod fault;
+mod members;
 mod names;
 mod operators;
+mod own_calls;
 mod parameters;
 mod parts;
 mod standings;
@@ -13,4 +17,5 @@ mod rows;
 mod sites;
 mod stubs;
 
+pub use assignments::{assigns_const, assigns_weaker, wrong_assignment};
 pub use fault::broken;

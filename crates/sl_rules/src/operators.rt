@@ -1,11 +1,16 @@
 //! Operators, and the types of what they stand at.
 ghost use Rattle.std.specs.Prelude.{◌≡◌};
+ghost use Rattle.sl_rules.specs.Means.Operators as means;
+ghost use Rattle.sl_syntax.specs.TreeView.{expr_of};
+ghost use Rattle.sl_typing.specs.declared.scope.Scope.{Scope};
+ghost use Rattle.sl_typing.specs.TypeOf.{type_of};
 ghost use Rattle.sl_typing.specs.Rules as rule;
 ghost use Rattle.sl_typing.specs.Signatures as signature;
 ghost use Rattle.sl_typing.specs.WrongType as spec;
 
+use sl_expr_types::is_left_side_of;
 use sl_syntax::{
-    Arithmetic, Assignment, BinaryOperator, Comparison, PostfixOperator, PrefixOperator,
+    Arithmetic, Assignment, BinaryOperator, Comparison, Expr, PostfixOperator, PrefixOperator,
 };
 use sl_typing::ExprType;
 
@@ -89,4 +94,48 @@ pub fn is_step(operator: PrefixOperator) -> bool
         operator,
         PrefixOperator::Increment | PrefixOperator::Decrement
     )
+}
+
+/// Whether `++` or `--` stands at what it can't step.
+pub fn wrong_step(operand: &Expr, own: ExprType) -> bool
+    ensures { (g : Scope) → type_of g (expr_of operand.now) ≡ own → result ≡ spec.wrong_step g (expr_of operand.now) }
+{
+    !(is_left_side_of(operand, own) & own.can_step())
+}
+
+/// Whether an operator before its operand, which has this type, doesn't fit it.
+pub fn wrong_prefix(operator: PrefixOperator, operand: &Expr, own: ExprType) -> bool
+    ensures { (g : Scope) → type_of g (expr_of operand.now) ≡ own
+        → result ≡ spec.wrong_prefix g operator (expr_of operand.now) }
+{
+    match operator {
+        PrefixOperator::Not => !own.is_number(),
+        PrefixOperator::Negate => !own.is_number(),
+        PrefixOperator::Dereference => !own.is_int_iterator(),
+        PrefixOperator::Increment => wrong_step(operand, own),
+        PrefixOperator::Decrement => wrong_step(operand, own),
+    }
+}
+
+/// Whether an operator before its operand needs an iterator that goes back, and there is another one.
+pub fn is_weak_prefix(operator: PrefixOperator, own: ExprType) -> bool
+    ensures { result ≡ means.is_weak_prefix operator own }
+{
+    match operator {
+        PrefixOperator::Decrement => own.is_forward(),
+        PrefixOperator::Not => false,
+        PrefixOperator::Negate => false,
+        PrefixOperator::Dereference => false,
+        PrefixOperator::Increment => false,
+    }
+}
+
+/// The same of an operator behind its operand.
+pub fn is_weak_postfix(operator: PostfixOperator, own: ExprType) -> bool
+    ensures { result ≡ means.is_weak_postfix operator own }
+{
+    match operator {
+        PostfixOperator::Decrement => own.is_forward(),
+        PostfixOperator::Increment => false,
+    }
 }

@@ -8,7 +8,9 @@ ghost use Rattle.sl_typing.specs.Candidates as candidates;
 ghost use Rattle.sl_typing.specs.Rules as rule;
 
 use sl_base::Form;
-use sl_candidates::{FoundRow, algorithm_row, letters_are_weak, letters_write_const, member_row};
+use sl_candidates::{
+    FoundRow, algorithm_row, letters_are_weak, letters_write_const, member_row, subscript_row,
+};
 use sl_expr_types::{Types, slice_of};
 use sl_typing::{ExprType, is_const};
 
@@ -105,4 +107,11 @@ pub fn algorithm_is_weak(appends: bool, name: &[u8], types: &Option<Types>) -> b
     ensures { (us : List ExprType) → types.now ≡ few us → result ≡ rule.algorithm_is_weak appends name.now us }
 {
     algorithm_weak(appends, name, slice_of(types))
+}
+
+/// Whether a form has a `[ ]`.
+pub fn has_subscript_row(form: Form) -> bool
+    ensures { result ≡ not (is_none (candidates.subscript_row form)) }
+{
+    is_found(subscript_row(form))
 }

@@ -13,7 +13,7 @@ use Rattle.sl_typing.specs.Rules.{no_such_call, writes_to_const, is_alias, calls
 use Rattle.sl_typing.specs.WrongType.{wrong_type}
 
 -- the rules that the tests find broken, by their numbers, at this place
-abbrev pub broken_by : Checks → Place → List Fault
+unfoldable pub broken_by : Checks → Place → List Fault
 broken_by x at =
     broken x.no_such_call at rule.NO_SUCH_CALL
     ++ broken x.wrong_type at rule.WRONG_TYPE
@@ -26,7 +26,7 @@ broken_by x at =
     ++ broken x.is_site_too_many at rule.TOO_MANY_SITES
 
 -- the tests of a node
-abbrev pub checks_of : Scope → ℕ → Standing → Expr → Checks
+unfoldable pub checks_of : Scope → ℕ → Standing → Expr → Checks
 checks_of g n how e = record {
   no_such_call = no_such_call g e;
   wrong_type = wrong_type g how e;
