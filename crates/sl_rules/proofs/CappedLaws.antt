@@ -13,7 +13,7 @@ use Rattle.sl_typing.specs.Faults.{broken, own_faults, faults, faults_of_all, la
 use Rattle.sl_typing.specs.Looks.{place_of}
 use Rattle.sl_typing.specs.Rules.{is_unknown_variable, is_unknown_function, is_site_too_many}
 use Rattle.sl_typing.specs.Sites.{is_site, own_site, site_count, at_word, inside}
-use Rattle.sl_rules.specs.Means.Capped.{capped}
+use Rattle.sl_expr_types.specs.Capped.{capped}
 
 pub capped-twice : (n : ℕ) → capped (capped n) ≡ capped n
 unfolding capped

@@ -10,3 +10,7 @@ pub mod ElementLaws
 pub mod ArgumentLaws
 -- ## Rows, from the types that are kept
 pub mod FewLaws
+-- ## A node's own rules, variant by variant
+pub mod CheckLaws
+-- ## What a look at a node finds
+pub mod LookLaws

@@ -1,4 +1,5 @@
--- The promises are those of sl_typing.
+-- What a look finds, in the words of sl_typing.
+pub mod Looks
 -- ## What proofs open
 pub mod Opened
 -- ## What the private contracts say

@@ -1,5 +1,4 @@
 -- The rules of a node as the code tests them. Nobody has to believe it.
-pub mod Capped
 pub mod Checks
 pub mod Operators
 pub mod Parameters

@@ -1,4 +1,10 @@
-ghost use Rattle.std.specs.Prelude.{◌≡◌};
+ghost use Rattle.std.specs.Prelude.{◌≡◌, ℕ};
+ghost use Rattle.std.specs.Option.{option_or};
+ghost use Rattle.sl_syntax.specs.Tree.{Expr};
+ghost use Rattle.sl_typing.specs.declared.scope.Scope.{Scope};
+ghost use Rattle.sl_typing.specs.declared.standing.Standing.{Standing};
+ghost use Rattle.sl_typing.specs.Faults.{own_faults};
+ghost use Rattle.sl_typing.specs.Looks.{place_of};
 ghost use Rattle.sl_typing.specs.Typing.{first_of};
 
 use crate::fault::broken;
@@ -20,7 +26,7 @@ pub struct Checks {
 }
 
 impl Checks {
-    ghost use Rattle.sl_rules.specs.Means.Checks.{broken_by};
+    ghost use Rattle.sl_rules.specs.Means.Checks.{broken_by, checks_of};
 
     /// No rule is broken.
     pub const NONE: Checks = Checks {
@@ -49,5 +55,13 @@ impl Checks {
             .or(broken(self.is_weaker, place, rules::WEAKER_ITERATOR))
             .or(broken(self.is_lone_appender, place, rules::APPENDER))
             .or(broken(self.is_site_too_many, place, rules::TOO_MANY_SITES))
+    }
+
+    /// The first of a fault, if there is one, and the first rule that a node breaks at its place.
+    pub fn fault_behind(self, inner: Option<Fault>, place: Place) -> Option<Fault>
+        ensures { (g : Scope) (n : ℕ) (how : Standing) (e : Expr) → place ≡ place_of e → self ≡ checks_of g n how e
+            → result ≡ option_or inner (first_of (own_faults g n how e)) }
+    {
+        inner.or(self.first_fault(place))
     }
 }

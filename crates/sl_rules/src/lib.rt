@@ -6,6 +6,8 @@ mod assignments;
 mod checks;
 mod elements;
 mod fault;
+mod look;
+mod nodes;
 mod members;
 mod names;
 mod operators;
@@ -14,8 +16,8 @@ mod parameters;
 mod parts;
 mod standings;
 mod rows;
-mod sites;
 mod stubs;
 
 pub use assignments::{assigns_const, assigns_weaker, wrong_assignment};
 pub use fault::broken;
+pub use look::{Look, LookAll};

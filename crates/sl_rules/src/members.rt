@@ -1,5 +1,6 @@
 //! Members of containers, by their names and arguments.
-ghost use Rattle.std.specs.Prelude.{◌≡◌};
+ghost use Rattle.std.specs.Prelude.{◌≡◌, slice_get};
+ghost use Rattle.std.specs.Option.{option_copied};
 ghost use Rattle.sl_expr_types.specs.Few.{few};
 ghost use Rattle.sl_syntax.specs.TreeView.{expr_of, exprs_of};
 ghost use Rattle.sl_typing.specs.Looks.{bare_name as bare_names};
@@ -47,12 +48,19 @@ pub fn subscript_changes(object: ExprType) -> bool
     }
 }
 
+// The second argument, if there is one.
+fn second(arguments: &[Expr]) -> Option<&Expr>
+    ensures { option_copied result ≡ slice_get arguments.now 1 }
+{
+    arguments.get(1)
+}
+
 // Whether the second argument may be an element of the object, a container of this form.
 #[tactic(auto, using(crate::proofs::ArgumentLaws::seconds))]
 fn second_may_be_element(arguments: &[Expr], scope: &Scope, object: &Expr, form: Form) -> bool
     ensures { result ≡ spec.second_may_be_element scope.now (bare_names (expr_of object.now)) form (exprs_of arguments.now) }
 {
-    match arguments.get(1) {
+    match second(arguments) {
         None => false,
         Some(second) => may_be_element(second, scope, object, form),
     }
