@@ -1,6 +1,6 @@
 -- A node's own rules, variant by variant.
-use Rattle.std.proofs.Common.{◌≡◌, refl, ℕ, ◌+◌, ◌==◌, Bool, true, false, not, ◌&&◌, ◌||◌, codes, ap, sym, ◌∙◌, Option, Some, None}
-use Rattle.std.specs.Prelude.{is_some}
+use Rattle.std.proofs.Common.{◌≡◌, refl, ℕ, ◌+◌, ◌==◌, Bool, true, false, not, ◌&&◌, ◌||◌, codes, ap, sym, ◌∙◌, Option, Some, None, List, length}
+use Rattle.std.specs.Prelude.{is_some, is_none}
 use Rattle.std.specs.Str.{bytes_eq}
 use Rattle.sl_base.specs.declared.limits.TheConstants.{SITES}
 use Rattle.sl_base.specs.declared.place.Place.{Place}
@@ -13,6 +13,11 @@ use Rattle.sl_syntax.specs.declared.operator.PostfixOperator.TheVariants as o
 use Rattle.sl_syntax.specs.declared.operator.PrefixOperator.{PrefixOperator}
 use Rattle.sl_syntax.specs.declared.operator.PrefixOperator.TheVariants as p
 use Rattle.sl_syntax.specs.declared.operator.Selector.{Selector}
+use Rattle.sl_expr_types.specs.Capped.{capped}
+use Rattle.sl_expr_types.proofs.SiteLaws.{capped-SITES}
+use Rattle.sl_rules.proofs.ArgumentLaws.{size_exprs_of}
+use Rattle.sl_syntax.specs.TreeView.{exprs_of}
+use Rattle.sl_syntax.specs.declared.tree.expr.Expr.{Expr as ExprCode}
 use Rattle.sl_syntax.specs.declared.tree.identifier.Identifier.{Identifier}
 use Rattle.sl_syntax.specs.Tree as s
 use Rattle.sl_syntax.specs.Tree.{Expr, Exprs}
@@ -26,7 +31,7 @@ use Rattle.sl_typing.specs.Order.{order_matters, parameters_of, subscript_change
 use Rattle.sl_typing.specs.Rules.{no_such_call, writes_to_const, is_alias, calls_main, is_weaker, is_lone_appender, is_site_too_many}
 use Rattle.sl_typing.specs.Rules.{takes_others, has_no_member, has_no_subscript, is_const_element, hands_const, call_hands_const, call_aliases}
 use Rattle.sl_typing.specs.Rules.{member_writes_const, algorithm_writes_const, is_step, some_twice, bound_names, is_main_name, is_weak_binary}
-use Rattle.sl_typing.specs.Rules.{algorithm_is_weak, is_as_output}
+use Rattle.sl_typing.specs.Rules.{algorithm_is_weak, is_as_output, is_unknown_variable}
 use Rattle.sl_typing.specs.Scopes.{type_of_name, variable_named, function_named}
 use Rattle.sl_typing.specs.Sites.{is_site, site_count, at_word, is_member_site, is_subscript_site}
 use Rattle.sl_typing.specs.TypeOf.{size, appends, type_of, types_of}
@@ -70,10 +75,14 @@ aliases_known : (f : Option FunctionHead) (xs : Exprs) → call_aliases f xs ≡
 aliases_known None xs = refl
 aliases_known (Some h) xs = refl
 
+not_none : {A : Type 0} (o : Option A) → not (is_none o) ≡ is_some o
+not_none None = refl
+not_none (Some x) = refl
+
 pub checks-call : (g : Scope) (n : ℕ) (how : Standing) (f : Identifier) (xs : Exprs)
     → checks_of g n how (s.call f xs)
     ≡ record {
-      no_such_call = is_some (variable_named g f.name) || takes_others (function_named g f.name) (size xs);
+      no_such_call = not (is_unknown_variable g f.name) || takes_others (function_named g f.name) (size xs);
       wrong_type = not (fit_parameters g (parameters_of (function_named g f.name)) xs);
       writes_to_const = hands_const g (parameters_of (function_named g f.name)) xs;
       is_alias = some_twice (bound_names (parameters_of (function_named g f.name)) xs);
@@ -86,7 +95,7 @@ pub checks-call : (g : Scope) (n : ℕ) (how : Standing) (f : Identifier) (xs : 
 unfolding checks_of no_such_call wrong_type writes_to_const is_alias calls_main is_weaker is_lone_appender is_site_too_many is_site
 checks-call g n how f xs =
     let h = function_named g f.name in
-    rw (← fits_known g h xs, ← hands_known g h xs, ← aliases_known h xs) refl
+    rw (← fits_known g h xs, ← hands_known g h xs, ← aliases_known h xs, not_none (variable_named g f.name)) refl
 
 pub checks-library_call : (g : Scope) (n : ℕ) (how : Standing) (f : Identifier) (xs : Exprs)
     → checks_of g n how (s.library_call f xs)
@@ -165,17 +174,16 @@ pub checks-member_call : (g : Scope) (n : ℕ) (how : Standing) (x : Expr) (f : 
     → checks_of g n how (s.member_call x f xs)
     ≡ record {
       no_such_call = is_plain x && has_no_member (type_of g x) f.name (size xs);
-      wrong_type =
-        not (fits_member g (type_of g x) x f.name xs) || (is_iterator_pair (type_of g (s.member_call x f xs)) && not (is_before_part how));
+      wrong_type = wrong_type g how (s.member_call x f xs);
       writes_to_const = member_writes_const (type_of g x) f.name (types_of g xs);
       is_alias = false;
       order_matters = order_matters g (s.member_call x f xs);
       calls_main = false;
       is_weaker = false;
       is_lone_appender = false;
-      is_site_too_many = (is_plain x && is_member_site (type_of g x) f.name (size xs)) && (n + site_count g x == SITES);
+      is_site_too_many = is_site g (s.member_call x f xs) && (n + site_count g x == SITES);
     }
-unfolding checks_of no_such_call wrong_type writes_to_const is_alias calls_main is_weaker is_lone_appender is_site_too_many is_site at_word
+unfolding checks_of no_such_call writes_to_const is_alias calls_main is_weaker is_lone_appender is_site_too_many at_word
 checks-member_call g n how x f xs = refl
 
 pub checks-member : (g : Scope) (n : ℕ) (how : Standing) (x : Expr) (selector : Selector) (at : Place) (f : Identifier)
@@ -183,7 +191,21 @@ pub checks-member : (g : Scope) (n : ℕ) (how : Standing) (x : Expr) (selector 
 unfolding checks_of no_such_call wrong_type writes_to_const is_alias order_matters calls_main is_weaker is_lone_appender is_site_too_many is_site
 checks-member g n how x selector at f = refl
 
+-- a member call is a site by its object and its name
+pub site-member_call : (g : Scope) (x : Expr) (f : Identifier) (xs : List ExprCode)
+    → is_site g (s.member_call x f (exprs_of xs)) ≡ (is_plain x && is_member_site (type_of g x) f.name (length xs))
+unfolding is_site
+site-member_call g x f xs = ap (λ n. is_plain x && is_member_site (type_of g x) f.name n) (size_exprs_of xs)
+
+-- whether a number of sites is the last one, also as far as it counts
+pub last-number : (number n : ℕ) → number ≡ capped n → (number == SITES) ≡ (n == SITES)
+last-number number n e = ap (λ m. m == SITES) e ∙ capped-SITES n
+
+pub ruleset call_site = (site-member_call)
+
 pub ruleset variants = (
+  size_exprs_of,
+  last-number,
   checks-name,
   checks-call,
   checks-library_call,

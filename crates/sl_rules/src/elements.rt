@@ -8,8 +8,8 @@ ghost use Rattle.sl_typing.specs.Looks.{bare_name as bare_names};
 ghost use Rattle.sl_typing.specs.Scopes.{is_among};
 ghost use Rattle.sl_typing.specs.WrongType as spec;
 
-use sl_expr_types::{bare_name, type_of};
 use sl_base::Form;
+use sl_expr_types::{bare_name, type_of};
 use sl_scopes::names::type_of_name;
 use sl_syntax::{Expr, PrefixOperator};
 use sl_typing::Scope;

@@ -7,15 +7,15 @@ mod checks;
 mod elements;
 mod fault;
 mod look;
-mod nodes;
 mod members;
 mod names;
+mod nodes;
 mod operators;
 mod own_calls;
 mod parameters;
 mod parts;
-mod standings;
 mod rows;
+mod standings;
 mod stubs;
 
 pub use assignments::{assigns_const, assigns_weaker, wrong_assignment};

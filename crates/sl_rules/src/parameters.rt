@@ -9,8 +9,8 @@ ghost use Rattle.sl_typing.specs.Scopes as scopes;
 ghost use Rattle.sl_typing.specs.WrongType as spec;
 ghost use Rattle.sl_rules.specs.Means.Parameters as means;
 
-use sl_expr_types::{is_plain, plain_name, type_of};
 use sl_base::Name;
+use sl_expr_types::{is_plain, plain_name, type_of};
 use sl_syntax::typed::ParameterKind;
 use sl_syntax::{Access, Expr};
 use sl_typing::Scope;

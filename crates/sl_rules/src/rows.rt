@@ -58,7 +58,12 @@ fn member_writes(object: ExprType, name: &[u8], types: &[ExprType]) -> bool
 {
     match object {
         ExprType::Container(access, form) => {
-            row_writes(is_const(access), false, member_row(form, name, types), types)
+            row_writes(
+                is_const(access),
+                false,
+                member_row(form, name, types),
+                types,
+            )
         }
         _ => false,
     }

@@ -20,7 +20,7 @@ use crate::operators::{
 use sl_base::Place;
 use sl_expr_types::{binary_type, capped_sum, prefix_type};
 use sl_syntax::{BinaryOperator, Expr, PostfixOperator, PrefixOperator};
-use sl_typing::{ExprType};
+use sl_typing::ExprType;
 
 // The rules that an operator before its operand breaks, where this is the operand's type.
 #[tactic(auto, using(crate::proofs::CheckLaws::variants))]
