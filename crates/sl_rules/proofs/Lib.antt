@@ -14,3 +14,5 @@ pub mod FewLaws
 pub mod CheckLaws
 -- ## What a look at a node finds
 pub mod LookLaws
+-- ## A loop over arguments
+pub mod WalkLaws

@@ -285,16 +285,16 @@ pub look-index : (g : Scope) (n m : ℕ) (how : Standing) (x : Expr) (at : Place
     → IsLook g n how (s.index x at y) (record { fault = fault; expr_type = u; sites = k })
 look-index g n m how x at y object index fault u k l e r f t c = record {
   fault =
-    f
-    ∙ behind_two object.fault index.fault _ _ (own_fault g n how (s.index x at y)) l.fault
-    (r.fault ∙ moved g m (inside g n (s.index x at y)) standing.Plain y e)
-    ∙ sym (fault-index g n how x at y);
+      f
+      ∙ behind_two object.fault index.fault _ _ (own_fault g n how (s.index x at y)) l.fault
+      (r.fault ∙ moved g m (inside g n (s.index x at y)) standing.Plain y e)
+      ∙ sym (fault-index g n how x at y);
   expr_type = t ∙ ap subscript_type l.expr_type ∙ sym (type-index g x at y);
   sites =
-    c
-    ∙ count_object g (s.index x at y) x (sites_in g y) object.sites index.sites (is_subscript_site object.expr_type) (sites-index g x at y) l.sites
-    (ap is_subscript_site l.expr_type ∙ sym (is_site-index g x at y))
-    (r.sites ∙ site_count-length g y);
+      c
+      ∙ count_object g (s.index x at y) x (sites_in g y) object.sites index.sites (is_subscript_site object.expr_type) (sites-index g x at y) l.sites
+      (ap is_subscript_site l.expr_type ∙ sym (is_site-index g x at y))
+      (r.sites ∙ site_count-length g y);
 }
 
 type-member_call : (g : Scope) (x : Expr) (f : Identifier) (xs : Exprs) (own : ExprType) (kept : Option (List ExprType)) → own ≡ type_of g x
@@ -318,14 +318,14 @@ pub look-member_call : (g : Scope) (n m : ℕ) (how : Standing) (x : Expr) (f : 
     → IsLook g n how (s.member_call x f xs) (record { fault = fault; expr_type = u; sites = k })
 look-member_call g n m how x f xs own looks fault u k b l e r faulty t c is = record {
   fault =
-    faulty
-    ∙ behind_two own.fault looks.fault _ _ (own_fault g n how (s.member_call x f xs)) l.fault
-    (r.fault ∙ moved_all g m (inside g n (s.member_call x f xs)) standing.Plain xs e)
-    ∙ sym (fault-member_call g n how x f xs);
+      faulty
+      ∙ behind_two own.fault looks.fault _ _ (own_fault g n how (s.member_call x f xs)) l.fault
+      (r.fault ∙ moved_all g m (inside g n (s.member_call x f xs)) standing.Plain xs e)
+      ∙ sym (fault-member_call g n how x f xs);
   expr_type = t ∙ type-member_call g x f xs own.expr_type looks.types l.expr_type r.types;
   sites =
-    c
-    ∙ count_object g (s.member_call x f xs) x (sites_in_all g xs) own.sites looks.sites b (sites-member_call g x f xs) l.sites is r.sites;
+      c
+      ∙ count_object g (s.member_call x f xs) x (sites_in_all g xs) own.sites looks.sites b (sites-member_call g x f xs) l.sites is r.sites;
 }
 
 -- the rule on types at a member call
@@ -376,10 +376,10 @@ pub look-library_call : (g : Scope) (n m : ℕ) (how : Standing) (f : Identifier
     → IsLook g n how (s.library_call f xs) (record { fault = fault; expr_type = u; sites = k })
 look-library_call g n m how f xs looks fault u k b is e r faulty t c = record {
   fault =
-    faulty
-    ∙ ap (λ (o : Option Fault). option_or o (own_fault g n how (s.library_call f xs)))
-    (r.fault ∙ moved_all g m (inside g n (s.library_call f xs)) (last_standing f.name xs) xs e)
-    ∙ sym (fault-library_call g n how f xs);
+      faulty
+      ∙ ap (λ (o : Option Fault). option_or o (own_fault g n how (s.library_call f xs)))
+      (r.fault ∙ moved_all g m (inside g n (s.library_call f xs)) (last_standing f.name xs) xs e)
+      ∙ sym (fault-library_call g n how f xs);
   expr_type = t ∙ type-library_call g f xs b looks.types is r.types;
   sites = c ∙ count-library_call g f xs b looks.sites is r.sites;
 }

@@ -17,7 +17,9 @@ mod parts;
 mod rows;
 mod standings;
 mod stubs;
+mod walk;
 
 pub use assignments::{assigns_const, assigns_weaker, wrong_assignment};
 pub use fault::broken;
 pub use look::{Look, LookAll};
+pub use walk::{look_at, look_at_all};
