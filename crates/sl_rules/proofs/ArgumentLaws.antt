@@ -1,6 +1,6 @@
 -- Arguments of a call beside the parameters that they are for.
 use Rattle.std.proofs.Common.{◌≡◌, refl, ℕ, ◌+◌, Bool, true, false, ◌&&◌, ◌||◌, List, [], ◌∷◌, ◌++◌, length, drop, get_or, ◌<◌, Option, suc, zero, sym, ◌∙◌, Some, None, ap, arith}
-use Rattle.std.specs.Prelude.{slice_get, option_to_list}
+use Rattle.std.specs.Prelude.{slice_get}
 use Rattle.std.specs.List.{list_any}
 use Rattle.std.proofs.Math.Seq.{drop-length, drop-cons}
 use Rattle.sl_syntax.specs.declared.operator.Access.TheVariants as a

@@ -1,17 +1,15 @@
 -- The faults of an expression depend on the number of sites before it as far as the limit.
-use Rattle.std.proofs.Common.{◌≡◌, refl, ℕ, ◌+◌, ◌==◌, ◌&&◌, ◌++◌, Bool, List, ap, sym, ◌∙◌, arith, length}
+use Rattle.std.proofs.Common.{◌≡◌, refl, ℕ, ◌+◌, ◌==◌, ◌&&◌, ◌++◌, Bool, List, ap, arith, length}
 use Rattle.std.proofs.lemmas.Bool.Decides.{nat_tests}
 use Rattle.sl_base.specs.declared.limits.TheConstants.{SITES}
 use Rattle.sl_syntax.specs.Tree as s
 use Rattle.sl_syntax.specs.Tree.{Expr, Exprs}
 use Rattle.sl_typing.specs.declared.fault.Fault.{Fault}
-use Rattle.sl_typing.specs.declared.rules.TheConstants as rule
 use Rattle.sl_typing.specs.declared.scope.Scope.{Scope}
 use Rattle.sl_typing.specs.declared.standing.Standing.{Standing}
 use Rattle.sl_typing.specs.declared.standing.Standing.TheVariants as standing
-use Rattle.sl_typing.specs.Faults.{broken, own_faults, faults, faults_of_all, last_standing, standing_before, part_standing}
-use Rattle.sl_typing.specs.Looks.{place_of}
-use Rattle.sl_typing.specs.Rules.{is_unknown_variable, is_unknown_function, is_site_too_many}
+use Rattle.sl_typing.specs.Faults.{own_faults, faults, faults_of_all, last_standing, standing_before, part_standing}
+use Rattle.sl_typing.specs.Rules.{is_site_too_many}
 use Rattle.sl_typing.specs.Sites.{is_site, own_site, site_count, at_word, inside}
 use Rattle.sl_expr_types.specs.Capped.{capped}
 

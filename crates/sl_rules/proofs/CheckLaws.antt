@@ -1,5 +1,5 @@
 -- A node's own rules, variant by variant.
-use Rattle.std.proofs.Common.{◌≡◌, refl, ℕ, ◌+◌, ◌==◌, Bool, true, false, not, ◌&&◌, ◌||◌, codes, ap, sym, ◌∙◌, Option, Some, None, List, length}
+use Rattle.std.proofs.Common.{◌≡◌, refl, ℕ, ◌+◌, ◌==◌, Bool, false, not, ◌&&◌, ◌||◌, codes, ap, ◌∙◌, Option, Some, None, List, length}
 use Rattle.std.specs.Prelude.{is_some, is_none}
 use Rattle.std.specs.Str.{bytes_eq}
 use Rattle.sl_base.specs.declared.limits.TheConstants.{SITES}
@@ -36,7 +36,7 @@ use Rattle.sl_typing.specs.Scopes.{type_of_name, variable_named, function_named}
 use Rattle.sl_typing.specs.Sites.{is_site, site_count, at_word, is_member_site, is_subscript_site}
 use Rattle.sl_typing.specs.TypeOf.{size, appends, type_of, types_of}
 use Rattle.sl_typing.specs.Types.{is_number, is_container, is_const_container}
-use Rattle.sl_typing.specs.WrongType.{wrong_type, is_entry, is_before_part, is_iterator_pair, wrong_prefix, wrong_step, fits_binary, fits_member}
+use Rattle.sl_typing.specs.WrongType.{wrong_type, is_entry, is_before_part, wrong_prefix, wrong_step, fits_binary}
 use Rattle.sl_typing.specs.WrongType.{fits_algorithm, fit_parameters, fits_call, fits_selector}
 
 -- a node's own faults are those that its tests find

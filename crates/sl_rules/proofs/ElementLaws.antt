@@ -1,20 +1,15 @@
 -- What may be an element, variant by variant of the code's tree.
-use Rattle.std.proofs.Common.{◌≡◌, refl, ℕ, Bool, false, List, Box, Vec, ap, ◌∙◌, ◌&&◌}
+use Rattle.std.proofs.Common.{◌≡◌, refl, ℕ, Bool, false, List, ◌&&◌}
 use Rattle.std.specs.List.{list_any}
-use Rattle.std.specs.declared.alloc.Global.{Global}
 use Rattle.sl_base.specs.declared.form.Form.{Form}
 use Rattle.sl_base.specs.declared.place.Place.{Place}
 use Rattle.sl_syntax.specs.declared.operator.BinaryOperator.{BinaryOperator}
 use Rattle.sl_syntax.specs.declared.operator.PostfixOperator.{PostfixOperator}
-use Rattle.sl_syntax.specs.declared.operator.PrefixOperator.{PrefixOperator}
 use Rattle.sl_syntax.specs.declared.operator.PrefixOperator.TheVariants as p
 use Rattle.sl_syntax.specs.declared.operator.Selector.{Selector}
-use Rattle.sl_syntax.specs.declared.tree.expr.Expr.{Expr as ExprCode}
-use Rattle.sl_syntax.specs.declared.tree.expr.Expr.TheVariants as e
 use Rattle.sl_syntax.specs.declared.tree.identifier.Identifier.{Identifier}
 use Rattle.sl_syntax.specs.Tree as s
 use Rattle.sl_syntax.specs.Tree.{Expr, Exprs}
-use Rattle.sl_syntax.specs.TreeView.{expr_of, exprs_of}
 use Rattle.sl_syntax.proofs.TreeViews.{expr_views}
 use Rattle.sl_typing.specs.declared.scope.Scope.{Scope}
 use Rattle.sl_typing.specs.Looks.{bare_name}

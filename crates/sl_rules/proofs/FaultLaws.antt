@@ -1,5 +1,5 @@
 -- The first fault of an expression, variant by variant: that of its parts, and else of the node itself.
-use Rattle.std.proofs.Common.{◌≡◌, refl, ℕ, ◌+◌, ap, ◌∙◌, ◌++◌, Option, Some, None}
+use Rattle.std.proofs.Common.{◌≡◌, refl, ℕ, ◌+◌, ap, ◌∙◌, ◌++◌, Option, None}
 use Rattle.std.specs.Option.{option_or}
 use Rattle.sl_base.specs.declared.place.Place.{Place}
 use Rattle.sl_syntax.specs.declared.operator.BinaryOperator.{BinaryOperator}

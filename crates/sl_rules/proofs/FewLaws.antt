@@ -1,7 +1,6 @@
 -- What a call means, from the types that are kept of its arguments.
-use Rattle.std.proofs.Common.{◌≡◌, refl, ℕ, ◌<◌, ◌+◌, Bool, false, not, ◌&&◌, ◌||◌, List, length, Option, Some, None, ap, sym, ◌∙◌, inl, inr}
+use Rattle.std.proofs.Common.{◌≡◌, refl, ℕ, ◌<◌, Bool, false, ◌&&◌, ◌||◌, List, length, Option, Some, None, ap, sym, ◌∙◌, inl, inr}
 use Rattle.std.proofs.lemmas.Bool.{cases_lt}
-use Rattle.std.specs.Prelude.{is_none}
 use Rattle.sl_base.specs.declared.form.Form.{Form}
 use Rattle.sl_expr_types.specs.Few.{few, listed}
 use Rattle.sl_expr_types.proofs.FewLaws.{listed-few, listed-many}

@@ -1,5 +1,5 @@
 -- What a look at a node finds, variant by variant, from the looks at its parts.
-use Rattle.std.proofs.Common.{◌≡◌, refl, ℕ, ◌+◌, Bool, true, false, ◌&&◌, List, [], ◌++◌, length, Option, Some, None, ap, sym, ◌∙◌, not, ◌||◌, add_comm}
+use Rattle.std.proofs.Common.{◌≡◌, refl, ℕ, ◌+◌, Bool, ◌&&◌, List, ◌++◌, length, Option, None, ap, sym, ◌∙◌, not, ◌||◌, add_comm}
 use Rattle.std.specs.Option.{option_or}
 use Rattle.std.proofs.lemmas.List.{length-append}
 use Rattle.sl_base.specs.declared.place.Place.{Place}
@@ -14,7 +14,7 @@ use Rattle.sl_rules.specs.declared.look.Look.{Look}
 use Rattle.sl_rules.specs.declared.look.LookAll.{LookAll}
 use Rattle.sl_rules.specs.Looks.{IsLook, AreLooks}
 use Rattle.sl_rules.proofs.CappedLaws.{faults-same, all-same}
-use Rattle.sl_rules.proofs.FaultLaws.{first_fault, first_of_all, own_fault, fault-number, fault-truth, fault-name, fault-call, fault-library_call}
+use Rattle.sl_rules.proofs.FaultLaws.{first_fault, first_of_all, own_fault, fault-name, fault-call, fault-library_call}
 use Rattle.sl_rules.proofs.FaultLaws.{fault-prefix, fault-binary, fault-postfix, fault-index, fault-member_call, fault-member}
 use Rattle.sl_syntax.specs.declared.operator.BinaryOperator.{BinaryOperator}
 use Rattle.sl_syntax.specs.declared.operator.PostfixOperator.{PostfixOperator}
@@ -30,12 +30,11 @@ use Rattle.sl_typing.specs.declared.rules.TheConstants as rule
 use Rattle.sl_typing.specs.declared.scope.Scope.{Scope}
 use Rattle.sl_typing.specs.declared.standing.Standing.{Standing}
 use Rattle.sl_typing.specs.declared.standing.Standing.TheVariants as standing
-use Rattle.sl_typing.specs.Faults.{broken, faults, faults_of_all, last_standing, part_standing}
-use Rattle.sl_typing.specs.Looks.{is_plain}
+use Rattle.sl_typing.specs.Faults.{broken, faults, last_standing, part_standing}
 use Rattle.sl_typing.specs.Rules.{is_unknown_variable, is_unknown_function}
 use Rattle.sl_typing.specs.Scopes.{type_of_name, function_named}
-use Rattle.sl_typing.specs.Sites.{is_site, own_site, sites_in, sites_in_all, site_count, at_word, inside, is_member_site, is_subscript_site}
-use Rattle.sl_typing.specs.TypeOf.{size, appends, is_first, type_of, types_of, type_of_use, own_type, algorithm_type, prefix_type, binary_type}
+use Rattle.sl_typing.specs.Sites.{is_site, own_site, sites_in, sites_in_all, site_count, at_word, inside, is_subscript_site}
+use Rattle.sl_typing.specs.TypeOf.{appends, is_first, type_of, types_of, type_of_use, own_type, algorithm_type, prefix_type, binary_type}
 use Rattle.sl_typing.specs.TypeOf.{subscript_type, member_type, selected_type}
 use Rattle.sl_typing.specs.Types.{value_type}
 use Rattle.sl_typing.specs.WrongType.{wrong_type, fits_member, is_iterator_pair, is_before_part}

@@ -1,5 +1,5 @@
 -- A walk over an expression of the code, and a loop over arguments.
-use Rattle.std.proofs.Common.{◌≡◌, refl, ℕ, ◌+◌, ◌-◌, ◌<◌, ◌≤◌, ◌==◌, Bool, true, false, List, [], ◌∷◌, map, take, drop, length, flat_map, get_or, suc, zero}
+use Rattle.std.proofs.Common.{◌≡◌, refl, ℕ, ◌+◌, ◌-◌, ◌<◌, ◌≤◌, ◌==◌, List, [], ◌∷◌, map, take, drop, length, flat_map, get_or, suc}
 use Rattle.std.proofs.Common.{Option, Some, None, ap, sym, ◌∙◌, subst, arith, add_assoc}
 use Rattle.std.specs.Prelude.{if◌then◌else◌}
 use Rattle.std.specs.Option.{option_or}
@@ -17,7 +17,6 @@ use Rattle.sl_rules.specs.Looks.{IsLook, AreLooks}
 use Rattle.sl_rules.proofs.CappedLaws.{capped-twice, faults-same, all-same}
 use Rattle.sl_rules.proofs.FaultLaws.{first_fault, first_of_all, fault-none, fault-with}
 use Rattle.sl_syntax.specs.declared.tree.expr.Expr.{Expr as ExprCode}
-use Rattle.sl_syntax.specs.Tree as s
 use Rattle.sl_syntax.specs.Tree.{Expr, Exprs}
 use Rattle.sl_syntax.specs.TreeView.{expr_of, exprs_of}
 use Rattle.sl_typing.specs.declared.expr_type.ExprType.{ExprType}
@@ -126,18 +125,18 @@ looks_turn g n m last how xs i x look found found' kept kept' count count' withi
     (all-same g (n + count') ((n + count) + site_count g (expr_of x)) last rest (count_alike n count (site_count g (expr_of x)) look.sites count' l.sites c)) in
     record {
       fault =
-        ap (λ (o : Option Fault). option_or o (first_of_all g (n + count') last rest)) f
-        ∙ or_assoc found look.fault (first_of_all g (n + count') last rest)
-        ∙ ap (λ (o : Option Fault). option_or found (option_or o (first_of_all g (n + count') last rest))) here
-        ∙ ap (λ (o : Option Fault). option_or found (option_or (first_fault g (n + count) (standing_before rest last) (expr_of x)) o)) behind
-        ∙ ap (option_or found) (sym (fault-with g (n + count) last (expr_of x) rest))
-        ∙ ap (λ ys. option_or found (first_of_all g (n + count) last (exprs_of ys))) (sym front)
-        ∙ so_far.fault;
+          ap (λ (o : Option Fault). option_or o (first_of_all g (n + count') last rest)) f
+          ∙ or_assoc found look.fault (first_of_all g (n + count') last rest)
+          ∙ ap (λ (o : Option Fault). option_or found (option_or o (first_of_all g (n + count') last rest))) here
+          ∙ ap (λ (o : Option Fault). option_or found (option_or (first_fault g (n + count) (standing_before rest last) (expr_of x)) o)) behind
+          ∙ ap (option_or found) (sym (fault-with g (n + count) last (expr_of x) rest))
+          ∙ ap (λ ys. option_or found (first_of_all g (n + count) last (exprs_of ys))) (sym front)
+          ∙ so_far.fault;
       types =
-        t
-        ∙ ap (λ (o : Option (List ExprType)). pushed_to o look.expr_type) so_far.types
-        ∙ ap (pushed_to (few (map (type_at g) (take i xs)))) l.expr_type
-        ∙ types-more g xs i x within is;
+          t
+          ∙ ap (λ (o : Option (List ExprType)). pushed_to o look.expr_type) so_far.types
+          ∙ ap (pushed_to (few (map (type_at g) (take i xs)))) l.expr_type
+          ∙ types-more g xs i x within is;
       sites = c ∙ two count _ look.sites _ so_far.sites l.sites ∙ count-more g xs i x within is;
     }
 
@@ -150,10 +149,10 @@ looks_end g n last xs i found kept count e so_far =
     let all : length xs ≤ i = omega arith in
     record {
       fault =
-        sym (or_none found)
-        ∙ ap (option_or found) (sym (fault-none g (n + count) last))
-        ∙ ap (λ ys. option_or found (first_of_all g (n + count) last (exprs_of ys))) (sym left)
-        ∙ so_far.fault;
+          sym (or_none found)
+          ∙ ap (option_or found) (sym (fault-none g (n + count) last))
+          ∙ ap (λ ys. option_or found (first_of_all g (n + count) last (exprs_of ys))) (sym left)
+          ∙ so_far.fault;
       types = so_far.types ∙ types-all g xs i all;
       sites = so_far.sites ∙ count-all g xs i all;
     }

@@ -16,7 +16,6 @@ mod parameters;
 mod parts;
 mod rows;
 mod standings;
-mod stubs;
 mod walk;
 
 pub use assignments::{assigns_const, assigns_weaker, wrong_assignment};

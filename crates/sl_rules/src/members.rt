@@ -4,7 +4,6 @@ ghost use Rattle.std.specs.Option.{option_copied};
 ghost use Rattle.sl_expr_types.specs.Few.{few};
 ghost use Rattle.sl_syntax.specs.TreeView.{expr_of, exprs_of};
 ghost use Rattle.sl_typing.specs.Looks.{bare_name as bare_names};
-ghost use Rattle.sl_typing.specs.Order.{subscript_changes as changes};
 ghost use Rattle.sl_typing.specs.Rules as rule;
 ghost use Rattle.sl_typing.specs.TypeOf.{types_of};
 ghost use Rattle.sl_typing.specs.WrongType as spec;
@@ -13,7 +12,7 @@ use crate::elements::may_be_element;
 use crate::names::is_assign;
 use crate::rows::{has_member_row, has_subscript_row};
 use sl_base::Form;
-use sl_candidates::{form_subscript_changes, has_member};
+use sl_candidates::has_member;
 use sl_expr_types::{Types, is_plain};
 use sl_syntax::Expr;
 use sl_typing::{ExprType, Scope};
@@ -34,16 +33,6 @@ pub fn has_no_subscript(object: ExprType) -> bool
 {
     match object {
         ExprType::Container(_, form) => !has_subscript_row(form),
-        _ => false,
-    }
-}
-
-/// Whether `[ ]` changes its object.
-pub fn subscript_changes(object: ExprType) -> bool
-    ensures { result ≡ changes object }
-{
-    match object {
-        ExprType::Container(_, form) => form_subscript_changes(form),
         _ => false,
     }
 }

@@ -10,7 +10,7 @@ use crate::nodes::{
     number_look, postfix_look, prefix_look, truth_look,
 };
 use crate::standings::{last_standing, part_standing, standing_before};
-use crate::stubs::order_matters;
+use sl_effect_order::order_matters;
 use sl_expr_types::{appends, capped_sum, empty, pushed};
 use sl_syntax::Expr;
 use sl_typing::{Scope, Standing};

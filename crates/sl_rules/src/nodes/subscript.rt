@@ -12,10 +12,11 @@ ghost use Rattle.sl_typing.specs.TypeOf.{type_of};
 
 use crate::checks::Checks;
 use crate::look::Look;
-use crate::members::{has_no_subscript, subscript_changes};
+use crate::members::has_no_subscript;
 use crate::nodes::node::with_own;
 use sl_base::Place;
 use sl_base::limits::SITES;
+use sl_effect_order::subscript_changes;
 use sl_expr_types::{capped_sum, is_subscript_site, subscript_type};
 use sl_typing::ExprType;
 

@@ -1,5 +1,4 @@
-use Rattle.std.proofs.Common.{◌≡◌, refl, ap, sym, ◌∙◌, arith, List}
-use Rattle.sl_syntax.specs.declared.tree.expr.Expr.{Expr as ExprCode}
+use Rattle.std.proofs.Common.{◌≡◌, ap, sym, ◌∙◌, arith}
 use Rattle.sl_syntax.specs.Tree as s
 use Rattle.sl_syntax.specs.Tree.{Expr}
 use Rattle.sl_syntax.specs.TreeView.{expr_of, exprs_of}
@@ -8,7 +7,9 @@ use Rattle.sl_syntax.proofs.TreeViews.{expr_of-Index, expr_of-MemberCall, expr_o
 use Rattle.sl_typing.specs.declared.standing.Standing.TheVariants as standing
 use Rattle.sl_typing.specs.Faults.{last_standing, part_standing}
 use Rattle.sl_typing.specs.Order.{order_matters}
-use Rattle.sl_typing.specs.Sites.{inside, site_count}
+use Rattle.sl_typing.specs.Sites.{is_site}
+use Rattle.sl_typing.specs.TypeOf.{appends}
+use Rattle.sl_rules.specs.Looks.{IsLook}
 use Rattle.sl_rules.proofs.LookLaws.{look-parentheses, sites_before}
 use Rattle.sl_rules.proofs.WalkLaws.{as_code, same_code, same_row, same_standing, same_last, counts_alike, looks_init, looks_turn, looks_end}
 use Rattle.sl_rules.proofs.walk.+look.Goals as goal
@@ -142,10 +143,63 @@ look_at-returns-in-Member t c =
     c.look_at-own-in-Member.ensures)))
 
 pub look_at-returns-in-LibraryCall : goal.look_at-returns-in-LibraryCall
-look_at-returns-in-LibraryCall t c = ?
+look_at-returns-in-LibraryCall t c =
+    let a = c.in-LibraryCall in
+    let f = a.function in
+    let g = c.args.scope.now in
+    let n = c.args.before in
+    let m = c.inside_library_call-inside.result in
+    let xs = c.deref-in-LibraryCall-4.result.now in
+    let back = sym c.deref-in-LibraryCall-4.ensures.value in
+    let tree : expr_of c.args.e.now ≡ s.library_call f (exprs_of xs) =
+    ap expr_of a.is ∙ expr_of-LibraryCall f a.arguments ∙ ap (λ l. s.library_call f (exprs_of l)) back in
+    let is : c.appends-is_site.result ≡ appends f.name (exprs_of xs) =
+    c.appends-is_site.ensures
+    ∙ ap (λ l. appends l (exprs_of c.deref-in-LibraryCall.result.now)) c.as_slice.ensures.value
+    ∙ ap (λ l. appends f.name (exprs_of l)) (c.deref-in-LibraryCall.ensures.value ∙ back) in
+    let last : c.last_standing-last.result ≡ last_standing f.name (exprs_of xs) =
+    c.last_standing-last.ensures
+    ∙ ap (λ l. last_standing l (exprs_of c.deref-in-LibraryCall-2.result.now)) c.as_slice-in-LibraryCall.ensures.value
+    ∙ ap (λ l. last_standing f.name (exprs_of l)) (c.deref-in-LibraryCall-2.ensures.value ∙ back) in
+    as_code g n c.args.standing c.args.e.now (s.library_call f (exprs_of xs)) _ tree
+    (c.library_call_look.ensures g m (counts_alike _ _ (c.inside_library_call-inside.ensures g f (exprs_of xs) is))
+    (same_last g m c.last_standing-last.result (last_standing f.name (exprs_of xs)) (exprs_of xs) _ last
+    (same_row g m c.last_standing-last.result c.deref-in-LibraryCall-3.result.now xs _ (c.deref-in-LibraryCall-3.ensures.value ∙ back)
+    c.look_at_all-looks-in-LibraryCall.ensures))
+    (c.order_matters.ensures ∙ ap (order_matters g) tree))
 
 pub look_at-returns-in-MemberCall : goal.look_at-returns-in-MemberCall
-look_at-returns-in-MemberCall t c = ?
+look_at-returns-in-MemberCall t c =
+    let a = c.in-MemberCall in
+    let f = a.function in
+    let g = c.args.scope.now in
+    let n = c.args.before in
+    let m = c.inside_member_call-inside.result in
+    let x = c.deref-in-MemberCall-5.result.now in
+    let xs = c.deref-in-MemberCall-6.result.now in
+    let here = sym c.deref-in-MemberCall-5.ensures in
+    let back = sym c.deref-in-MemberCall-6.ensures.value in
+    let tree : expr_of c.args.e.now ≡ s.member_call (expr_of x) f (exprs_of xs) =
+    ap expr_of a.is
+    ∙ expr_of-MemberCall a.object f a.arguments
+    ∙ ap (λ z. s.member_call (expr_of z) f (exprs_of a.arguments.items)) here
+    ∙ ap (λ l. s.member_call (expr_of x) f (exprs_of l)) back in
+    let first = c.deref-in-MemberCall.result.now in
+    let found = c.look_at-own-in-MemberCall.result in
+    let own : IsLook g n standing.Plain (expr_of x) found =
+    same_code g n standing.Plain first x found (c.deref-in-MemberCall.ensures ∙ here) c.look_at-own-in-MemberCall.ensures in
+    let called : IsLook g n standing.Plain (expr_of c.deref-in-MemberCall-2.result.now) found =
+    same_code g n standing.Plain first c.deref-in-MemberCall-2.result.now found (c.deref-in-MemberCall.ensures ∙ sym c.deref-in-MemberCall-2.ensures)
+    c.look_at-own-in-MemberCall.ensures in
+    let is : c.is_call_site-is_site.result ≡ is_site g (s.member_call (expr_of x) f (exprs_of xs)) =
+    c.is_call_site-is_site.ensures g (sym called.expr_type)
+    ∙ ap (λ z. is_site g (s.member_call (expr_of z) f (exprs_of c.deref-in-MemberCall-3.result.now))) (c.deref-in-MemberCall-2.ensures ∙ here)
+    ∙ ap (λ l. is_site g (s.member_call (expr_of x) f (exprs_of l))) (c.deref-in-MemberCall-3.ensures.value ∙ back) in
+    as_code g n c.args.standing c.args.e.now (s.member_call (expr_of x) f (exprs_of xs)) _ tree
+    (c.member_call_look.ensures m own (counts_alike _ _ (c.inside_member_call-inside.ensures g (expr_of x) f (exprs_of xs) own is))
+    (same_row g m standing.Plain c.deref-in-MemberCall-4.result.now xs _ (c.deref-in-MemberCall-4.ensures.value ∙ back)
+    c.look_at_all-looks-in-MemberCall.ensures)
+    (c.order_matters.ensures ∙ ap (order_matters g) tree))
 
 pub look_at_all-loop-i-init : goal.look_at_all-loop-i-init
 look_at_all-loop-i-init t c = looks_init c.args.scope.now c.args.before c.args.last c.args.xs.now c.empty-types.result c.empty-types.ensures

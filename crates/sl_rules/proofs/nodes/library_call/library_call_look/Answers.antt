@@ -1,8 +1,6 @@
-use Rattle.std.proofs.Common.{◌≡◌, refl, ap, ◌∙◌}
-use Rattle.sl_expr_types.specs.Few.{listed}
+use Rattle.std.proofs.Common.{refl}
 use Rattle.sl_syntax.specs.Tree as s
 use Rattle.sl_syntax.specs.TreeView.{exprs_of}
-use Rattle.sl_typing.specs.TypeOf.{algorithm_type}
 use Rattle.sl_rules.proofs.LookLaws.{look-library_call}
 use Rattle.sl_rules.proofs.nodes.library_call.library_call_look.Goals as goal
 

@@ -1,7 +1,6 @@
-use Rattle.std.proofs.Common.{◌≡◌, refl, sym, ap, ◌∙◌}
+use Rattle.std.proofs.Common.{refl, sym}
 use Rattle.sl_syntax.specs.Tree as s
 use Rattle.sl_syntax.specs.TreeView.{expr_of}
-use Rattle.sl_typing.specs.TypeOf.{selected_type, is_first}
 use Rattle.sl_rules.proofs.LookLaws.{look-member}
 use Rattle.sl_rules.proofs.nodes.member.member_look.Goals as goal
 

@@ -1,4 +1,4 @@
-use Rattle.std.proofs.Common.{◌≡◌, ◌+◌, ◌==◌, refl, sym, ap, ◌∙◌}
+use Rattle.std.proofs.Common.{◌≡◌, ◌+◌, ◌==◌, refl, sym, ◌∙◌}
 use Rattle.sl_base.specs.declared.limits.TheConstants.{SITES}
 use Rattle.sl_syntax.specs.Tree as s
 use Rattle.sl_syntax.specs.TreeView.{expr_of, exprs_of}

@@ -1,8 +1,5 @@
-use Rattle.std.proofs.Common.{◌≡◌, refl, sym, ap, ◌∙◌}
-use Rattle.sl_expr_types.specs.Capped.{capped}
-use Rattle.sl_expr_types.proofs.SiteLaws.{capped-right}
+use Rattle.std.proofs.Common.{refl, sym, ◌∙◌}
 use Rattle.sl_syntax.specs.Tree as s
-use Rattle.sl_typing.specs.Sites.{site_count}
 use Rattle.sl_rules.proofs.LookLaws.{look-index, sites_before}
 use Rattle.sl_rules.proofs.nodes.subscript.index_look.Goals as goal
 
