@@ -14,5 +14,6 @@ pub mod FewLaws
 pub mod CheckLaws
 -- ## What a look at a node finds
 pub mod LookLaws
+pub mod CallLookLaws
 -- ## A loop over arguments
 pub mod WalkLaws

@@ -10,7 +10,8 @@ use Rattle.sl_typing.specs.Order.{order_matters}
 use Rattle.sl_typing.specs.Sites.{is_site}
 use Rattle.sl_typing.specs.TypeOf.{appends}
 use Rattle.sl_rules.specs.Looks.{IsLook}
-use Rattle.sl_rules.proofs.LookLaws.{look-parentheses, sites_before}
+use Rattle.sl_rules.proofs.CallLookLaws.{sites_before}
+use Rattle.sl_rules.proofs.LookLaws.{look-parentheses}
 use Rattle.sl_rules.proofs.WalkLaws.{as_code, same_code, same_row, same_standing, same_last, counts_alike, looks_init, looks_turn, looks_end}
 use Rattle.sl_rules.proofs.walk.+look.Goals as goal
 

@@ -1,5 +1,5 @@
 use Rattle.std.proofs.Common.{◌∙◌}
-use Rattle.sl_rules.proofs.LookLaws.{inside-library_call}
+use Rattle.sl_rules.proofs.CallLookLaws.{inside-library_call}
 use Rattle.sl_rules.proofs.nodes.library_call.inside_library_call.Goals as goal
 
 pub returns : goal.returns

@@ -1,7 +1,7 @@
 use Rattle.std.proofs.Common.{refl}
 use Rattle.sl_syntax.specs.Tree as s
 use Rattle.sl_syntax.specs.TreeView.{exprs_of}
-use Rattle.sl_rules.proofs.LookLaws.{look-library_call}
+use Rattle.sl_rules.proofs.CallLookLaws.{look-library_call}
 use Rattle.sl_rules.proofs.nodes.library_call.library_call_look.Goals as goal
 
 pub returns : goal.returns

@@ -1,5 +1,5 @@
 use Rattle.std.proofs.Common.{◌∙◌}
-use Rattle.sl_rules.proofs.LookLaws.{inside-member_call}
+use Rattle.sl_rules.proofs.CallLookLaws.{inside-member_call}
 use Rattle.sl_rules.proofs.nodes.member_call.inside_member_call.Goals as goal
 
 pub returns : goal.returns

@@ -7,7 +7,7 @@ use Rattle.sl_typing.specs.Sites.{is_site, site_count}
 use Rattle.sl_typing.specs.TypeOf.{size, type_of, types_of}
 use Rattle.sl_rules.proofs.ArgumentLaws.{size_exprs_of}
 use Rattle.sl_rules.proofs.CheckLaws.{checks-member_call, last-number}
-use Rattle.sl_rules.proofs.LookLaws.{sites_before}
+use Rattle.sl_rules.proofs.CallLookLaws.{sites_before}
 use Rattle.sl_rules.proofs.nodes.member_call.member_call_checks.Goals as goal
 
 pub returns : goal.returns

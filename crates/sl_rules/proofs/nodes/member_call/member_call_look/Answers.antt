@@ -1,7 +1,7 @@
 use Rattle.std.proofs.Common.{refl, sym}
 use Rattle.sl_syntax.specs.Tree as s
 use Rattle.sl_syntax.specs.TreeView.{expr_of, exprs_of}
-use Rattle.sl_rules.proofs.LookLaws.{look-member_call}
+use Rattle.sl_rules.proofs.CallLookLaws.{look-member_call}
 use Rattle.sl_rules.proofs.nodes.member_call.member_call_look.Goals as goal
 
 pub returns : goal.returns

@@ -1,6 +1,6 @@
 use Rattle.std.proofs.Common.{sym}
 use Rattle.sl_syntax.specs.TreeView.{expr_of, exprs_of}
-use Rattle.sl_rules.proofs.LookLaws.{wrong-member_call}
+use Rattle.sl_rules.proofs.CallLookLaws.{wrong-member_call}
 use Rattle.sl_rules.proofs.nodes.member_call.wrong_member_call.Goals as goal
 
 pub returns : goal.returns

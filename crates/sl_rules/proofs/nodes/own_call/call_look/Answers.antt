@@ -1,7 +1,7 @@
 use Rattle.std.proofs.Common.{refl}
 use Rattle.sl_syntax.specs.Tree as s
 use Rattle.sl_syntax.specs.TreeView.{exprs_of}
-use Rattle.sl_rules.proofs.LookLaws.{look-call}
+use Rattle.sl_rules.proofs.CallLookLaws.{look-call}
 use Rattle.sl_rules.proofs.nodes.own_call.call_look.Goals as goal
 
 pub returns : goal.returns

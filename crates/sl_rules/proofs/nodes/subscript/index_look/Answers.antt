@@ -1,6 +1,6 @@
 use Rattle.std.proofs.Common.{refl, sym, ◌∙◌}
 use Rattle.sl_syntax.specs.Tree as s
-use Rattle.sl_rules.proofs.LookLaws.{look-index, sites_before}
+use Rattle.sl_rules.proofs.CallLookLaws.{look-index, sites_before}
 use Rattle.sl_rules.proofs.nodes.subscript.index_look.Goals as goal
 
 pub returns : goal.returns

@@ -1,5 +1,5 @@
 use Rattle.std.proofs.Common.{◌∙◌}
-use Rattle.sl_rules.proofs.LookLaws.{inside-index}
+use Rattle.sl_rules.proofs.CallLookLaws.{inside-index}
 use Rattle.sl_rules.proofs.nodes.subscript.inside_index.Goals as goal
 
 pub returns : goal.returns
