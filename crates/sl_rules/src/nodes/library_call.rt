@@ -13,12 +13,12 @@ ghost use Rattle.sl_typing.specs.Order as order;
 ghost use Rattle.sl_typing.specs.Sites.{inside};
 ghost use Rattle.sl_typing.specs.TypeOf.{appends as do_append, types_of};
 
-use crate::algorithms::fits_algorithm;
+use crate::arguments::algorithms::fits_algorithm;
+use crate::arguments::rows::{algorithm_is_weak, algorithm_writes_const};
 use crate::checks::Checks;
 use crate::look::{Look, LookAll};
 use crate::names::is_back_inserter_name;
 use crate::nodes::node::{Node, with_own};
-use crate::rows::{algorithm_is_weak, algorithm_writes_const};
 use crate::standings::is_as_output;
 use sl_base::limits::SITES;
 use sl_candidates::has_algorithm;

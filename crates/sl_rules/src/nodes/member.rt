@@ -12,7 +12,7 @@ ghost use Rattle.sl_typing.specs.TypeOf.{type_of};
 
 use crate::checks::Checks;
 use crate::look::Look;
-use crate::parts::fits_selector;
+use crate::operands::parts::fits_selector;
 use sl_base::Place;
 use sl_expr_types::{is_first, selected_type};
 use sl_syntax::{Expr, Identifier, Selector};

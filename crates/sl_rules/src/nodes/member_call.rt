@@ -14,11 +14,11 @@ ghost use Rattle.sl_typing.specs.Sites.{inside, is_site};
 ghost use Rattle.sl_typing.specs.TypeOf.{type_of, types_of};
 ghost use Rattle.sl_typing.specs.WrongType.{wrong_type};
 
+use crate::arguments::members::{fits_member, has_no_member};
+use crate::arguments::rows::member_writes_const;
 use crate::checks::Checks;
 use crate::look::{Look, LookAll};
-use crate::members::{fits_member, has_no_member};
 use crate::nodes::node::{Node, with_own};
-use crate::rows::member_writes_const;
 use crate::standings::is_before_part;
 use sl_base::limits::SITES;
 use sl_expr_types::{Types, capped_sum, is_member_site, is_plain, member_call_type};

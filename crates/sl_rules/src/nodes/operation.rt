@@ -14,7 +14,7 @@ ghost use Rattle.sl_typing.specs.TypeOf.{type_of};
 
 use crate::checks::Checks;
 use crate::look::Look;
-use crate::operators::{
+use crate::operands::operators::{
     fits_binary, is_step, is_weak_binary, is_weak_postfix, is_weak_prefix, wrong_prefix, wrong_step,
 };
 use sl_base::Place;

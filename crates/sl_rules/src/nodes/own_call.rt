@@ -7,12 +7,12 @@ ghost use Rattle.sl_syntax.specs.TreeView.{exprs_of};
 ghost use Rattle.sl_typing.specs.declared.standing.Standing.{Standing};
 ghost use Rattle.sl_typing.specs.Order as order;
 
+use crate::arguments::own_calls::{parameters_of, takes_others};
+use crate::arguments::parameters::{aliases, fit_parameters, hands_const};
 use crate::checks::Checks;
 use crate::fault::broken;
 use crate::look::{Look, LookAll};
 use crate::names::is_main_name;
-use crate::own_calls::{parameters_of, takes_others};
-use crate::parameters::{aliases, fit_parameters, hands_const};
 use sl_expr_types::own_call_type;
 use sl_scopes::names::{function_named, is_unknown_function, is_unknown_variable};
 use sl_syntax::{Expr, Identifier};

@@ -10,9 +10,9 @@ ghost use Rattle.sl_typing.specs.declared.standing.Standing.{Standing};
 ghost use Rattle.sl_typing.specs.Sites.{inside, site_count};
 ghost use Rattle.sl_typing.specs.TypeOf.{type_of};
 
+use crate::arguments::members::has_no_subscript;
 use crate::checks::Checks;
 use crate::look::Look;
-use crate::members::has_no_subscript;
 use crate::nodes::node::with_own;
 use sl_base::Place;
 use sl_base::limits::SITES;

@@ -1,6 +1,6 @@
 use Rattle.std.proofs.Common.{arith}
 use Rattle.sl_rules.proofs.ArgumentLaws.{fit_end}
-use Rattle.sl_rules.proofs.parameters.fit_parameters.Goals as goal
+use Rattle.sl_rules.proofs.arguments.parameters.fit_parameters.Goals as goal
 
 pub returns : goal.returns
 returns c =

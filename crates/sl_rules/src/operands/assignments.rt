@@ -4,7 +4,7 @@ ghost use Rattle.sl_syntax.specs.TreeView.{expr_of};
 ghost use Rattle.sl_typing.specs.Rules as rule;
 ghost use Rattle.sl_typing.specs.WrongType as spec;
 
-use crate::operators::takes_value;
+use crate::operands::operators::takes_value;
 use sl_expr_types::{is_left_side_of, type_of};
 use sl_syntax::{Assignment, Expr};
 use sl_typing::Scope;

@@ -2,7 +2,7 @@ use Rattle.std.proofs.Common.{◌≡◌, ◌||◌, drop}
 use Rattle.sl_syntax.specs.TreeView.{exprs_of}
 use Rattle.sl_typing.specs.Rules.{bound_names}
 use Rattle.sl_typing.specs.Scopes.{is_among}
-use Rattle.sl_rules.proofs.parameters.is_bound.Given as goal
+use Rattle.sl_rules.proofs.arguments.parameters.is_bound.Given as goal
 
 abbrev pub invariant-loop-i : goal.invariant-loop-i
 invariant-loop-i l =

@@ -8,9 +8,9 @@ ghost use Rattle.sl_typing.specs.Rules as rule;
 ghost use Rattle.sl_typing.specs.TypeOf.{types_of};
 ghost use Rattle.sl_typing.specs.WrongType as spec;
 
-use crate::elements::may_be_element;
+use crate::arguments::rows::{has_member_row, has_subscript_row};
 use crate::names::is_assign;
-use crate::rows::{has_member_row, has_subscript_row};
+use crate::operands::elements::may_be_element;
 use sl_base::Form;
 use sl_candidates::has_member;
 use sl_expr_types::{Types, is_plain};

@@ -1,6 +1,6 @@
 use Rattle.std.proofs.Common.{arith}
 use Rattle.sl_rules.proofs.ArgumentLaws.{hands_end}
-use Rattle.sl_rules.proofs.parameters.hands_const.Goals as goal
+use Rattle.sl_rules.proofs.arguments.parameters.hands_const.Goals as goal
 
 pub returns : goal.returns
 returns c =

@@ -3,7 +3,7 @@ use Rattle.sl_syntax.specs.TreeView.{exprs_of}
 use Rattle.sl_typing.specs.Rules.{bound_names}
 use Rattle.sl_typing.specs.Scopes.{is_among}
 use Rattle.sl_rules.proofs.ArgumentLaws.{gathered, bound_none}
-use Rattle.sl_rules.proofs.parameters.is_bound.Goals as goal
+use Rattle.sl_rules.proofs.arguments.parameters.is_bound.Goals as goal
 
 pub returns : goal.returns
 returns c =

@@ -6,8 +6,8 @@ ghost use Rattle.sl_typing.specs.declared.scope.Scope.{Scope};
 ghost use Rattle.sl_typing.specs.TypeOf as typing;
 ghost use Rattle.sl_typing.specs.WrongType as spec;
 
+use crate::arguments::rows::has_algorithm_row;
 use crate::names::is_advance;
-use crate::rows::has_algorithm_row;
 use sl_expr_types::{Types, is_plain};
 use sl_syntax::Expr;
 

@@ -1,7 +1,7 @@
 use Rattle.std.proofs.Common.{◌≡◌, ◌||◌, drop}
 use Rattle.sl_syntax.specs.TreeView.{exprs_of}
 use Rattle.sl_typing.specs.Rules.{hands_const}
-use Rattle.sl_rules.proofs.parameters.hands_const.Given as goal
+use Rattle.sl_rules.proofs.arguments.parameters.hands_const.Given as goal
 
 abbrev pub invariant-loop-i : goal.invariant-loop-i
 invariant-loop-i l =

@@ -2,7 +2,7 @@ use Rattle.std.proofs.Common.{ap, sym, drop, arith}
 use Rattle.sl_syntax.specs.TreeView.{exprs_of}
 use Rattle.sl_typing.specs.Rules.{bound_names, some_twice}
 use Rattle.sl_rules.proofs.ArgumentLaws.{gathered, bound_none, twice_turn}
-use Rattle.sl_rules.proofs.parameters.aliases.Goals as goal
+use Rattle.sl_rules.proofs.arguments.parameters.aliases.Goals as goal
 
 pub returns : goal.returns
 returns c =
