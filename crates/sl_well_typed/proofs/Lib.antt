@@ -1,0 +1,2 @@
+-- ## What breaks no rule
+pub mod Parts
