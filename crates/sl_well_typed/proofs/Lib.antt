@@ -1,2 +1,6 @@
 -- ## What breaks no rule
 pub mod Parts
+-- ## What an expression of a type is as a typed one
+pub mod Matching
+pub mod Numbers
+pub mod Names
