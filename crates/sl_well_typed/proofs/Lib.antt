@@ -4,3 +4,7 @@ pub mod Parts
 pub mod Matching
 pub mod Numbers
 pub mod Names
+pub mod Steps
+-- ## Operators
+pub mod Operators
+pub mod Members
