@@ -8,3 +8,6 @@ pub mod Steps
 -- ## Operators
 pub mod Operators
 pub mod Members
+-- ## Calls of the library
+pub mod Rows
+pub mod Letters

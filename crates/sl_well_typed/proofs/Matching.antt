@@ -113,14 +113,21 @@ pub record Matches (g : Scope) (m : TypedScope) : Type 0 where
   pub variables : AllOf (Stands m) g.variables
   pub functions : AllOf (IsHead m) g.functions
 
--- the type of a typed expression against what typing says
+-- the type of a typed expression against what typing says: that of an element
 pub record IsElementType (w : Bool) (v : ExprType) : Type 0 where
   pub writable : Bool
   pub typed : v ≡ types.Element writable
   pub writes : w ≡ true → writable ≡ true
 
+-- that of a container
+pub record IsContainerType (access : Access) (form : Form) (v : ExprType) : Type 0 where
+  pub typed : v ≡ types.Container access form
+  pub whole : is_for_elements access ≡ false
+
+-- that of any
 abbrev pub Reads : ExprType → ExprType → Type 0
 Reads (types.Element w) v = IsElementType w v
+Reads (types.Container access form) v = IsContainerType access form v
 Reads (types.EntryReference w) v = Unit {0}
 Reads u v = v ≡ u
 
@@ -129,7 +136,7 @@ pub meets_reads : (m : TypedScope) (u : ExprType) (e : t.Expr) → Meets m u e �
 unfolding type_in type_of_left
 meets_reads m (types.Element w) e h = record { writable = h.writable; typed = rw h.is_it h.typed; writes = h.writes }
 meets_reads m (types.EntryReference w) e h = tt
-meets_reads m (types.Container access form) e h = rw h.is_it h.typed
+meets_reads m (types.Container access form) e h = record { typed = rw h.is_it h.typed; whole = h.whole }
 meets_reads m types.Wrong e h = absurd h
 meets_reads m (types.IntReference w) e h = absurd h
 meets_reads m (types.Handed r) e h = absurd h
