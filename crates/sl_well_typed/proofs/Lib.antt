@@ -11,3 +11,7 @@ pub mod Members
 -- ## Calls of the library
 pub mod Rows
 pub mod Letters
+-- ## Calls
+pub mod Arguments
+pub mod Calls
+pub mod MemberCalls

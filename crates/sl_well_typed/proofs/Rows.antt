@@ -95,12 +95,18 @@ begin_with_iterator (l.Iterator ∷ rest) = true
 begin_with_iterator (l.BidirectionalIterator ∷ rest) = true
 begin_with_iterator letters = false
 
+-- one range or two, and an output
+abbrev pub are_output : List Letter → Bool
+are_output (l.IntRange ∷ l.Output ∷ []) = true
+are_output (l.IntRange ∷ l.SecondIntRange ∷ l.Output ∷ []) = true
+are_output letters = false
+
 -- what an algorithm gives: a number or nothing, or its operand of that sort
 abbrev pub gives_fitting : ReturnType → List Letter → Bool
 gives_fitting r.Nothing letters = true
 gives_fitting (r.Number s) letters = true
 gives_fitting r.FirstArgument letters = begin_with_iterator letters
-gives_fitting r.Output letters = end_in_output letters
+gives_fitting r.Output letters = are_output letters
 gives_fitting gives letters = false
 
 -- one number, and nothing else
@@ -124,9 +130,17 @@ abbrev pub gives_container : ReturnType → List Letter → Bool
 gives_container r.Appender (l.AppendedContainer ∷ []) = true
 gives_container gives letters = false
 
+-- a letter for iterators of some strength
+abbrev pub needs_strength : Letter → Bool
+needs_strength l.RandomAccessRange = true
+needs_strength l.BidirectionalIterator = true
+needs_strength letter = false
+
 -- a row of a form
 abbrev pub is_member_fine : Row → Bool
-is_member_fine row = is_algorithm row || (gives_own row.gives && not (same_call c.Advance row.call))
+is_member_fine row = is_algorithm row || (
+    gives_own row.gives && not (same_call c.Advance row.call) && not (list_any needs_strength row.letters)
+    )
 
 -- a row of `[ ]`
 abbrev pub is_subscript_fine : Row → Bool
