@@ -49,12 +49,12 @@ one_fits p q bad w ws (u ∷ us) [] h k g f = absurd g
 one_fits p q bad w ws (u ∷ us) (v ∷ vs) h k g f = (f u v h k g.0, g.1)
 
 -- an iterator is handed over as it is
-iterator_read : (u v : ExprType) → is_iterator u ≡ true → Reads u v → v ≡ u
+pub iterator_read : (u v : ExprType) → is_iterator u ≡ true → Reads u v → v ≡ u
 iterator_read (types.Iterator b x) v h r = r
 iterator_read u v h r = absurd cc
 
 -- both ends of a range are iterators
-first_end : (u v : ExprType) → same_iterators u v ≡ true → is_iterator u ≡ true
+pub first_end : (u v : ExprType) → same_iterators u v ≡ true → is_iterator u ≡ true
 first_end (types.Iterator b x) v h = refl
 first_end u v h = absurd cc
 
@@ -138,7 +138,7 @@ writes_ints : (u : ExprType) → is_int_iterator u ≡ true → is_reading_itera
 writes_ints (types.Iterator b x) h k = let parts = or_parts b (is_keyed x) k in rw (parts.0, parts.1) refl
 writes_ints u h k = absurd cc
 
-int_is_iterator : (u : ExprType) → is_int_iterator u ≡ true → is_iterator u ≡ true
+pub int_is_iterator : (u : ExprType) → is_int_iterator u ≡ true → is_iterator u ≡ true
 int_is_iterator (types.Iterator b x) h = refl
 int_is_iterator u h = absurd cc
 

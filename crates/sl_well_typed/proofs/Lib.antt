@@ -15,3 +15,4 @@ pub mod Letters
 pub mod Arguments
 pub mod Calls
 pub mod MemberCalls
+pub mod Algorithms
