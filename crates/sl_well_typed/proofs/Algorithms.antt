@@ -160,7 +160,7 @@ given_same r.Output form letters us vs k h g =
 given_same gives form letters us vs k h g = absurd cc
 
 -- a call of an algorithm that appends nothing
-plain_meets : (m : TypedScope) (x : Found) → row_at x.number ≡ Some x.row → is_algorithm x.row ≡ true → is_advance x.row ≡ false
+pub plain_meets : (m : TypedScope) (x : Found) → row_at x.number ≡ Some x.row → is_algorithm x.row ≡ true → is_advance x.row ≡ false
     → gives_fitting x.row.gives x.row.letters ≡ true → (us : List ExprType) (es : Operands) → letters_take f.Vector x.row.letters us ≡ true
     → AllGiven (ways x.row.letters) us (types_in m es) → fits f.Vector x.row.letters (types_in m es) ≡ true
     → (at : Place) (site : Option ℕ) (names : List (Option ℕ))
@@ -171,7 +171,7 @@ plain_meets m x there own still fitting us es takes given fit at site names =
     (rw (there, own, fit) same.same)
 
 -- one that appends
-appending_meets : (m : TypedScope) (x : Found) → row_at x.number ≡ Some x.row → is_algorithm x.row ≡ true → list_any is_output x.row.letters ≡ true
+pub appending_meets : (m : TypedScope) (x : Found) → row_at x.number ≡ Some x.row → is_algorithm x.row ≡ true → list_any is_output x.row.letters ≡ true
     → (es : Operands) → fits f.Vector (map appending x.row.letters) (types_in m es) ≡ true
     → (at : Place) (site : Option ℕ) (names : List (Option ℕ))
     → Meets m types.Nothing (t.call (head (callees.Appends x.number) at site None names) es)
@@ -179,14 +179,14 @@ appending_meets m x there own output es fit at site names =
     value_meets m (head (callees.Appends x.number) at site None names) es types.Nothing refl refl (rw (there, own, output, fit) refl)
 
 -- letters with an output's place taken by a container are handed over in the same ways
-ways_seen : (appends : Bool) (letters : List Letter) → ways (letters_seen appends letters) ≡ ways letters
+pub ways_seen : (appends : Bool) (letters : List Letter) → ways (letters_seen appends letters) ≡ ways letters
 ways_seen false letters = refl
 ways_seen true [] = refl
 ways_seen true (l.Output ∷ rest) = ap (λ (ws : List Way). as_it_is ∷ ws) (ways_seen true rest)
 ways_seen true (letter ∷ rest) = ap (λ (ws : List Way). letter_ways letter ++ ws) (ways_seen true rest)
 
 -- and none of them is a list
-none_seen_is_list : (appends : Bool) (letters : List Letter) → takes_list letters ≡ false → takes_list (letters_seen appends letters) ≡ false
+pub none_seen_is_list : (appends : Bool) (letters : List Letter) → takes_list letters ≡ false → takes_list (letters_seen appends letters) ≡ false
 none_seen_is_list false letters h = h
 none_seen_is_list true [] h = refl
 none_seen_is_list true (l.InitializerList ∷ rest) h = absurd cc

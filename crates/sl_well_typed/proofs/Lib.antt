@@ -16,3 +16,4 @@ pub mod Arguments
 pub mod Calls
 pub mod MemberCalls
 pub mod Algorithms
+pub mod AlgorithmCalls
