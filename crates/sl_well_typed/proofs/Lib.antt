@@ -17,3 +17,6 @@ pub mod Calls
 pub mod MemberCalls
 pub mod Algorithms
 pub mod AlgorithmCalls
+pub mod OwnCalls
+-- ## Expressions
+pub mod Expressions
