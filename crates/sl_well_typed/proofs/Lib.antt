@@ -20,3 +20,5 @@ pub mod AlgorithmCalls
 pub mod OwnCalls
 -- ## Expressions
 pub mod Expressions
+-- ## What is in scope
+pub mod Scoping
