@@ -57,7 +57,7 @@ pub record IsCalled (name : List ℕ) (n : ℕ) (row : Row) : Type 0 where
   pub text : call_text row.call ≡ name
   pub count : takes_count row.letters n ≡ true
 
-candidate_is : (name : List ℕ) (n : ℕ) (row : Row) → is_candidate None name n row ≡ true → IsCalled name n row
+pub candidate_is : (name : List ℕ) (n : ℕ) (row : Row) → is_candidate None name n row ≡ true → IsCalled name n row
 candidate_is name n row h =
     let candidate = and_parts (is_called None name row) (takes_count row.letters n) h in
     let called = and_parts (same_object row.form None && is_named row.call) (bytes_eq (call_text row.call) name) candidate.0 in
@@ -108,7 +108,7 @@ mover_letters : (gives : ReturnType) (letters : List Letter) → moves_iterator 
 mover_letters r.Nothing (l.IteratorVariable ∷ l.Distance ∷ []) h = refl
 mover_letters gives letters h = absurd cc
 
-mover_gives : (gives : ReturnType) (letters : List Letter) → moves_iterator gives letters ≡ true → (b : Bool) (us : List ExprType)
+pub mover_gives : (gives : ReturnType) (letters : List Letter) → moves_iterator gives letters ≡ true → (b : Bool) (us : List ExprType)
     → algorithm_gives b gives us ≡ types.Nothing
 mover_gives r.Nothing (l.IteratorVariable ∷ l.Distance ∷ []) h true us = refl
 mover_gives r.Nothing (l.IteratorVariable ∷ l.Distance ∷ []) h false us = refl
@@ -167,7 +167,7 @@ advance_meets m g n (s.with y rest) h plain x there own advance moves takes fit 
     iterator fit at site names
 
 -- what a row is by the name that is called
-fine_by_name : (row : Row) (name : List ℕ) → IsAlgorithmRow row → call_text row.call ≡ name
+pub fine_by_name : (row : Row) (name : List ℕ) → IsAlgorithmRow row → call_text row.call ≡ name
     → (
     if bytes_eq name (codes "back_inserter") then gives_container row.gives row.letters
     else if bytes_eq name (codes "advance") then moves_iterator row.gives row.letters && same_call c.Advance row.call

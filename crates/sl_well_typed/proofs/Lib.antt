@@ -22,3 +22,6 @@ pub mod OwnCalls
 pub mod Expressions
 -- ## What is in scope
 pub mod Scoping
+-- ## Which expressions stand alone, and which a reference is bound to
+pub mod AlgorithmTypes
+pub mod Bound
