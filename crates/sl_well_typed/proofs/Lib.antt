@@ -25,3 +25,4 @@ pub mod Scoping
 -- ## Which expressions stand alone, and which a reference is bound to
 pub mod AlgorithmTypes
 pub mod Bound
+pub mod Alone
