@@ -71,7 +71,7 @@ truth_meets m g n at true = refl
 truth_meets m g n at false = refl
 
 -- an expression that is typed, from what its own node keeps
-typed_is : (g : Scope) (m : TypedScope) → Matches g m → (n : ℕ) (how : Standing) (e : Expr) → faults g n how e ≡ []
+pub typed_is : (g : Scope) (m : TypedScope) → Matches g m → (n : ℕ) (how : Standing) (e : Expr) → faults g n how e ≡ []
     → Meets m (type_of g e) (typed g n e) → IsTyped m g n e
 typed_is g m matches n how e none h = record { meets = h; named = plain_is_named g m matches n how e none }
 

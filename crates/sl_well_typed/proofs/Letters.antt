@@ -89,11 +89,11 @@ optional_fits r ws (u ∷ []) (v ∷ z ∷ vs) h g = absurd g.1
 optional_fits r ws (u ∷ y ∷ us) vs h g = absurd cc
 
 -- all that is taken of a list
-take_whole : (us : List ExprType) → take (length us) us ≡ us
+pub take_whole : (us : List ExprType) → take (length us) us ≡ us
 take_whole us = take_all (length us) us (omega arith)
 
 -- nothing is left of a list of which all is dropped
-drop_all : {X : Type 0} (xs : List X) → drop (length xs) xs ≡ []
+pub drop_all : {X : Type 0} (xs : List X) → drop (length xs) xs ≡ []
 drop_all [] = refl
 drop_all (x ∷ xs) = drop_all xs
 

@@ -26,3 +26,7 @@ pub mod Scoping
 pub mod AlgorithmTypes
 pub mod Bound
 pub mod Alone
+-- ## Declarations
+pub mod Making
+pub mod Containers
+pub mod Declared
