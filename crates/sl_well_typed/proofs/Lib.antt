@@ -30,3 +30,5 @@ pub mod Alone
 pub mod Making
 pub mod Containers
 pub mod Declared
+-- ## Effects and conditions
+pub mod Assignments
