@@ -32,3 +32,4 @@ pub mod Containers
 pub mod Declared
 -- ## Effects and conditions
 pub mod Assignments
+pub mod Apart

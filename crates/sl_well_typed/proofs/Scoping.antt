@@ -19,8 +19,18 @@ use Rattle.sl_model.specs.Typing.WellTypedScopes.{Scope as TypedScope, variable_
 use Rattle.sl_model.proofs.Tells.{AllOf, all_append}
 use Rattle.sl_well_typed.proofs.Matching.{is_for_elements, IsVariable, IsHead, Stands, Matches}
 
+-- a container
+abbrev pub is_container_variable : NamedVariable → Bool
+is_container_variable v = same_sort containers (sort_of v.variable_type)
+
+-- containers are numbered in their order, from a number on
+abbrev pub AreNumbered : ℕ → List NamedVariable → Type 0
+AreNumbered k [] = Unit {0}
+AreNumbered k (v ∷ vs) = (is_container_variable v ≡ true → v.number ≡ k) × AreNumbered (k + cond (is_container_variable v) 1 0) vs
+
 -- the variables of a scope and those of a typed one, sort by sort
 pub record Scoped (g : Scope) (m : TypedScope) : Type 0 where
+  pub numbered : AreNumbered 0 g.variables
   pub matches : Matches g m
   pub scalars : count_of scalars g ≡ length m.scalars
   pub containers : count_of containers g ≡ length m.containers
@@ -96,6 +106,18 @@ counted sort xs v =
     let one = λ (w : NamedVariable). cond (same_sort sort (sort_of w.variable_type)) 1 0 in
     sum_by-append one xs (v ∷ []) ∙ ap (λ (k : ℕ). sum_by one xs + k) (zero-add (one v))
 
+-- one more container has the next number
+numbered_more : (k : ℕ) (xs : List NamedVariable) (x : NamedVariable) → AreNumbered k xs
+    → (is_container_variable x ≡ true → x.number ≡ k + count_by is_container_variable xs) → AreNumbered k (xs ++ x ∷ [])
+numbered_more k [] x h e = (λ c. let n = e c in omega arith, tt)
+numbered_more k (y ∷ ys) x h e =
+    let one = λ (w : NamedVariable). cond (is_container_variable w) 1 0 in
+    let counts : count_by is_container_variable (y ∷ ys) ≡ one y + count_by is_container_variable ys =
+    sum_by-append one (y ∷ []) ys ∙ ap (λ (j : ℕ). j + sum_by one ys) (zero-add (one y)) in (
+      h.0,
+      numbered_more (k + one y) ys x h.1 (λ c. let n = e c in omega (arith, counts)),
+    )
+
 -- a scope with one more variable
 abbrev pub with_one : NamedVariable → Scope → Scope
 with_one x g = record g { variables = g.variables ++ x ∷ [] }
@@ -105,6 +127,7 @@ pub scalar_declared : (g : Scope) (m : TypedScope) → Scoped g m → (x : Named
     → Stands (with_scalar v m) x → Scoped (with_one x g) (with_scalar v m)
 scalar_declared g m h x v sort stands =
     let s = h.scalars in let c = h.containers in let i = h.iterators in record {
+      numbered = numbered_more 0 g.variables x h.numbered (λ e. let other : is_container_variable x ≡ false = rw sort refl in absurd cc);
       matches = record {
         variables = all_append (Stands (with_scalar v m)) g.variables (x ∷ [])
             (all_follow (Stands m) (Stands (with_scalar v m)) (λ y. scalar_more m v y.number y.variable_type) g.variables h.matches.variables)
@@ -118,9 +141,10 @@ scalar_declared g m h x v sort stands =
 
 -- a container does
 pub container_declared : (g : Scope) (m : TypedScope) → Scoped g m → (x : NamedVariable) (v : ExprType) → sort_of x.variable_type ≡ containers
-    → Stands (with_container v m) x → Scoped (with_one x g) (with_container v m)
-container_declared g m h x v sort stands =
+    → x.number ≡ count_of containers g → Stands (with_container v m) x → Scoped (with_one x g) (with_container v m)
+container_declared g m h x v sort number stands =
     let s = h.scalars in let c = h.containers in let i = h.iterators in record {
+      numbered = numbered_more 0 g.variables x h.numbered (λ e. number ∙ sym (zero-add (count_of containers g)));
       matches = record {
         variables = all_append (Stands (with_container v m)) g.variables (x ∷ [])
             (all_follow (Stands m) (Stands (with_container v m)) (λ y. container_more m v y.number y.variable_type) g.variables h.matches.variables)
@@ -137,6 +161,7 @@ pub iterator_declared : (g : Scope) (m : TypedScope) → Scoped g m → (x : Nam
     → Stands (with_iterator v m) x → Scoped (with_one x g) (with_iterator v m)
 iterator_declared g m h x v sort stands =
     let s = h.scalars in let c = h.containers in let i = h.iterators in record {
+      numbered = numbered_more 0 g.variables x h.numbered (λ e. let other : is_container_variable x ≡ false = rw sort refl in absurd cc);
       matches = record {
         variables = all_append (Stands (with_iterator v m)) g.variables (x ∷ [])
             (all_follow (Stands m) (Stands (with_iterator v m)) (λ y. iterator_more m v y.number y.variable_type) g.variables h.matches.variables)
@@ -173,7 +198,7 @@ pub declared : (g : Scope) (m : TypedScope) → Scoped g m → (name : Option (L
 declared g m h name label (types.Scalar r) v w =
     scalar_declared g m h _ v refl (variable_last m.scalars v _ h.scalars ∙ w)
 declared g m h name label (types.Container access form) v w =
-    container_declared g m h _ v refl (record { typed = variable_last m.containers v _ h.containers ∙ w.0; whole = w.1 })
+    container_declared g m h _ v refl refl (record { typed = variable_last m.containers v _ h.containers ∙ w.0; whole = w.1 })
 declared g m h name label (types.Iterator b form) v w =
     iterator_declared g m h _ v refl (variable_last m.iterators v _ h.iterators ∙ w)
 declared g m h name label (types.IntReference b) v w =
