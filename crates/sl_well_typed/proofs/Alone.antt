@@ -135,7 +135,7 @@ method_is_lone m (types.EntryReference w) o at site k names es h pair = absurd (
 method_is_lone m u o at site k names es h pair = refl
 
 -- beside what isn't asked for
-plainly : (b : Bool) → (b && true) ≡ false → b ≡ false
+pub plainly : (b : Bool) → (b && true) ≡ false → b ≡ false
 plainly true h = absurd cc
 plainly false h = refl
 

@@ -33,3 +33,4 @@ pub mod Declared
 -- ## Effects and conditions
 pub mod Assignments
 pub mod Apart
+pub mod OwnElements
