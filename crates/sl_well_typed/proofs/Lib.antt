@@ -34,3 +34,4 @@ pub mod Declared
 pub mod Assignments
 pub mod Apart
 pub mod OwnElements
+pub mod Others
