@@ -35,3 +35,6 @@ pub mod Assignments
 pub mod Apart
 pub mod OwnElements
 pub mod Others
+pub mod Effects
+-- ## Statements
+pub mod Behind
