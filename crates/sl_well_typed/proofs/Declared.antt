@@ -97,7 +97,7 @@ auto_scope g m here name label (types.Iterator b form) d h k = declared g m here
 auto_scope g m here name label u d h k = absurd cc
 
 -- what is written through a reference may be
-head_may : (head : ReferenceHead) (w x : Bool) → (w ≡ true → x ≡ true) → head_frees_const head w ≡ false → head_writes head w ≡ true → x ≡ true
+pub head_may : (head : ReferenceHead) (w x : Bool) → (w ≡ true → x ≡ true) → head_frees_const head w ≡ false → head_writes head w ≡ true → x ≡ true
 head_may head true x h k e = h refl
 head_may head false x h k e =
     let writes : (head_writes head false && true) ≡ true = rw e refl in absurd cc

@@ -38,3 +38,4 @@ pub mod Others
 pub mod Effects
 -- ## Statements
 pub mod Behind
+pub mod Range

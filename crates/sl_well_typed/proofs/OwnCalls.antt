@@ -65,7 +65,7 @@ container_goes a.Elements form (types.Container a.Elements x) v h k const = absu
 container_goes access form u v h k const = absurd cc
 
 -- an iterator is
-iterator_goes : (b : Bool) (form : Form) (u v : ExprType) → Reads u v → goes_into b form u ≡ true → goes_into b form v ≡ true
+pub iterator_goes : (b : Bool) (form : Form) (u v : ExprType) → Reads u v → goes_into b form u ≡ true → goes_into b form v ≡ true
 iterator_goes b form (types.Iterator c x) v h k = rw h k
 iterator_goes b form u v h k = absurd cc
 
