@@ -39,3 +39,5 @@ pub mod Effects
 -- ## Statements
 pub mod Behind
 pub mod Range
+pub mod Places
+pub mod Statements
