@@ -41,3 +41,6 @@ pub mod Behind
 pub mod Range
 pub mod Places
 pub mod Statements
+-- ## Functions and programs
+pub mod Parameters
+pub mod Functions
