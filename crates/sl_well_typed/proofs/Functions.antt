@@ -114,7 +114,7 @@ function_meets u g f heads kept small =
     (and_from (has_type (type_given k)) (is_within m) (result_has_type f.result) here.within) body
 
 -- the functions that are known behind one
-known_behind : (g : Context) (f : Function) → (after_function g f).scope.functions ≡ g.scope.functions ++ head_of g f ∷ []
+pub known_behind : (g : Context) (f : Function) → (after_function g f).scope.functions ≡ g.scope.functions ++ head_of g f ∷ []
 known_behind g f = items_functions (in_function g f) f.items ∙ parameters_functions (before_parameters g f) f.params
 
 -- the head of a function that stands in the typed text
@@ -170,7 +170,7 @@ main_is_there (h ∷ fs) (suc n) f e k =
     ] k
 
 -- the parts of a program's rules
-program_kept : (p : Program) → program_faults p ≡ [] → (functions_faults start p ≡ []) × (list_any is_main p ≡ true)
+pub program_kept : (p : Program) → program_faults p ≡ [] → (functions_faults start p ≡ []) × (list_any is_main p ≡ true)
 unfolding program_faults
 program_kept p none =
     let both = none_in_both (functions_faults start p) (broken (not (list_any is_main p)) first_place rule.NO_MAIN) none in

@@ -44,3 +44,4 @@ pub mod Statements
 -- ## Functions and programs
 pub mod Parameters
 pub mod Functions
+pub mod Main
