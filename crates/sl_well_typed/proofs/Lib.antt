@@ -45,3 +45,6 @@ pub mod Statements
 pub mod Parameters
 pub mod Functions
 pub mod Main
+-- ## Literals
+pub mod Constants
+pub mod LiteralNodes
