@@ -48,3 +48,4 @@ pub mod Main
 -- ## Literals
 pub mod Constants
 pub mod LiteralNodes
+pub mod LiteralStatements
