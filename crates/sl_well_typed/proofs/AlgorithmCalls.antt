@@ -1,9 +1,9 @@
 -- A call of an algorithm means a row of the table: `back_inserter`, `advance`, or another one, which appends or doesn't.
-use Rattle.std.proofs.Common.{◌≡◌, ℕ, Bool, true, false, not, ◌&&◌, ◌||◌, List, [], ◌∷◌, length, take, drop, map, Option, Some, None, refl, ap, sym, subst, ◌∙◌}
-use Rattle.std.specs.Prelude.{is_none, nat_le, codes, if◌then◌else◌}
-use Rattle.std.specs.List.{list_any, sum}
+use Rattle.std.proofs.Common.{◌≡◌, ℕ, Bool, true, false, not, ◌&&◌, List, [], ◌∷◌, length, Option, Some, None, refl, ap, sym, subst, ◌∙◌}
+use Rattle.std.specs.Prelude.{is_none, codes, if◌then◌else◌}
+use Rattle.std.specs.List.{list_any}
 use Rattle.std.specs.Str.{bytes_eq}
-use Rattle.std.proofs.lemmas.Bool.{and_parts, or_parts, not-true, not-false, cond_both}
+use Rattle.std.proofs.lemmas.Bool.{and_parts, not-true, not-false, cond_both}
 use Rattle.std.proofs.lemmas.Slice.Eq.{bytes_eq-Decides}
 use Rattle.sl_base.specs.declared.form.Form.TheVariants as f
 use Rattle.sl_base.specs.declared.place.Place.{Place}
@@ -26,24 +26,23 @@ use Rattle.sl_typing.specs.declared.expr_type.ExprType.{ExprType}
 use Rattle.sl_typing.specs.declared.expr_type.ExprType.TheVariants as types
 use Rattle.sl_typing.specs.declared.scope.Scope.{Scope}
 use Rattle.sl_typing.specs.Types.{is_iterator}
-use Rattle.sl_typing.specs.Signatures.{one, first_type, result_type, row_at, is_algorithm, is_output, appending}
-use Rattle.sl_typing.specs.Arguments.{takes_count, is_sequence, letters_take, letters_seen, letters_write_const, letters_are_weak}
+use Rattle.sl_typing.specs.Signatures.{result_type, row_at, is_algorithm, is_output}
+use Rattle.sl_typing.specs.Arguments.{takes_count, letters_take, letters_seen, letters_write_const, letters_are_weak}
 use Rattle.sl_typing.specs.Candidates.{Found, is_called, is_candidate, is_named, algorithm_row, has_output, end_in_output}
 use Rattle.sl_typing.specs.TypeOf.{size, are_none, appends, end_in_appender, algorithm_gives, algorithm_type, type_of, types_of}
-use Rattle.sl_typing.specs.Looks.{is_plain}
 use Rattle.sl_typing.specs.WrongType.{first_is_plain, fits_algorithm}
 use Rattle.sl_typing.specs.Rules.{algorithm_writes_const, algorithm_is_weak}
-use Rattle.sl_typing.specs.Numbering.{Way, as_it_is, ways, head, number_in, first_operand, other_operands, called_algorithm, letters_of, typed, operands}
+use Rattle.sl_typing.specs.Numbering.{Way, ways, head, number_in, first_operand, other_operands, called_algorithm, letters_of, typed, operands}
 use Rattle.sl_model.specs.Typing.WellTypedScopes.{Scope as TypedScope, variable_type}
 use Rattle.sl_model.specs.Typing.WellTypedCalls.{fits, is_advance}
 use Rattle.sl_model.specs.Typing.WellTypedExpressions.{type_of as type_in, type_of_left, types_of as types_in}
 use Rattle.sl_well_typed.proofs.Matching.{Meets}
 use Rattle.sl_well_typed.proofs.Numbers.{only_at}
 use Rattle.sl_well_typed.proofs.Steps.{IsNamed}
-use Rattle.sl_well_typed.proofs.Rows.{IsSomeRow, found_row, some_row, has_name, is_algorithm_fine, is_output_fine, is_output_given, output_names}
+use Rattle.sl_well_typed.proofs.Rows.{found_row, some_row, has_name, output_names}
 use Rattle.sl_well_typed.proofs.Rows.{gives_fitting, gives_output, moves_iterator, gives_container}
 use Rattle.sl_well_typed.proofs.Letters.{AllGiven, letters_fit}
-use Rattle.sl_well_typed.proofs.Arguments.{IsTyped, AreTyped, arguments_given, first_is_typed}
+use Rattle.sl_well_typed.proofs.Arguments.{AreTyped, arguments_given, first_is_typed}
 use Rattle.sl_well_typed.proofs.MemberCalls.{counted_no_list}
 use Rattle.sl_well_typed.proofs.Algorithms.{IsAlgorithmRow, algorithm_row_is, plain_meets, appending_meets, ways_seen, none_seen_is_list}
 

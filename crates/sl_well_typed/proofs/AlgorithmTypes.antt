@@ -1,6 +1,6 @@
 -- What an algorithm gives is a number, an iterator, a container or nothing.
-use Rattle.std.proofs.Common.{◌≡◌, ℕ, Bool, true, false, not, ◌&&◌, List, [], ◌∷◌, length, take, drop, map, Option, Some, None, refl, sym, subst, ap}
-use Rattle.std.specs.Prelude.{is_none, codes, if◌then◌else◌}
+use Rattle.std.proofs.Common.{◌≡◌, ℕ, Bool, true, false, not, ◌&&◌, List, [], ◌∷◌, length, take, drop, Option, Some, None, refl}
+use Rattle.std.specs.Prelude.{is_none, codes}
 use Rattle.std.specs.Str.{bytes_eq}
 use Rattle.std.proofs.lemmas.Bool.{and_parts, not-true, cases_Bool}
 use Rattle.std.proofs.Common.{⊎_elim}
@@ -18,7 +18,7 @@ use Rattle.sl_typing.specs.declared.expr_type.ExprType.TheVariants as types
 use Rattle.sl_typing.specs.declared.scope.Scope.{Scope}
 use Rattle.sl_typing.specs.Types.{is_iterator, is_int_iterator}
 use Rattle.sl_typing.specs.Signatures.{one, range, first_type, last_type}
-use Rattle.sl_typing.specs.Arguments.{is_sequence, letters_take, letters_seen}
+use Rattle.sl_typing.specs.Arguments.{letters_take, letters_seen}
 use Rattle.sl_typing.specs.Candidates.{Found, is_candidate, algorithm_row}
 use Rattle.sl_typing.specs.TypeOf.{appends, algorithm_gives, algorithm_type, types_of}
 use Rattle.sl_typing.specs.WrongType.{first_is_plain, fits_algorithm}

@@ -1,46 +1,32 @@
 -- Calls of algorithms, of `advance` and of `back_inserter`.
-use Rattle.std.proofs.Common.{◌≡◌, ℕ, Bool, true, false, not, ◌&&◌, ◌||◌, List, [], ◌∷◌, ◌++◌, length, take, drop, map, Option, Some, None, refl, ap, sym, subst, ◌∙◌}
-use Rattle.std.specs.Prelude.{is_none, codes, if◌then◌else◌}
+use Rattle.std.proofs.Common.{◌≡◌, ℕ, Bool, true, false, ◌&&◌, List, [], ◌∷◌, ◌++◌, take, drop, map, Option, Some, None, refl, ap}
 use Rattle.std.specs.List.{list_any}
-use Rattle.std.specs.Str.{bytes_eq}
-use Rattle.std.proofs.lemmas.Bool.{and_parts, or_parts, not-true, not-false, cond_both, cases_Bool}
-use Rattle.std.proofs.lemmas.Slice.Eq.{bytes_eq-Decides}
-use Rattle.std.proofs.Common.{⊎_elim}
+use Rattle.std.proofs.lemmas.Bool.{and_parts}
 use Rattle.sl_base.specs.declared.form.Form.{Form}
 use Rattle.sl_base.specs.declared.form.Form.TheVariants as f
 use Rattle.sl_base.specs.declared.place.Place.{Place}
-use Rattle.sl_specs.specs.declared.call.Call.TheVariants as c
 use Rattle.sl_specs.specs.declared.letter.Letter.{Letter}
 use Rattle.sl_specs.specs.declared.letter.Letter.TheVariants as l
 use Rattle.sl_specs.specs.declared.return_type.ReturnType.{ReturnType}
 use Rattle.sl_specs.specs.declared.return_type.ReturnType.TheVariants as r
-use Rattle.sl_specs.specs.Forms.{same_object}
 use Rattle.sl_specs.specs.Rows.{Row}
-use Rattle.sl_specs.specs.Table.{table, same_call}
-use Rattle.sl_specs.specs.Texts.{call_text}
 use Rattle.sl_syntax.specs.declared.typed.callee.Callee.TheVariants as callees
-use Rattle.sl_syntax.specs.declared.typed.step.Fix.TheVariants as fixes
-use Rattle.sl_syntax.specs.Tree as s
-use Rattle.sl_syntax.specs.Tree.{Exprs}
 use Rattle.sl_syntax.specs.Typed as t
 use Rattle.sl_syntax.specs.Typed.{Operands}
 use Rattle.sl_typing.specs.declared.expr_type.ExprType.{ExprType}
 use Rattle.sl_typing.specs.declared.expr_type.ExprType.TheVariants as types
-use Rattle.sl_typing.specs.declared.scope.Scope.{Scope}
 use Rattle.sl_typing.specs.Types.{is_iterator, is_int_iterator}
 use Rattle.sl_typing.specs.Signatures.{one, range, first_type, last_type, result_type, row_at, is_algorithm, is_output, appending}
-use Rattle.sl_typing.specs.Arguments.{takes_list, takes_count, is_sequence, letters_take, letters_seen, letters_write_const, letters_are_weak}
-use Rattle.sl_typing.specs.Candidates.{Found, is_called, is_candidate, is_named, algorithm_row, has_output, end_in_output}
-use Rattle.sl_typing.specs.TypeOf.{size, are_none, appends, end_in_appender, algorithm_gives, algorithm_type, types_of}
-use Rattle.sl_typing.specs.Numbering.{Way, as_it_is, letter_ways, ways, head, number_in, first_operand, other_operands, called_algorithm, letters_of, operands}
-use Rattle.sl_model.specs.Typing.WellTypedScopes.{Scope as TypedScope, variable_type}
-use Rattle.sl_model.specs.Typing.WellTypedCalls.{fits, is_advance, call_type}
-use Rattle.sl_model.specs.Typing.WellTypedExpressions.{type_of as type_in, type_of_left, types_of as types_in}
-use Rattle.sl_well_typed.proofs.Matching.{Meets, Reads}
-use Rattle.sl_well_typed.proofs.Rows.{IsRow, IsSomeRow, found_row, some_row, has_name, row_is_fine, is_member_fine, is_subscript_fine, is_algorithm_fine}
-use Rattle.sl_well_typed.proofs.Rows.{is_output_fine, is_output_given, output_names, begin_with_iterator, are_output, gives_fitting, gives_output, moves_iterator}
-use Rattle.sl_well_typed.proofs.Rows.{gives_container}
-use Rattle.sl_well_typed.proofs.Letters.{AllGiven, iterator_read, int_is_iterator, first_end, letters_fit}
+use Rattle.sl_typing.specs.Arguments.{takes_list, letters_take, letters_seen}
+use Rattle.sl_typing.specs.Candidates.{Found}
+use Rattle.sl_typing.specs.Numbering.{Way, as_it_is, letter_ways, ways, head}
+use Rattle.sl_model.specs.Typing.WellTypedScopes.{Scope as TypedScope}
+use Rattle.sl_model.specs.Typing.WellTypedCalls.{fits, is_advance}
+use Rattle.sl_model.specs.Typing.WellTypedExpressions.{types_of as types_in}
+use Rattle.sl_well_typed.proofs.Matching.{Meets}
+use Rattle.sl_well_typed.proofs.Rows.{row_is_fine, is_member_fine, is_subscript_fine, is_algorithm_fine}
+use Rattle.sl_well_typed.proofs.Rows.{is_output_fine, is_output_given, begin_with_iterator, are_output, gives_fitting}
+use Rattle.sl_well_typed.proofs.Letters.{AllGiven, iterator_read, int_is_iterator, first_end}
 use Rattle.sl_well_typed.proofs.Calls.{is_value, value_meets}
 
 -- what is known of the row of an algorithm

@@ -1,18 +1,15 @@
 -- What stands as no part of anything gives a value that may stand alone: no pair of iterators, and no element of a map.
-use Rattle.std.proofs.Common.{◌≡◌, ℕ, ◌+◌, ◌==◌, Bool, true, false, not, ◌&&◌, ◌||◌, List, [], ◌∷◌, Option, Some, None, refl, sym, subst, ap}
-use Rattle.std.specs.Prelude.{is_none, slice_get, if◌then◌else◌}
-use Rattle.std.proofs.lemmas.Bool.{and_parts, or_parts, not-true, not-false, both_ways}
-use Rattle.sl_base.specs.declared.form.Form.{Form}
+use Rattle.std.proofs.Common.{◌≡◌, ℕ, ◌==◌, Bool, true, false, not, ◌&&◌, List, [], Option, Some, None, refl, ap}
+use Rattle.std.specs.Prelude.{slice_get}
+use Rattle.std.proofs.lemmas.Bool.{and_parts, or_parts, not-false, both_ways}
 use Rattle.sl_base.specs.declared.place.Place.{Place}
 use Rattle.sl_specs.specs.declared.return_type.ReturnType.{ReturnType}
 use Rattle.sl_specs.specs.declared.return_type.ReturnType.TheVariants as r
 use Rattle.sl_syntax.specs.declared.operator.Access.TheVariants as a
 use Rattle.sl_syntax.specs.declared.operator.BinaryOperator.{BinaryOperator}
 use Rattle.sl_syntax.specs.declared.operator.BinaryOperator.TheVariants as b
-use Rattle.sl_syntax.specs.declared.operator.PostfixOperator.TheVariants as q
 use Rattle.sl_syntax.specs.declared.operator.PrefixOperator.TheVariants as p
 use Rattle.sl_syntax.specs.declared.operator.Selector.TheVariants as l
-use Rattle.sl_syntax.specs.declared.typed.element.ElementPart.TheVariants as parts
 use Rattle.sl_syntax.specs.declared.typed.head.Head.{Head}
 use Rattle.sl_syntax.specs.declared.typed.parameter.ParameterKind.{ParameterKind}
 use Rattle.sl_syntax.specs.declared.typed.parameter.ParameterKind.TheVariants as parameters
@@ -30,14 +27,14 @@ use Rattle.sl_typing.specs.Scopes.{type_of_name, number_of_name}
 use Rattle.sl_typing.specs.TypeOf.{appends, algorithm_type, type_of_use, element_at, binary_type, arithmetic_type, subscript_type, part_type, arrow_type, is_first}
 use Rattle.sl_typing.specs.TypeOf.{type_of, types_of}
 use Rattle.sl_typing.specs.Looks.{is_left_side}
-use Rattle.sl_typing.specs.WrongType.{can_step, is_entry, fits_member, fits_algorithm, is_iterator_pair, is_before_part, wrong_type}
+use Rattle.sl_typing.specs.WrongType.{can_step, is_entry, fits_member, fits_algorithm, is_iterator_pair, wrong_type}
 use Rattle.sl_typing.specs.Faults.{faults}
 use Rattle.sl_typing.specs.Numbering.{row_call, called_row, row_of_member, typed, operands}
 use Rattle.sl_model.specs.Typing.WellTypedScopes.{Scope as TypedScope}
 use Rattle.sl_model.specs.Typing.WellTypedExpressions.{type_of as type_in, type_of_left, types_of as types_in, function_type, own_type, type_given}
 use Rattle.sl_model.specs.Typing.WellTypedStatements.{may_stand_alone}
 use Rattle.sl_well_typed.proofs.Parts.{name_kept, library_call_kept, parentheses_kept, prefix_kept, postfix_kept, member_call_kept}
-use Rattle.sl_well_typed.proofs.Matching.{is_for_elements, Meets, IsVariable, Matches, IsEntry}
+use Rattle.sl_well_typed.proofs.Matching.{Meets, IsVariable, Matches, IsEntry}
 use Rattle.sl_well_typed.proofs.Names.{named_stands}
 use Rattle.sl_well_typed.proofs.AlgorithmTypes.{stands_alone, algorithm_stands}
 

@@ -1,11 +1,7 @@
 -- Two names of one container are one name.
 use Rattle.std.proofs.Common.{◌≡◌, ℕ, ◌+◌, ◌≤◌, Bool, true, false, cond, List, [], ◌∷◌, reverse, Option, Some, None, refl, sym, subst, ap, arith, ◌∙◌, ◌⊎◌, inl, inr}
-use Rattle.std.proofs.Common.{⊎_elim}
-use Rattle.std.specs.Prelude.{find, is_none}
 use Rattle.std.specs.Str.{bytes_eq}
 use Rattle.std.proofs.lemmas.Slice.Eq.{bytes_eq-Decides}
-use Rattle.sl_base.specs.declared.form.Form.{Form}
-use Rattle.sl_syntax.specs.declared.operator.Access.{Access}
 use Rattle.sl_typing.specs.declared.expr_type.ExprType.{ExprType}
 use Rattle.sl_typing.specs.declared.expr_type.ExprType.TheVariants as types
 use Rattle.sl_typing.specs.declared.scope.NamedVariable.{NamedVariable}

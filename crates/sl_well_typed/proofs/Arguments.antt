@@ -1,16 +1,15 @@
 -- The arguments of a call, as they are handed over.
-use Rattle.std.proofs.Common.{◌≡◌, ℕ, ◌+◌, Bool, true, false, List, [], ◌∷◌, length, refl, arith}
+use Rattle.std.proofs.Common.{◌≡◌, ℕ, ◌+◌, true, false, List, ◌∷◌, length, refl, arith}
 use Rattle.sl_syntax.specs.Tree as s
 use Rattle.sl_syntax.specs.Tree.{Expr, Exprs}
 use Rattle.sl_syntax.specs.Typed as t
 use Rattle.sl_typing.specs.declared.expr_type.ExprType.{ExprType}
 use Rattle.sl_typing.specs.declared.scope.Scope.{Scope}
-use Rattle.sl_typing.specs.Types.{is_number}
 use Rattle.sl_typing.specs.Signatures.{first_type}
 use Rattle.sl_typing.specs.TypeOf.{size, are_none, type_of, types_of}
 use Rattle.sl_typing.specs.Looks.{is_plain}
 use Rattle.sl_typing.specs.Sites.{site_count}
-use Rattle.sl_typing.specs.Numbering.{Way, as_it_is, as_number, as_variable, first_way, other_ways, handed, first_operand, other_operands, typed, operands}
+use Rattle.sl_typing.specs.Numbering.{Way, as_it_is, as_number, as_variable, first_way, other_ways, handed, first_operand, typed, operands}
 use Rattle.sl_model.specs.Typing.WellTypedScopes.{Scope as TypedScope}
 use Rattle.sl_model.specs.Typing.WellTypedExpressions.{type_of as type_in, type_of_left, types_of as types_in}
 use Rattle.sl_well_typed.proofs.Matching.{Meets, meets_reads}

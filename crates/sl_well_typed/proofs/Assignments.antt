@@ -1,9 +1,8 @@
 -- Assignments: of a container, of an iterator, of a number.
-use Rattle.std.proofs.Common.{◌≡◌, ℕ, ◌+◌, Bool, true, false, not, ◌&&◌, ◌||◌, List, [], ◌∷◌, Option, Some, None, refl, sym, subst}
-use Rattle.std.specs.Prelude.{is_none, slice_get}
+use Rattle.std.proofs.Common.{◌≡◌, ℕ, Bool, true, false, not, ◌&&◌, ◌||◌, List, [], ◌∷◌, Option, Some, None, refl}
+use Rattle.std.specs.Prelude.{is_none}
 use Rattle.std.specs.List.{list_all}
-use Rattle.std.proofs.lemmas.Bool.{and_parts, and_from, or_cases, or_parts, not-false, not-true}
-use Rattle.std.proofs.Common.{⊎_elim}
+use Rattle.std.proofs.lemmas.Bool.{and_parts, not-false}
 use Rattle.sl_base.specs.declared.form.Form.{Form}
 use Rattle.sl_base.specs.declared.place.Place.{Place}
 use Rattle.sl_base.specs.declared.scalar.Scalar.{Scalar}
@@ -14,7 +13,7 @@ use Rattle.sl_specs.specs.declared.letter.Letter.{Letter}
 use Rattle.sl_specs.specs.declared.letter.Letter.TheVariants as l
 use Rattle.sl_specs.specs.declared.return_type.ReturnType.{ReturnType}
 use Rattle.sl_specs.specs.declared.return_type.ReturnType.TheVariants as r
-use Rattle.sl_specs.specs.Forms.{same_form, same_object, is_random_access}
+use Rattle.sl_specs.specs.Forms.{same_object, is_random_access}
 use Rattle.sl_specs.specs.Rows.{Row}
 use Rattle.sl_specs.specs.Table.{table, same_call}
 use Rattle.sl_syntax.specs.declared.operator.Access.{Access}
@@ -23,29 +22,27 @@ use Rattle.sl_syntax.specs.declared.operator.Arithmetic.{Arithmetic}
 use Rattle.sl_syntax.specs.declared.operator.Arithmetic.TheVariants as o
 use Rattle.sl_syntax.specs.declared.operator.Assignment.{Assignment}
 use Rattle.sl_syntax.specs.declared.operator.Assignment.TheVariants as assignments
-use Rattle.sl_syntax.specs.declared.typed.callee.Callee.TheVariants as callees
 use Rattle.sl_syntax.specs.Typed as t
 use Rattle.sl_typing.specs.declared.expr_type.ExprType.{ExprType}
 use Rattle.sl_typing.specs.declared.expr_type.ExprType.TheVariants as types
-use Rattle.sl_typing.specs.Types.{is_const, is_scalar, is_number, is_element, is_iterator, is_arithmetic, same_iterators, same_containers, is_container_of, scalar_of, common}
+use Rattle.sl_typing.specs.Types.{is_const, is_number, is_element, same_iterators, same_containers, is_container_of, scalar_of, common}
 use Rattle.sl_typing.specs.Types.{is_const_container}
-use Rattle.sl_typing.specs.Signatures.{result_type, row_at, is_constructor}
+use Rattle.sl_typing.specs.Signatures.{result_type}
 use Rattle.sl_typing.specs.Candidates.{Found, is_row_of, assignment_row}
-use Rattle.sl_typing.specs.WrongType.{both_numbers, takes_value, is_sum}
+use Rattle.sl_typing.specs.WrongType.{takes_value, is_sum}
 use Rattle.sl_typing.specs.Rules.{is_const_element, is_not_random}
-use Rattle.sl_typing.specs.Numbering.{converted, number_in, left_of, head, one, row_call}
+use Rattle.sl_typing.specs.Numbering.{converted, number_in, left_of, one}
 use Rattle.sl_typing.specs.StatementNumbering.{assigned_container, set, updated, assigned}
 use Rattle.sl_model.specs.Typing.WellTypedScopes.{Scope as TypedScope, variable_type, works_in}
-use Rattle.sl_model.specs.Typing.WellTypedCalls.{fits, may_be_called}
+use Rattle.sl_model.specs.Typing.WellTypedCalls.{fits}
 use Rattle.sl_model.specs.Typing.WellTypedExpressions.{type_of as type_in, type_of_left, types_of as types_in}
-use Rattle.sl_model.specs.Typing.WellTypedStatements.{assigns_others, may_stand_alone, is_typed_effect}
+use Rattle.sl_model.specs.Typing.WellTypedStatements.{is_typed_effect}
 use Rattle.sl_model.proofs.Passing.{passes_at}
-use Rattle.sl_well_typed.proofs.Matching.{is_for_elements, Meets}
+use Rattle.sl_well_typed.proofs.Matching.{Meets}
 use Rattle.sl_well_typed.proofs.Numbers.{converted_scalar, common_is_arithmetic, scalar_is_itself}
 use Rattle.sl_well_typed.proofs.Steps.{IsNamed}
 use Rattle.sl_well_typed.proofs.Rows.{found_row}
-use Rattle.sl_well_typed.proofs.Calls.{access_allows}
-use Rattle.sl_well_typed.proofs.MemberCalls.{IsMemberRow, member_row_is, container_there}
+use Rattle.sl_well_typed.proofs.MemberCalls.{member_row_is, container_there}
 use Rattle.sl_well_typed.proofs.Making.{is_assigned}
 
 -- a container, and nothing is given

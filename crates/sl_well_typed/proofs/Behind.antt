@@ -4,7 +4,7 @@ use Rattle.sl_syntax.specs.Tree as s
 use Rattle.sl_syntax.specs.Tree.{Expr, Out, Effect, Cond, Stmt}
 use Rattle.sl_typing.specs.Contexts.{Context, started}
 use Rattle.sl_typing.specs.Sites.{behind}
-use Rattle.sl_typing.specs.Flow.{behind_value, behind_out, behind_outs, behind_effect, behind_cond, behind_test, behind_last, after, after_item, after_items}
+use Rattle.sl_typing.specs.Flow.{behind_value, behind_outs, behind_effect, behind_cond, behind_test, behind_last, after, after_item, after_items}
 
 pub value_scope : (g : Context) (v : Option Expr) → (behind_value g v).scope ≡ g.scope
 value_scope g None = refl

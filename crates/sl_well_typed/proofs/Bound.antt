@@ -1,9 +1,8 @@
 -- What a reference is bound to is an element that a call gives; and which expressions stand alone.
-use Rattle.std.proofs.Common.{◌≡◌, ℕ, ◌+◌, Bool, true, false, not, ◌&&◌, ◌||◌, List, [], ◌∷◌, Option, Some, None, refl, sym, subst, ap}
-use Rattle.std.specs.Prelude.{is_none, if◌then◌else◌, codes}
+use Rattle.std.proofs.Common.{◌≡◌, ℕ, ◌+◌, Bool, true, false, not, ◌&&◌, List, [], ◌∷◌, Option, Some, None, refl}
+use Rattle.std.specs.Prelude.{is_none, codes}
 use Rattle.std.specs.Str.{bytes_eq}
 use Rattle.std.proofs.lemmas.Bool.{and_parts, or_parts, not-true, not-false, both_ways}
-use Rattle.sl_base.specs.declared.form.Form.{Form}
 use Rattle.sl_base.specs.declared.place.Place.{Place}
 use Rattle.sl_specs.specs.declared.return_type.ReturnType.{ReturnType}
 use Rattle.sl_specs.specs.declared.return_type.ReturnType.TheVariants as r
@@ -13,7 +12,6 @@ use Rattle.sl_syntax.specs.declared.operator.BinaryOperator.TheVariants as b
 use Rattle.sl_syntax.specs.declared.operator.PostfixOperator.TheVariants as q
 use Rattle.sl_syntax.specs.declared.operator.PrefixOperator.TheVariants as p
 use Rattle.sl_syntax.specs.declared.operator.Selector.TheVariants as l
-use Rattle.sl_syntax.specs.declared.tree.identifier.Identifier.{Identifier}
 use Rattle.sl_syntax.specs.declared.typed.head.Head.{Head}
 use Rattle.sl_syntax.specs.declared.typed.step.Fix.{Fix}
 use Rattle.sl_syntax.specs.declared.typed.step.Fix.TheVariants as fixes
@@ -29,7 +27,7 @@ use Rattle.sl_typing.specs.declared.expr_type.ExprType.TheVariants as types
 use Rattle.sl_typing.specs.declared.scope.Scope.{Scope}
 use Rattle.sl_typing.specs.declared.standing.Standing.{Standing}
 use Rattle.sl_typing.specs.Types.{is_element, is_container, is_number}
-use Rattle.sl_typing.specs.Candidates.{Found, member_row, subscript_row}
+use Rattle.sl_typing.specs.Candidates.{Found, member_row}
 use Rattle.sl_typing.specs.TypeOf.{appends, algorithm_type, type_of, types_of}
 use Rattle.sl_typing.specs.Looks.{is_plain, bare_name}
 use Rattle.sl_typing.specs.WrongType.{fits_member, fits_algorithm, second_may_be_element, is_iterator_pair, is_before_part, wrong_type}

@@ -1,20 +1,16 @@
 -- Declarations of containers.
-use Rattle.std.proofs.Common.{◌≡◌, ℕ, ◌+◌, ◌==◌, Bool, true, false, not, ◌&&◌, ◌||◌, List, [], ◌∷◌, ◌++◌, length, Option, Some, None, refl, sym, subst, ap, add-one, length-append, ◌∙◌}
-use Rattle.std.specs.Prelude.{is_none, ℤ, replicate}
+use Rattle.std.proofs.Common.{◌≡◌, ℕ, ◌+◌, ◌==◌, true, false, [], ◌∷◌, length, refl, sym, subst, add-one, length-append}
+use Rattle.std.specs.Prelude.{replicate}
 use Rattle.std.specs.List.{list_all}
-use Rattle.std.proofs.lemmas.Bool.{and_parts, and_from, or_cases, not-false, not-true}
-use Rattle.std.proofs.Common.{⊎_elim}
+use Rattle.std.proofs.lemmas.Bool.{and_parts, and_from, not-false}
 use Rattle.sl_base.specs.declared.form.Form.{Form}
-use Rattle.sl_base.specs.declared.place.Place.{Place}
 use Rattle.sl_base.specs.declared.limits.TheConstants.{LIST_ELEMENTS}
 use Rattle.sl_base.specs.declared.scalar.Scalar.TheVariants as c
 use Rattle.sl_specs.specs.Forms.{same_form}
 use Rattle.sl_syntax.specs.declared.operator.Access.{Access}
 use Rattle.sl_syntax.specs.declared.operator.Access.TheVariants as a
-use Rattle.sl_syntax.specs.declared.tree.identifier.Identifier.{Identifier}
 use Rattle.sl_syntax.specs.Tree as s
 use Rattle.sl_syntax.specs.Tree.{Expr, Exprs, Initializer}
-use Rattle.sl_syntax.specs.Typed as t
 use Rattle.sl_typing.specs.declared.expr_type.ExprType.{ExprType}
 use Rattle.sl_typing.specs.declared.expr_type.ExprType.TheVariants as types
 use Rattle.sl_typing.specs.declared.rules.TheConstants as rule
@@ -23,26 +19,26 @@ use Rattle.sl_typing.specs.declared.standing.Standing.TheVariants as standing
 use Rattle.sl_typing.specs.Types.{is_scalar, is_number, is_container_of}
 use Rattle.sl_typing.specs.Signatures.{elements, row_at}
 use Rattle.sl_typing.specs.Arguments.{is_listed}
-use Rattle.sl_typing.specs.Candidates.{Found, list_constructor, constructor_row}
+use Rattle.sl_typing.specs.Candidates.{list_constructor, constructor_row}
 use Rattle.sl_typing.specs.Scopes.{type_of_name, number_of_name}
 use Rattle.sl_typing.specs.TypeOf.{size, type_of, types_of}
 use Rattle.sl_typing.specs.Contexts.{Context}
 use Rattle.sl_typing.specs.Sites.{sites_in, site_count, behind}
 use Rattle.sl_typing.specs.Looks.{place_of}
 use Rattle.sl_typing.specs.Rules.{is_unknown_variable}
-use Rattle.sl_typing.specs.Faults.{broken, faults, faults_of_all}
+use Rattle.sl_typing.specs.Faults.{broken}
 use Rattle.sl_typing.specs.Literals.{literals, literals_of_all, literals_of_initializer}
-use Rattle.sl_typing.specs.StatementFaults.{expr_faults, name_faults, element_faults, initializer_faults, has_no_constructor, wrong_initializer}
-use Rattle.sl_typing.specs.Numbering.{Way, as_it_is, as_number, as_variable, first_way, ways, letters_of, handed, converted, typed, operands}
+use Rattle.sl_typing.specs.StatementFaults.{expr_faults, element_faults, initializer_faults, has_no_constructor, wrong_initializer}
+use Rattle.sl_typing.specs.Numbering.{Way, as_it_is, as_number, as_variable, first_way, ways, letters_of, converted, typed, operands}
 use Rattle.sl_typing.specs.StatementNumbering.{making_row, operands_in, number_of_row}
 use Rattle.sl_model.specs.Typing.WellTypedScopes.{Scope as TypedScope, variable_type}
 use Rattle.sl_model.specs.Typing.WellTypedCalls.{constructs}
 use Rattle.sl_model.specs.Typing.WellTypedExpressions.{type_of as type_in, type_of_left, types_of as types_in}
-use Rattle.sl_well_typed.proofs.Parts.{none_in_both, none_in_three, unbroken}
-use Rattle.sl_well_typed.proofs.Matching.{is_for_elements, IsVariable, Reads, Matches}
+use Rattle.sl_well_typed.proofs.Parts.{none_in_three, unbroken}
+use Rattle.sl_well_typed.proofs.Matching.{IsVariable, Reads, Matches}
 use Rattle.sl_well_typed.proofs.Numbers.{converted_scalar}
 use Rattle.sl_well_typed.proofs.Names.{named_stands}
-use Rattle.sl_well_typed.proofs.Letters.{Given, AllGiven}
+use Rattle.sl_well_typed.proofs.Letters.{Given}
 use Rattle.sl_well_typed.proofs.Arguments.{AreTyped, arguments_given}
 use Rattle.sl_well_typed.proofs.Expressions.{is_small, both_small, typed_is, expression_meets, arguments_meet}
 use Rattle.sl_well_typed.proofs.Making.{empty_is_made, copy_is_made, arguments_make, list_makes}

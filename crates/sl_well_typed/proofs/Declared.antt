@@ -1,9 +1,8 @@
 -- A declaration that breaks no rule is well typed, and brings the same variable into scope on both sides.
-use Rattle.std.proofs.Common.{◌≡◌, ℕ, ◌+◌, Bool, true, false, not, ◌&&◌, ◌||◌, List, [], ◌∷◌, ◌++◌, length, Option, Some, None, refl, sym, subst, ap, ◌∙◌, ltb, leb}
-use Rattle.std.specs.Prelude.{if◌then◌else◌, nat_le, nat_lt}
+use Rattle.std.proofs.Common.{◌≡◌, ℕ, Bool, true, false, not, ◌&&◌, ◌||◌, List, [], ◌++◌, length, Option, Some, None, refl, sym, subst, ap}
+use Rattle.std.specs.Prelude.{nat_le, nat_lt}
 use Rattle.std.specs.List.{list_all}
-use Rattle.std.proofs.lemmas.Bool.{and_parts, and_from, or_cases, or_parts, not-false, not-true, le-leb, ltb-false}
-use Rattle.std.proofs.Common.{⊎_elim}
+use Rattle.std.proofs.lemmas.Bool.{and_parts, and_from, or_parts, not-false, le-leb, ltb-false}
 use Rattle.sl_base.specs.declared.limits.TheConstants.{CONTAINERS, ITERATORS, SCALARS}
 use Rattle.sl_base.specs.declared.place.Place.{Place}
 use Rattle.sl_base.specs.declared.scalar.Scalar.{Scalar}
@@ -21,20 +20,19 @@ use Rattle.sl_typing.specs.declared.expr_type.ExprType.TheVariants as types
 use Rattle.sl_typing.specs.declared.rules.TheConstants as rule
 use Rattle.sl_typing.specs.declared.scope.Scope.{Scope}
 use Rattle.sl_typing.specs.declared.standing.Standing.TheVariants as standing
-use Rattle.sl_typing.specs.Types.{is_scalar, is_number, is_iterator, is_written, is_element, value_type, scalar_of}
-use Rattle.sl_typing.specs.Scopes.{scalars, containers, iterators, count_of, limit_of, passes_limit, passes_some_limit, with_variable}
+use Rattle.sl_typing.specs.Types.{is_number, is_iterator, is_written, is_element, value_type}
+use Rattle.sl_typing.specs.Scopes.{scalars, containers, iterators, count_of, passes_limit, passes_some_limit, with_variable}
 use Rattle.sl_typing.specs.TypeOf.{type_of}
 use Rattle.sl_typing.specs.Contexts.{Context}
-use Rattle.sl_typing.specs.Ranges.{is_auto, may_be_bound, head_writes, head_frees_const, reference_type}
-use Rattle.sl_typing.specs.Faults.{broken, faults}
-use Rattle.sl_typing.specs.Literals.{literals, literals_of_value, literals_of_initializer, literals_of_declaration}
+use Rattle.sl_typing.specs.Ranges.{may_be_bound, head_writes, head_frees_const, reference_type}
+use Rattle.sl_typing.specs.Faults.{broken}
+use Rattle.sl_typing.specs.Literals.{literals, literals_of_initializer, literals_of_declaration}
 use Rattle.sl_typing.specs.Flow.{behind_declaration}
 use Rattle.sl_typing.specs.StatementFaults.{expr_faults, twice_faults, limit_faults, value_faults, wrong_value, initializer_faults, has_no_constructor}
 use Rattle.sl_typing.specs.StatementFaults.{wrong_initializer, is_disordered, declaration_faults}
-use Rattle.sl_typing.specs.Numbering.{converted, typed}
-use Rattle.sl_typing.specs.StatementNumbering.{typed_expr, declared_auto, bound, making_row, operands_in, number_of_row, typed_declaration}
+use Rattle.sl_typing.specs.StatementNumbering.{typed_expr, declared_auto, bound, typed_declaration}
 use Rattle.sl_model.specs.Typing.WellTypedScopes.{Scope as TypedScope, is_within}
-use Rattle.sl_model.specs.Typing.WellTypedExpressions.{type_of as type_in, type_of_left, types_of as types_in}
+use Rattle.sl_model.specs.Typing.WellTypedExpressions.{type_of as type_in, type_of_left}
 use Rattle.sl_model.specs.Typing.WellTypedStatements.{is_typed_declaration, reference_to, behind as behind_typed}
 use Rattle.sl_well_typed.proofs.Parts.{none_in_both, none_in_three, unbroken}
 use Rattle.sl_well_typed.proofs.Matching.{Meets}

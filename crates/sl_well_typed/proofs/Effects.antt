@@ -1,5 +1,5 @@
 -- Effects and conditions that break no rule are well typed.
-use Rattle.std.proofs.Common.{◌≡◌, ℕ, ◌+◌, Bool, true, false, not, ◌&&◌, ◌||◌, List, [], ◌∷◌, ◌++◌, length, map, Option, Some, None, refl, sym, subst}
+use Rattle.std.proofs.Common.{◌≡◌, ℕ, true, false, not, ◌&&◌, List, [], ◌∷◌, ◌++◌, length, map, refl}
 use Rattle.std.specs.Prelude.{flat_map}
 use Rattle.std.specs.List.{list_all, list_any}
 use Rattle.std.proofs.lemmas.Bool.{and_parts, and_from, or_parts, not-false}
@@ -26,18 +26,18 @@ use Rattle.sl_typing.specs.Looks.{is_left_side}
 use Rattle.sl_typing.specs.Sites.{behind, is_assignment_site}
 use Rattle.sl_typing.specs.WrongType.{is_exactly, takes_value, wrong_assignment}
 use Rattle.sl_typing.specs.Rules.{is_unknown_variable, is_const_element, is_not_random, assigns_const, assigns_weaker}
-use Rattle.sl_typing.specs.Faults.{broken, faults}
-use Rattle.sl_typing.specs.Flow.{behind_out, behind_left}
+use Rattle.sl_typing.specs.Faults.{broken}
+use Rattle.sl_typing.specs.Flow.{behind_left}
 use Rattle.sl_typing.specs.Literals.{literals, literals_of_out, literals_of_effect, literals_of_cond}
-use Rattle.sl_typing.specs.StatementFaults.{expr_faults, name_faults, reads_int, read_faults, out_faults, outs_faults, wrong_out, site_faults, effect_faults}
+use Rattle.sl_typing.specs.StatementFaults.{expr_faults, name_faults, reads_int, read_faults, outs_faults, wrong_out, site_faults, effect_faults}
 use Rattle.sl_typing.specs.StatementFaults.{cond_faults, wrong_cond}
-use Rattle.sl_typing.specs.Numbering.{typed, told}
-use Rattle.sl_typing.specs.StatementNumbering.{typed_expr, read_numbers, typed_out, typed_outs, assignment_number, typed_effect, typed_cond}
+use Rattle.sl_typing.specs.Numbering.{told}
+use Rattle.sl_typing.specs.StatementNumbering.{typed_expr, read_numbers, typed_outs, assignment_number, typed_effect, typed_cond}
 use Rattle.sl_model.specs.Typing.WellTypedScopes.{Scope as TypedScope, variable_type}
 use Rattle.sl_model.specs.Typing.WellTypedExpressions.{type_of as type_in}
 use Rattle.sl_model.specs.Typing.WellTypedStatements.{may_stand_alone, assigns_others, are_ints, is_typed_cond, is_typed_item, is_typed_effect}
 use Rattle.sl_well_typed.proofs.Parts.{none_in_both, none_in_three, unbroken}
-use Rattle.sl_well_typed.proofs.Matching.{Meets, IsVariable, Matches}
+use Rattle.sl_well_typed.proofs.Matching.{Meets, IsVariable}
 use Rattle.sl_well_typed.proofs.Numbers.{meets_number}
 use Rattle.sl_well_typed.proofs.Names.{named_stands}
 use Rattle.sl_well_typed.proofs.Steps.{plain_is_named, left_side_is_plain}

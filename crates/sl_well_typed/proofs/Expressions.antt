@@ -1,5 +1,5 @@
 -- An expression that breaks no rule is well typed, with the type that typing says.
-use Rattle.std.proofs.Common.{◌≡◌, ℕ, ◌+◌, ◌≤◌, Bool, true, false, not, ◌&&◌, ◌||◌, List, [], ◌∷◌, ◌++◌, Option, Some, None, refl, sym, subst, ◌∙◌, arith, leb}
+use Rattle.std.proofs.Common.{◌≡◌, ℕ, ◌+◌, Bool, true, false, not, ◌&&◌, List, [], ◌∷◌, ◌++◌, None, refl, sym, ◌∙◌, arith, leb}
 use Rattle.std.specs.Prelude.{ℤ, pos, int_le}
 use Rattle.std.specs.List.{list_all}
 use Rattle.std.proofs.lemmas.List.Folds.{list_all-append}
@@ -18,29 +18,28 @@ use Rattle.sl_syntax.specs.declared.typed.step.Fix.TheVariants as fixes
 use Rattle.sl_syntax.specs.declared.typed.step.Step.TheVariants as steps
 use Rattle.sl_syntax.specs.Tree as s
 use Rattle.sl_syntax.specs.Tree.{Expr, Exprs}
-use Rattle.sl_syntax.specs.Typed as t
 use Rattle.sl_typing.specs.declared.scope.Scope.{Scope}
 use Rattle.sl_typing.specs.declared.standing.Standing.{Standing}
 use Rattle.sl_typing.specs.declared.standing.Standing.TheVariants as standing
 use Rattle.sl_typing.specs.declared.expr_type.ExprType.TheVariants as types
 use Rattle.sl_typing.specs.Types.{is_number, is_container, is_int_iterator}
 use Rattle.sl_typing.specs.TypeOf.{is_first, type_of, types_of}
-use Rattle.sl_typing.specs.Looks.{is_plain, is_left_side}
+use Rattle.sl_typing.specs.Looks.{is_left_side}
 use Rattle.sl_typing.specs.Sites.{site_count, site_number, inside}
 use Rattle.sl_typing.specs.WrongType.{can_step, fits_binary, fits_selector, fits_call, fits_member, fits_algorithm, is_before_part, is_iterator_pair, wrong_type}
 use Rattle.sl_typing.specs.Rules.{is_unknown_function, no_such_call, writes_to_const, is_weaker, calls_main}
 use Rattle.sl_typing.specs.Scopes.{function_named}
 use Rattle.sl_typing.specs.Faults.{part_standing, last_standing, standing_before, faults, faults_of_all}
-use Rattle.sl_typing.specs.Numbering.{Way, truth_number, told, told_all, typed, operands}
+use Rattle.sl_typing.specs.Numbering.{Way, told, told_all, typed, operands}
 use Rattle.sl_typing.specs.Literals.{literals, literals_of_all}
 use Rattle.sl_model.specs.Typing.WellTypedScopes.{Scope as TypedScope}
-use Rattle.sl_model.specs.Typing.WellTypedExpressions.{is_literal, type_of as type_in, type_of_left, types_of as types_in}
+use Rattle.sl_model.specs.Typing.WellTypedExpressions.{is_literal, type_of as type_in, type_of_left}
 use Rattle.sl_well_typed.proofs.Parts.{Keeps, name_kept, call_kept, library_call_kept, parentheses_kept, prefix_kept, binary_kept, postfix_kept, index_kept}
 use Rattle.sl_well_typed.proofs.Parts.{member_call_kept, member_kept, arguments_kept}
 use Rattle.sl_well_typed.proofs.Matching.{Meets, Matches}
 use Rattle.sl_well_typed.proofs.Numbers.{only_at}
 use Rattle.sl_well_typed.proofs.Names.{name_meets}
-use Rattle.sl_well_typed.proofs.Steps.{IsNamed, plain_is_named, left_side_is_plain, step_meets}
+use Rattle.sl_well_typed.proofs.Steps.{plain_is_named, left_side_is_plain, step_meets}
 use Rattle.sl_well_typed.proofs.Operators.{not_meets, negate_meets, dereference_meets, binary_meets}
 use Rattle.sl_well_typed.proofs.Members.{piece_meets}
 use Rattle.sl_well_typed.proofs.Arguments.{IsTyped, AreTyped, arguments_given}

@@ -1,39 +1,32 @@
 -- Functions and programs that break no rule have the types that they need.
-use Rattle.std.proofs.Common.{◌≡◌, ℕ, zero, suc, ◌+◌, ◌==◌, Bool, true, false, not, ◌&&◌, ◌||◌, List, [], ◌∷◌, ◌++◌, length, map, Option, Some, None, refl, sym, subst, ap, arith, ◌∙◌, length-append}
+use Rattle.std.proofs.Common.{◌≡◌, ℕ, zero, suc, ◌+◌, ◌==◌, Bool, true, false, not, ◌&&◌, List, [], ◌∷◌, ◌++◌, length, map, Some, refl, sym, subst, ap, arith, ◌∙◌, length-append}
 use Rattle.std.specs.Prelude.{slice_get, is_some, flat_map, if◌then◌else◌}
 use Rattle.std.specs.List.{list_all, list_any}
-use Rattle.std.proofs.lemmas.Bool.{and_from, and_parts, and_cases, not-false, eqb-true, cases_Bool, or_cases}
-use Rattle.std.proofs.Common.{⊎_elim}
+use Rattle.std.proofs.lemmas.Bool.{and_from, not-false, eqb-true}
 use Rattle.sl_base.specs.declared.limits.TheConstants.{FUNCTIONS}
-use Rattle.sl_base.specs.declared.place.Place.{Place}
-use Rattle.sl_base.specs.declared.scalar.Scalar.TheVariants as c
-use Rattle.sl_syntax.specs.declared.tree.function.Param.{Param}
 use Rattle.sl_syntax.specs.declared.tree.function.ResultType.{ResultType}
 use Rattle.sl_syntax.specs.declared.tree.function.ResultType.TheVariants as r
-use Rattle.sl_syntax.specs.declared.typed.parameter.ParameterKind.{ParameterKind}
 use Rattle.sl_syntax.specs.Tree.{Function, Program}
 use Rattle.sl_syntax.specs.Typed as t
 use Rattle.sl_syntax.specs.Typed.{Typed}
 use Rattle.sl_typing.specs.declared.rules.TheConstants as rule
 use Rattle.sl_typing.specs.declared.scope.FunctionHead.{FunctionHead}
-use Rattle.sl_typing.specs.declared.scope.Scope.{Scope}
-use Rattle.sl_typing.specs.Types.{has_type, is_scalar}
+use Rattle.sl_typing.specs.Types.{has_type}
 use Rattle.sl_typing.specs.Scopes.{function_named, parameter_kind, result_kind}
 use Rattle.sl_typing.specs.Contexts.{Context}
 use Rattle.sl_typing.specs.Faults.{broken}
-use Rattle.sl_typing.specs.Rules.{is_main_name}
 use Rattle.sl_typing.specs.Sites.{declares_container}
 use Rattle.sl_typing.specs.Flow.{head_of, before_parameters, in_function, at_brace, after_function}
 use Rattle.sl_typing.specs.Literals.{literals_of_items, literals_of_program}
 use Rattle.sl_typing.specs.StatementFaults.{items_faults, site_faults}
 use Rattle.sl_typing.specs.ProgramFaults.{is_main, is_main_head, is_library_name, result_faults, parameter_faults, function_faults, functions_faults, start, first_place}
 use Rattle.sl_typing.specs.ProgramFaults.{program_faults}
-use Rattle.sl_typing.specs.StatementNumbering.{brace_number, typed_items}
+use Rattle.sl_typing.specs.StatementNumbering.{typed_items}
 use Rattle.sl_typing.specs.Typing as typing
 use Rattle.sl_typing.specs.Typing.{typed_function, typed_functions, main_number, typed_program}
-use Rattle.sl_model.specs.Typing.WellTypedScopes.{Scope as TypedScope, is_within}
+use Rattle.sl_model.specs.Typing.WellTypedScopes.{is_within}
 use Rattle.sl_model.specs.Typing.WellTypedExpressions.{type_given}
-use Rattle.sl_model.specs.Typing.WellTypedStatements.{is_block, no_variables, with_parameters, is_typed_stmt, are_typed_stmts, is_typed_function}
+use Rattle.sl_model.specs.Typing.WellTypedStatements.{no_variables, with_parameters, is_typed_stmt, are_typed_stmts, is_typed_function}
 use Rattle.sl_model.specs.Typing.WellTyped.{has_types}
 use Rattle.sl_model.proofs.Tells.{AllOf, all_append}
 use Rattle.sl_well_typed.proofs.Parts.{none_in_both, none_in_three, unbroken}

@@ -1,7 +1,5 @@
 -- What letters take, once it is handed over: it is what they stand for in a typed text.
-use Rattle.std.proofs.Common.{◌≡◌, ℕ, ◌+◌, Bool, true, false, not, ◌&&◌, ◌||◌, List, [], ◌∷◌, ◌++◌, length, take, drop, map, refl, sym, subst, ap, arith}
-use Rattle.std.specs.Prelude.{flat_map, if◌then◌else◌}
-use Rattle.std.specs.List.{list_any}
+use Rattle.std.proofs.Common.{◌≡◌, Bool, true, false, not, ◌&&◌, ◌||◌, List, [], ◌∷◌, length, take, drop, refl, sym, subst, arith}
 use Rattle.std.proofs.lemmas.Bool.{not-false, and_from, and_parts, or_parts}
 use Rattle.std.proofs.lemmas.List.{take_all}
 use Rattle.sl_base.specs.declared.form.Form.{Form}
@@ -9,20 +7,18 @@ use Rattle.sl_base.specs.declared.scalar.Scalar.{Scalar}
 use Rattle.sl_base.specs.declared.scalar.Scalar.TheVariants as c
 use Rattle.sl_specs.specs.declared.letter.Letter.{Letter}
 use Rattle.sl_specs.specs.declared.letter.Letter.TheVariants as l
-use Rattle.sl_specs.specs.Forms.{same_form, is_keyed, is_hash, is_random_access}
-use Rattle.sl_syntax.specs.declared.operator.Access.{Access}
+use Rattle.sl_specs.specs.Forms.{same_form, is_keyed}
 use Rattle.sl_syntax.specs.declared.operator.Access.TheVariants as a
-use Rattle.sl_syntax.specs.Written.{is_map}
 use Rattle.sl_typing.specs.declared.expr_type.ExprType.{ExprType}
 use Rattle.sl_typing.specs.declared.expr_type.ExprType.TheVariants as types
 use Rattle.sl_typing.specs.Types.{is_scalar, is_number, is_iterator, is_iterator_of, is_int_iterator, is_writing_iterator, is_bidirectional, is_random}
 use Rattle.sl_typing.specs.Types.{same_iterators, is_container_of, is_changed_container, is_const_container}
-use Rattle.sl_typing.specs.Signatures.{one, optional, range, width}
-use Rattle.sl_typing.specs.Arguments.{is_list, takes_list, is_sequence, letter_takes, letters_take, first_is, is_reading_iterator, letter_writes_const}
-use Rattle.sl_typing.specs.Arguments.{letter_is_weak, some_letter, letters_write_const, letters_are_weak}
-use Rattle.sl_typing.specs.Numbering.{Way, as_it_is, as_number, as_variable, letter_ways, ways, first_way, other_ways}
-use Rattle.sl_model.specs.Typing.WellTypedCalls.{fits_letter, fits}
-use Rattle.sl_well_typed.proofs.Matching.{is_for_elements, Reads}
+use Rattle.sl_typing.specs.Signatures.{one, optional, range}
+use Rattle.sl_typing.specs.Arguments.{takes_list, is_sequence, letters_take, first_is, is_reading_iterator}
+use Rattle.sl_typing.specs.Arguments.{letters_write_const, letters_are_weak}
+use Rattle.sl_typing.specs.Numbering.{Way, as_it_is, as_number, as_variable, ways, first_way, other_ways}
+use Rattle.sl_model.specs.Typing.WellTypedCalls.{fits}
+use Rattle.sl_well_typed.proofs.Matching.{Reads}
 
 -- an operand of a type, handed over in a way, has this type in a typed text
 abbrev pub Given : Way → ExprType → ExprType → Type 0

@@ -1,8 +1,8 @@
 -- The literals of typed statements are among the constants.
-use Rattle.std.proofs.Common.{◌≡◌, ℕ, ℤ, ◌+◌, Bool, true, false, ◌&&◌, List, [], ◌∷◌, ◌++◌, length, Option, Some, None, refl, sym, subst, option_map, ◌∙◌}
+use Rattle.std.proofs.Common.{◌≡◌, ℕ, ℤ, true, List, [], ◌∷◌, ◌++◌, length, Option, Some, None, refl, sym, subst, option_map}
 use Rattle.std.specs.Prelude.{flat_map, replicate}
 use Rattle.std.specs.List.{list_all}
-use Rattle.std.proofs.lemmas.Bool.{and_from, and_parts}
+use Rattle.std.proofs.lemmas.Bool.{and_from}
 use Rattle.sl_base.specs.declared.place.Place.{Place}
 use Rattle.sl_base.specs.declared.scalar.Scalar.TheVariants as c
 use Rattle.sl_syntax.specs.declared.operator.Arithmetic.{Arithmetic}
@@ -24,10 +24,10 @@ use Rattle.sl_typing.specs.TypeOf.{size, type_of}
 use Rattle.sl_typing.specs.Contexts.{Context, enter, started, started_loop}
 use Rattle.sl_typing.specs.Sites.{behind}
 use Rattle.sl_typing.specs.Flow.{behind_cond, behind_left, at_test, at_last, in_for, in_range, in_while, in_function, after_function, after, after_item, after_items}
-use Rattle.sl_typing.specs.Literals.{literals, literals_of_all, literals_of_value, literals_of_initializer, literals_of_declaration, literals_of_out}
+use Rattle.sl_typing.specs.Literals.{literals, literals_of_value, literals_of_initializer, literals_of_declaration, literals_of_out}
 use Rattle.sl_typing.specs.Literals.{literals_of_effect, literals_of_cond, literals_of_first, literals_of_test, literals_of_last, literals_of_stmt, literals_of_item}
 use Rattle.sl_typing.specs.Literals.{literals_of_items, literals_of_program}
-use Rattle.sl_typing.specs.Numbering.{Way, as_number, ways, letters_of, converted, left_of, one, told, operands}
+use Rattle.sl_typing.specs.Numbering.{as_number, ways, letters_of, converted, left_of, one, told}
 use Rattle.sl_typing.specs.StatementNumbering.{typed_expr, typed_outs, assigned_container, set, updated, assigned, assignment_number, typed_effect, typed_cond}
 use Rattle.sl_typing.specs.StatementNumbering.{making_row, operands_in, declared_auto, bound, typed_declaration, typed_first, typed_test, returned, typed_value}
 use Rattle.sl_typing.specs.StatementNumbering.{typed_stmt, typed_item, typed_items}

@@ -1,15 +1,14 @@
 -- `main` is there, takes nothing and gives an int; and there are no more functions than there may be.
-use Rattle.std.proofs.Common.{◌≡◌, ℕ, ◌+◌, ◌==◌, ◌≤◌, Bool, true, false, not, ◌&&◌, ◌||◌, List, [], ◌∷◌, ◌++◌, length, map, Option, Some, None, refl, sym, subst, ap, add-one, arith, length-append}
+use Rattle.std.proofs.Common.{◌≡◌, ℕ, ◌+◌, ◌≤◌, Bool, true, false, not, ◌&&◌, ◌||◌, List, [], ◌∷◌, length, map, refl, sym, subst, add-one, arith, length-append}
 use Rattle.std.specs.Prelude.{slice_get, nat_le, if◌then◌else◌}
 use Rattle.std.specs.List.{list_any}
-use Rattle.std.proofs.lemmas.Bool.{and_from, not-false, eqb-false, le-leb}
+use Rattle.std.proofs.lemmas.Bool.{not-false, eqb-false, le-leb}
 use Rattle.sl_base.specs.declared.limits.TheConstants.{FUNCTIONS}
 use Rattle.sl_base.specs.declared.scalar.Scalar.TheVariants as c
 use Rattle.sl_syntax.specs.declared.tree.function.Param.{Param}
 use Rattle.sl_syntax.specs.declared.tree.function.ResultType.{ResultType}
 use Rattle.sl_syntax.specs.declared.tree.function.ResultType.TheVariants as r
 use Rattle.sl_syntax.specs.Tree.{Function, Program}
-use Rattle.sl_syntax.specs.Typed as t
 use Rattle.sl_syntax.specs.Typed.{Typed}
 use Rattle.sl_typing.specs.Scopes.{parameter_kind, result_kind}
 use Rattle.sl_typing.specs.Types.{is_scalar}
@@ -22,7 +21,7 @@ use Rattle.sl_model.specs.Typing.WellTypedExpressions.{type_given}
 use Rattle.sl_model.specs.Typing.WellTypedStatements.{takes_nothing, is_main as is_typed_main}
 use Rattle.sl_model.specs.Typing.WellTyped.{has_main}
 use Rattle.sl_well_typed.proofs.Parts.{none_in_both}
-use Rattle.sl_well_typed.proofs.Functions.{FunctionKept, function_kept, program_kept, known_behind}
+use Rattle.sl_well_typed.proofs.Functions.{function_kept, program_kept, known_behind}
 
 -- `int main()`
 head_of_main : (result : ResultType) (params : List Param) → is_main_head result params ≡ true

@@ -1,11 +1,10 @@
 -- The rows that make containers: each form has those that typing doesn't look for, and what they take is fit for them.
 use Rattle.std.proofs.Common.{◌≡◌, ℕ, Bool, true, false, not, ◌&&◌, ◌||◌, List, [], ◌∷◌, length, take, drop, Option, Some, None, refl, sym, subst}
-use Rattle.std.specs.Prelude.{slice_get, is_none, if◌then◌else◌}
+use Rattle.std.specs.Prelude.{is_none, if◌then◌else◌}
 use Rattle.std.specs.List.{list_all, list_any}
 use Rattle.std.proofs.lemmas.Bool.{and_parts, and_from, not-true}
 use Rattle.sl_base.specs.declared.form.Form.{Form}
 use Rattle.sl_base.specs.declared.form.Form.TheVariants as f
-use Rattle.sl_base.specs.declared.scalar.Scalar.TheVariants as scalar
 use Rattle.sl_specs.specs.declared.call.Call.{Call}
 use Rattle.sl_specs.specs.declared.call.Call.TheVariants as c
 use Rattle.sl_specs.specs.declared.letter.Letter.{Letter}
@@ -17,8 +16,7 @@ use Rattle.sl_syntax.specs.declared.operator.Access.{Access}
 use Rattle.sl_syntax.specs.declared.operator.Access.TheVariants as a
 use Rattle.sl_typing.specs.declared.expr_type.ExprType.{ExprType}
 use Rattle.sl_typing.specs.declared.expr_type.ExprType.TheVariants as types
-use Rattle.sl_typing.specs.Types.{is_scalar}
-use Rattle.sl_typing.specs.Signatures.{width, elements, row_at, is_constructor}
+use Rattle.sl_typing.specs.Signatures.{width, elements, row_at}
 use Rattle.sl_typing.specs.Arguments.{takes_list, takes_count, letters_take, letters_write_const, letters_are_weak}
 use Rattle.sl_typing.specs.Candidates.{Found, first_row, is_row_of, is_constructor_of, list_constructor, constructor_row, assignment_row}
 use Rattle.sl_typing.specs.Numbering.{ways, letters_of}

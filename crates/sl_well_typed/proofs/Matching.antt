@@ -1,7 +1,7 @@
 -- When a typed expression is what one of a type may be, and when what is in scope at a place of a typed text matches what names mean there.
 --
 -- A typed text doesn't keep which references were written const, so what may be written there may be more than typing says.
-use Rattle.std.proofs.Common.{◌≡◌, ℕ, ◌==◌, ◌≤◌, Bool, true, false, List, [], ◌∷◌, Option, Some, None, refl}
+use Rattle.std.proofs.Common.{◌≡◌, ℕ, ◌==◌, Bool, true, false, List, Option, Some, None}
 use Rattle.std.specs.Prelude.{slice_get}
 use Rattle.sl_base.specs.declared.form.Form.{Form}
 use Rattle.sl_base.specs.declared.place.Place.{Place}

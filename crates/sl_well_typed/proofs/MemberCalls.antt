@@ -1,9 +1,9 @@
 -- Member calls and `[ ]`.
-use Rattle.std.proofs.Common.{◌≡◌, ℕ, Bool, true, false, not, ◌&&◌, ◌||◌, List, [], ◌∷◌, length, Option, Some, None, refl, ap, sym, subst}
+use Rattle.std.proofs.Common.{◌≡◌, ℕ, Bool, true, false, not, ◌&&◌, ◌||◌, List, [], ◌∷◌, length, Option, Some, None, refl, subst}
 use Rattle.std.specs.Prelude.{is_none, nat_le, map, codes}
 use Rattle.std.specs.Str.{bytes_eq}
 use Rattle.std.specs.List.{list_any, sum}
-use Rattle.std.proofs.lemmas.Bool.{and_parts, or_parts, not-false, not-true, and_from, or_cases}
+use Rattle.std.proofs.lemmas.Bool.{and_parts, or_parts, not-true}
 use Rattle.sl_base.specs.declared.form.Form.{Form}
 use Rattle.sl_base.specs.declared.place.Place.{Place}
 use Rattle.sl_specs.specs.declared.call.Call.TheVariants as c
@@ -13,18 +13,17 @@ use Rattle.sl_specs.specs.declared.return_type.ReturnType.{ReturnType}
 use Rattle.sl_specs.specs.declared.return_type.ReturnType.TheVariants as r
 use Rattle.sl_specs.specs.Forms.{same_object}
 use Rattle.sl_specs.specs.Rows.{Row}
-use Rattle.sl_specs.specs.Table.{table, same_call}
+use Rattle.sl_specs.specs.Table.{same_call}
 use Rattle.sl_specs.specs.Texts.{call_text}
 use Rattle.sl_syntax.specs.declared.operator.Access.{Access}
 use Rattle.sl_syntax.specs.declared.typed.callee.Callee.TheVariants as callees
-use Rattle.sl_syntax.specs.Tree as s
 use Rattle.sl_syntax.specs.Tree.{Expr, Exprs}
 use Rattle.sl_syntax.specs.Typed as t
 use Rattle.sl_typing.specs.declared.expr_type.ExprType.{ExprType}
 use Rattle.sl_typing.specs.declared.expr_type.ExprType.TheVariants as types
 use Rattle.sl_typing.specs.declared.scope.Scope.{Scope}
 use Rattle.sl_typing.specs.Types.{is_const, is_number, is_container, is_const_container}
-use Rattle.sl_typing.specs.Signatures.{result_type, row_at, is_constructor, is_algorithm}
+use Rattle.sl_typing.specs.Signatures.{result_type, row_at, is_constructor}
 use Rattle.sl_typing.specs.Arguments.{fewest, most, takes_list, takes_count, letters_take, letters_write_const}
 use Rattle.sl_typing.specs.Candidates.{Found, is_called, is_candidate, is_named, is_row_of, member_row, subscript_row}
 use Rattle.sl_typing.specs.TypeOf.{member_type, subscript_type, types_of}
@@ -32,12 +31,12 @@ use Rattle.sl_typing.specs.WrongType.{fits_member, second_may_be_element}
 use Rattle.sl_typing.specs.Rules.{member_writes_const, has_no_subscript}
 use Rattle.sl_typing.specs.Order.{subscript_changes}
 use Rattle.sl_typing.specs.Looks.{is_plain, bare_name}
-use Rattle.sl_typing.specs.Numbering.{Way, as_number, number_in, ways, first_way, handed, one, called_row, letters_of, row_of_subscript, row_of_member, head, operands}
+use Rattle.sl_typing.specs.Numbering.{Way, number_in, ways, first_way, handed, one, called_row, letters_of, row_of_subscript, row_of_member, head, operands}
 use Rattle.sl_model.specs.Typing.WellTypedScopes.{Scope as TypedScope, variable_type}
-use Rattle.sl_model.specs.Typing.WellTypedCalls.{fits, is_advance, call_type}
+use Rattle.sl_model.specs.Typing.WellTypedCalls.{fits, is_advance}
 use Rattle.sl_model.specs.Typing.WellTypedExpressions.{type_of as type_in, type_of_left, types_of as types_in}
 use Rattle.sl_well_typed.proofs.Matching.{Meets, IsContainer, is_for_elements}
-use Rattle.sl_well_typed.proofs.Rows.{IsRow, found_row, row_is_fine, is_member_fine, is_subscript_fine, is_algorithm_fine, is_output_fine, is_output_given}
+use Rattle.sl_well_typed.proofs.Rows.{found_row, row_is_fine, is_member_fine, is_subscript_fine, is_algorithm_fine, is_output_fine, is_output_given}
 use Rattle.sl_well_typed.proofs.Rows.{gives_own, needs_strength, are_one_number, gives_element}
 use Rattle.sl_well_typed.proofs.Letters.{AllGiven, letters_fit}
 use Rattle.sl_well_typed.proofs.Calls.{row_call_meets, named_makes_none, subscript_makes_none, access_allows, none_is_weak}

@@ -1,5 +1,5 @@
 -- `.first` and `.second`, of a pair of iterators, of an insertion's answer and of the element of a range-for over a map; `->first` and `->second`.
-use Rattle.std.proofs.Common.{◌≡◌, ℕ, Bool, true, false, not, ◌&&◌, List, [], ◌∷◌, Option, refl, ap}
+use Rattle.std.proofs.Common.{◌≡◌, ℕ, Bool, true, false, not, ◌&&◌, List, Option, refl, ap}
 use Rattle.std.specs.Prelude.{if◌then◌else◌}
 use Rattle.std.proofs.lemmas.Bool.{and_parts}
 use Rattle.sl_base.specs.declared.form.Form.{Form}
@@ -11,18 +11,17 @@ use Rattle.sl_syntax.specs.declared.typed.element.ElementPart.{ElementPart}
 use Rattle.sl_syntax.specs.declared.typed.element.ElementPart.TheVariants as parts
 use Rattle.sl_syntax.specs.Tree.{Expr}
 use Rattle.sl_syntax.specs.Typed as t
-use Rattle.sl_syntax.specs.Written.{is_map}
 use Rattle.sl_typing.specs.declared.expr_type.ExprType.{ExprType}
 use Rattle.sl_typing.specs.declared.expr_type.ExprType.TheVariants as types
 use Rattle.sl_typing.specs.Types.{is_map_iterator}
 use Rattle.sl_typing.specs.TypeOf.{is_part_name, part_type, arrow_type, selected_type}
 use Rattle.sl_typing.specs.Looks.{is_plain}
 use Rattle.sl_typing.specs.WrongType.{has_parts, fits_selector}
-use Rattle.sl_typing.specs.Numbering.{part, part_of, arrow_operator, operator_head, one, selected}
+use Rattle.sl_typing.specs.Numbering.{part_of, arrow_operator, operator_head, one, selected}
 use Rattle.sl_model.specs.Typing.WellTypedScopes.{Scope as TypedScope, variable_type}
 use Rattle.sl_model.specs.Typing.WellTypedExpressions.{type_of as type_in, type_of_left, types_of as types_in, type_of_use}
 use Rattle.sl_well_typed.proofs.Matching.{Meets, IsEntry}
-use Rattle.sl_well_typed.proofs.Steps.{IsNamed, IsIteratorVariable}
+use Rattle.sl_well_typed.proofs.Steps.{IsNamed}
 
 -- two iterators, or one and an answer
 abbrev pub is_pair : ExprType → Bool

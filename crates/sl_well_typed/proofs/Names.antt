@@ -1,13 +1,8 @@
 -- A name is typed as the variable that it means.
-use Rattle.std.proofs.Common.{◌≡◌, ℕ, Bool, true, false, not, ◌&&◌, List, [], ◌∷◌, ◌++◌, reverse, Option, Some, None, refl, subst, sym, ap, cond}
+use Rattle.std.proofs.Common.{◌≡◌, ℕ, Bool, true, false, List, [], ◌∷◌, reverse, Option, Some, None, refl, subst, sym, cond}
 use Rattle.std.proofs.lemmas.List.{reverse-append}
 use Rattle.std.specs.Prelude.{find, is_none}
-use Rattle.std.specs.Str.{bytes_eq}
-use Rattle.sl_base.specs.declared.form.Form.{Form}
 use Rattle.sl_base.specs.declared.place.Place.{Place}
-use Rattle.sl_base.specs.declared.scalar.Scalar.{Scalar}
-use Rattle.sl_syntax.specs.declared.operator.Access.{Access}
-use Rattle.sl_syntax.specs.declared.operator.Access.TheVariants as a
 use Rattle.sl_syntax.specs.declared.tree.identifier.Identifier.{Identifier}
 use Rattle.sl_syntax.specs.Tree as s
 use Rattle.sl_syntax.specs.Tree.{Expr}
@@ -16,16 +11,14 @@ use Rattle.sl_typing.specs.declared.expr_type.ExprType.{ExprType}
 use Rattle.sl_typing.specs.declared.expr_type.ExprType.TheVariants as types
 use Rattle.sl_typing.specs.declared.scope.NamedVariable.{NamedVariable}
 use Rattle.sl_typing.specs.declared.scope.Scope.{Scope}
-use Rattle.sl_typing.specs.Types.{is_element, only}
 use Rattle.sl_typing.specs.Scopes.{is_variable_named, variable_named, type_of_variable, type_of_name, number_of_name, label_of_name}
 use Rattle.sl_typing.specs.TypeOf.{type_of_use, type_of, types_of}
-use Rattle.sl_typing.specs.Looks.{is_plain, is_left_side}
 use Rattle.sl_typing.specs.Rules.{is_unknown_variable}
 use Rattle.sl_typing.specs.Numbering.{variable, label_in, typed, operands}
-use Rattle.sl_model.specs.Typing.WellTypedScopes.{Scope as TypedScope, variable_type}
-use Rattle.sl_model.specs.Typing.WellTypedExpressions.{type_of as type_in, type_of_left, only_iterator}
+use Rattle.sl_model.specs.Typing.WellTypedScopes.{Scope as TypedScope}
+use Rattle.sl_model.specs.Typing.WellTypedExpressions.{type_of as type_in, type_of_left}
 use Rattle.sl_model.proofs.Tells.{AllOf, all_append}
-use Rattle.sl_well_typed.proofs.Matching.{Meets, IsVariable, Stands, Matches, IsElement, IsContainer, IsEntry}
+use Rattle.sl_well_typed.proofs.Matching.{Meets, IsVariable, Stands, Matches}
 
 -- what holds of each holds of each in the other order
 pub all_reversed : {X : Type 0} (P : X → Type 0) (xs : List X) → AllOf P xs → AllOf P (reverse xs)

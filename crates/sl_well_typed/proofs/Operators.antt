@@ -1,5 +1,5 @@
 -- Operators: what each gives has the type that typing says.
-use Rattle.std.proofs.Common.{◌≡◌, ℕ, Bool, true, false, not, ◌&&◌, ◌||◌, List, [], ◌∷◌, Option, refl}
+use Rattle.std.proofs.Common.{◌≡◌, ℕ, Bool, true, false, not, ◌&&◌, ◌||◌, List, Option, refl}
 use Rattle.std.specs.Prelude.{if◌then◌else◌}
 use Rattle.std.proofs.lemmas.Bool.{not-false, and_from, and_parts, or_cases}
 use Rattle.std.proofs.Common.{⊎_elim}
@@ -16,19 +16,18 @@ use Rattle.sl_syntax.specs.declared.operator.Comparison.{Comparison}
 use Rattle.sl_syntax.specs.declared.operator.Comparison.TheVariants as comparisons
 use Rattle.sl_syntax.specs.declared.typed.operator.Operator.TheVariants as operators
 use Rattle.sl_syntax.specs.Typed as t
-use Rattle.sl_syntax.specs.Written.{is_map}
 use Rattle.sl_typing.specs.declared.expr_type.ExprType.{ExprType}
 use Rattle.sl_typing.specs.declared.expr_type.ExprType.TheVariants as types
-use Rattle.sl_typing.specs.Types.{only, is_number, is_scalar, is_iterator, is_random, is_arithmetic, same_iterators, scalar_of, common, is_int_iterator}
+use Rattle.sl_typing.specs.Types.{is_number, is_scalar, is_iterator, is_random, is_arithmetic, same_iterators, scalar_of, common, is_int_iterator}
 use Rattle.sl_typing.specs.Signatures.{is_equality}
 use Rattle.sl_typing.specs.TypeOf.{element_at, binary_type}
 use Rattle.sl_typing.specs.WrongType.{both_numbers, fits_binary}
-use Rattle.sl_typing.specs.Rules.{is_weak_binary, is_not_random}
-use Rattle.sl_typing.specs.Numbering.{converted, negated, prefixed, operator_head, one, two, joined}
+use Rattle.sl_typing.specs.Rules.{is_weak_binary}
+use Rattle.sl_typing.specs.Numbering.{converted, negated, operator_head, one, two, joined}
 use Rattle.sl_model.specs.Typing.WellTypedScopes.{Scope as TypedScope}
-use Rattle.sl_model.specs.Typing.WellTypedExpressions.{type_of as type_in, type_of_left, types_of as types_in, only_value}
-use Rattle.sl_well_typed.proofs.Matching.{Meets, meets_reads}
-use Rattle.sl_well_typed.proofs.Numbers.{only_at, meets_number, converted_scalar, common_is_arithmetic, comparable_in, scalar_is_itself}
+use Rattle.sl_model.specs.Typing.WellTypedExpressions.{type_of as type_in, type_of_left, types_of as types_in}
+use Rattle.sl_well_typed.proofs.Matching.{Meets}
+use Rattle.sl_well_typed.proofs.Numbers.{only_at, meets_number, converted_scalar, common_is_arithmetic, comparable_in}
 
 -- `!`
 pub not_meets : (m : TypedScope) (u : ExprType) (d : t.Expr) → Meets m u d → is_number u ≡ true → (at : Place)

@@ -1,6 +1,6 @@
 -- `assign` isn't given an element of its own container.
 use Rattle.std.proofs.Common.{◌≡◌, ℕ, ◌+◌, ◌==◌, Bool, true, false, not, ◌&&◌, ◌||◌, List, [], ◌∷◌, length, Option, Some, None, refl, sym, subst, ap, ◌∙◌}
-use Rattle.std.specs.Prelude.{is_none, codes, if◌then◌else◌}
+use Rattle.std.specs.Prelude.{is_none, codes}
 use Rattle.std.specs.List.{list_all, list_any}
 use Rattle.std.specs.Str.{bytes_eq}
 use Rattle.std.proofs.lemmas.Bool.{and_parts, and_cases, and_left, and_right, or_parts, not-true, not-false, not_from_false, cond_both, eqb-true, false_from_ne_true, cases_Bool}
@@ -8,7 +8,6 @@ use Rattle.std.proofs.lemmas.Slice.Eq.{bytes_eq-Decides}
 use Rattle.std.proofs.Common.{⊎_elim}
 use Rattle.sl_base.specs.declared.form.Form.{Form}
 use Rattle.sl_base.specs.declared.place.Place.{Place}
-use Rattle.sl_base.specs.declared.scalar.Scalar.{Scalar}
 use Rattle.sl_specs.specs.declared.call.Call.{Call}
 use Rattle.sl_specs.specs.declared.call.Call.TheVariants as call
 use Rattle.sl_specs.specs.declared.return_type.ReturnType.{ReturnType}
@@ -38,22 +37,22 @@ use Rattle.sl_typing.specs.declared.expr_type.ExprType.{ExprType}
 use Rattle.sl_typing.specs.declared.expr_type.ExprType.TheVariants as types
 use Rattle.sl_typing.specs.declared.scope.Scope.{Scope}
 use Rattle.sl_typing.specs.declared.standing.Standing.TheVariants as standing
-use Rattle.sl_typing.specs.Types.{is_const, is_container, is_element, is_number, is_iterator_of, is_int_iterator, is_iterator_that}
+use Rattle.sl_typing.specs.Types.{is_const, is_container, is_element, is_number, is_iterator_of, is_int_iterator}
 use Rattle.sl_typing.specs.Signatures.{result_type}
-use Rattle.sl_typing.specs.Candidates.{Found, is_called, is_candidate, is_named, member_row, algorithm_row}
+use Rattle.sl_typing.specs.Candidates.{Found, is_called, is_candidate, is_named, member_row}
 use Rattle.sl_typing.specs.Arguments.{takes_count, letters_take}
 use Rattle.sl_typing.specs.Scopes.{type_of_name, number_of_name, label_of_name, is_among}
-use Rattle.sl_typing.specs.TypeOf.{appends, is_first, member_type, type_of_use, type_of, types_of}
+use Rattle.sl_typing.specs.TypeOf.{appends, is_first, member_type, type_of, types_of}
 use Rattle.sl_typing.specs.Looks.{is_plain, bare_name}
-use Rattle.sl_typing.specs.Sites.{site_count, site_number, inside}
-use Rattle.sl_typing.specs.WrongType.{is_entry, is_int_reference, may_be_element as looks_like, second_may_be_element, fits_member, is_iterator_pair, is_before_part, wrong_type}
+use Rattle.sl_typing.specs.Sites.{site_count, inside}
+use Rattle.sl_typing.specs.WrongType.{is_entry, is_int_reference, may_be_element as looks_like, second_may_be_element, fits_member, is_iterator_pair, wrong_type}
 use Rattle.sl_typing.specs.Faults.{faults, faults_of_all}
 use Rattle.sl_typing.specs.Literals.{literals, literals_of_all}
-use Rattle.sl_typing.specs.Numbering.{Way, as_it_is, as_number, as_variable, first_way, other_ways, converted, handed, variable, number_in, label_in, stepped, calculated, joined, part_of}
-use Rattle.sl_typing.specs.Numbering.{operator_head, one, ways, letters_of, head, row_call, called_row, called_algorithm, row_of_subscript, row_of_member, told, told_all, typed, operands}
+use Rattle.sl_typing.specs.Numbering.{Way, as_it_is, as_number, as_variable, first_way, other_ways, handed, variable, number_in, label_in, stepped, calculated, joined, part_of}
+use Rattle.sl_typing.specs.Numbering.{operator_head, one, ways, letters_of, head, row_call, called_row, called_algorithm, row_of_subscript, row_of_member, told, typed, operands}
 use Rattle.sl_model.specs.Typing.WellTypedScopes.{Scope as TypedScope, variable_type}
 use Rattle.sl_model.specs.Typing.WellTypedExpressions.{type_of as type_in, type_of_left, types_of as types_in}
-use Rattle.sl_model.specs.Typing.WellTypedStatements.{may_be_element, may_give_element, is_given_element, is_assign, calls_assign, assigns_others}
+use Rattle.sl_model.specs.Typing.WellTypedStatements.{may_give_element, is_given_element, calls_assign, assigns_others}
 use Rattle.sl_well_typed.proofs.Parts.{name_kept, parentheses_kept, prefix_kept, index_kept, member_call_kept, arguments_kept}
 use Rattle.sl_well_typed.proofs.Matching.{Meets}
 use Rattle.sl_well_typed.proofs.Rows.{found_row}

@@ -1,14 +1,11 @@
 -- Calls of the program's own functions.
-use Rattle.std.proofs.Common.{◌≡◌, ℕ, ◌+◌, ◌==◌, Bool, true, false, not, ◌&&◌, ◌||◌, List, [], ◌∷◌, length, map, Option, Some, None, reverse, refl, sym, subst, ap, arith, ◌∙◌}
-use Rattle.std.specs.Prelude.{is_none, is_some, slice_get, find}
-use Rattle.std.specs.Str.{bytes_eq}
-use Rattle.std.proofs.lemmas.Bool.{and_parts, and_from, or_parts, not-false, not-true, and_cases, false_from_ne_true, eqb-true, eqb-false}
+use Rattle.std.proofs.Common.{◌≡◌, ℕ, ◌+◌, ◌==◌, Bool, true, false, ◌||◌, List, [], ◌∷◌, length, map, Option, Some, None, reverse, refl, ap, arith}
+use Rattle.std.specs.Prelude.{is_none, is_some}
+use Rattle.std.proofs.lemmas.Bool.{and_parts, and_from, or_parts, not-false, false_from_ne_true, eqb-true}
 use Rattle.std.proofs.lemmas.Slice.Eq.{bytes_eq-Decides}
-use Rattle.std.proofs.Common.{⊎_elim}
 use Rattle.sl_base.specs.declared.form.Form.{Form}
 use Rattle.sl_base.specs.declared.place.Place.{Place}
 use Rattle.sl_base.specs.declared.scalar.Scalar.{Scalar}
-use Rattle.sl_specs.specs.Forms.{same_form}
 use Rattle.sl_syntax.specs.declared.operator.Access.{Access}
 use Rattle.sl_syntax.specs.declared.operator.Access.TheVariants as a
 use Rattle.sl_syntax.specs.declared.typed.parameter.ParameterKind.{ParameterKind}
@@ -21,19 +18,19 @@ use Rattle.sl_typing.specs.declared.expr_type.ExprType.TheVariants as types
 use Rattle.sl_typing.specs.declared.scope.FunctionHead.{FunctionHead}
 use Rattle.sl_typing.specs.declared.scope.NamedVariable.{NamedVariable}
 use Rattle.sl_typing.specs.declared.scope.Scope.{Scope}
-use Rattle.sl_typing.specs.Types.{only, is_number, is_container_of, is_const_container, goes_into}
+use Rattle.sl_typing.specs.Types.{is_container_of, is_const_container, goes_into}
 use Rattle.sl_typing.specs.Scopes.{variable_named, function_named, is_function_named}
-use Rattle.sl_typing.specs.TypeOf.{size, own_type, type_given, type_of, types_of}
+use Rattle.sl_typing.specs.TypeOf.{size, own_type, type_given, type_of}
 use Rattle.sl_typing.specs.Looks.{is_plain}
 use Rattle.sl_typing.specs.Sites.{site_count}
 use Rattle.sl_typing.specs.WrongType.{is_exactly, fits_parameter, fit_parameters, fits_call}
 use Rattle.sl_typing.specs.Rules.{takes_others, hands_const, call_hands_const, is_unknown_function, is_main_name}
 use Rattle.sl_typing.specs.Order.{parameters_of}
-use Rattle.sl_typing.specs.Numbering.{Way, as_it_is, as_number, as_variable, parameter_way, handed, number_in, number_of_function, typed, operands}
+use Rattle.sl_typing.specs.Numbering.{parameter_way, handed, number_in, number_of_function, typed, operands}
 use Rattle.sl_model.specs.Typing.WellTypedScopes.{Scope as TypedScope}
 use Rattle.sl_model.specs.Typing.WellTypedExpressions.{type_of as type_in, type_of_left, types_of as types_in, goes_to, go_to, type_given as given_type}
 use Rattle.sl_well_typed.proofs.Matching.{Meets, Reads, meets_reads, Matches, IsHead, is_plain_result}
-use Rattle.sl_well_typed.proofs.Numbers.{only_at, converted_scalar}
+use Rattle.sl_well_typed.proofs.Numbers.{converted_scalar}
 use Rattle.sl_well_typed.proofs.Names.{found_among, found_passes, all_reversed}
 use Rattle.sl_well_typed.proofs.Steps.{IsNamed}
 use Rattle.sl_well_typed.proofs.Arguments.{IsTyped, AreTyped}

@@ -1,23 +1,18 @@
 -- What may be an element of a container in a typed text may be one by its look in the source.
-use Rattle.std.proofs.Common.{◌≡◌, ℕ, ◌+◌, ◌==◌, Bool, true, false, not, ◌&&◌, ◌||◌, List, [], ◌∷◌, Option, Some, None, refl, sym, subst, ap, ◌∙◌, eqb}
-use Rattle.std.specs.Prelude.{is_none, codes, if◌then◌else◌}
-use Rattle.std.specs.List.{list_all, list_any}
+use Rattle.std.proofs.Common.{◌≡◌, ℕ, ◌+◌, ◌==◌, Bool, true, false, List, [], ◌∷◌, Option, Some, None, refl}
+use Rattle.std.specs.Prelude.{codes}
 use Rattle.std.specs.Str.{bytes_eq}
-use Rattle.std.proofs.lemmas.Bool.{and_parts, and_cases, or_parts, not-true, not-false, both_ways, cond_both, eqb-true, false_from_ne_true}
-use Rattle.std.proofs.lemmas.Slice.Eq.{bytes_eq-Decides}
-use Rattle.std.proofs.Common.{⊎_elim}
+use Rattle.std.proofs.lemmas.Bool.{both_ways, cond_both}
 use Rattle.sl_base.specs.declared.form.Form.{Form}
 use Rattle.sl_base.specs.declared.place.Place.{Place}
 use Rattle.sl_specs.specs.declared.return_type.ReturnType.{ReturnType}
 use Rattle.sl_specs.specs.declared.return_type.ReturnType.TheVariants as r
-use Rattle.sl_syntax.specs.declared.operator.Access.{Access}
 use Rattle.sl_syntax.specs.declared.operator.Arithmetic.{Arithmetic}
 use Rattle.sl_syntax.specs.declared.operator.BinaryOperator.{BinaryOperator}
 use Rattle.sl_syntax.specs.declared.operator.BinaryOperator.TheVariants as b
 use Rattle.sl_syntax.specs.declared.operator.PostfixOperator.TheVariants as q
 use Rattle.sl_syntax.specs.declared.operator.PrefixOperator.TheVariants as p
 use Rattle.sl_syntax.specs.declared.operator.Selector.TheVariants as l
-use Rattle.sl_syntax.specs.declared.typed.element.ElementPart.TheVariants as parts
 use Rattle.sl_syntax.specs.declared.typed.head.Head.{Head}
 use Rattle.sl_syntax.specs.declared.typed.step.Fix.{Fix}
 use Rattle.sl_syntax.specs.declared.typed.step.Fix.TheVariants as fixes
@@ -32,19 +27,17 @@ use Rattle.sl_typing.specs.declared.expr_type.ExprType.{ExprType}
 use Rattle.sl_typing.specs.declared.expr_type.ExprType.TheVariants as types
 use Rattle.sl_typing.specs.declared.scope.Scope.{Scope}
 use Rattle.sl_typing.specs.declared.standing.Standing.TheVariants as standing
-use Rattle.sl_typing.specs.Types.{is_container, is_element, is_number, is_iterator_of, is_int_iterator}
+use Rattle.sl_typing.specs.Types.{is_container}
 use Rattle.sl_typing.specs.Candidates.{Found}
 use Rattle.sl_typing.specs.Scopes.{type_of_name, number_of_name, label_of_name}
 use Rattle.sl_typing.specs.TypeOf.{appends, is_first, type_of_use, type_of, types_of}
-use Rattle.sl_typing.specs.Looks.{is_plain, bare_name}
-use Rattle.sl_typing.specs.Sites.{site_count, site_number, inside}
-use Rattle.sl_typing.specs.WrongType.{is_entry, is_int_reference}
+use Rattle.sl_typing.specs.Looks.{bare_name}
+use Rattle.sl_typing.specs.Sites.{site_count}
 use Rattle.sl_typing.specs.Rules.{is_lone_appender}
 use Rattle.sl_typing.specs.Faults.{faults}
-use Rattle.sl_typing.specs.Numbering.{variable, number_in, left_of, label_in, stepped, calculated, joined, part, part_of, arrow_operator, operator_head, one, row_call}
-use Rattle.sl_typing.specs.Numbering.{called_row, called_algorithm, first_operand, told, typed, operands}
+use Rattle.sl_typing.specs.Numbering.{variable, number_in, left_of, label_in, stepped, calculated, joined, part_of, arrow_operator, operator_head, one, row_call}
+use Rattle.sl_typing.specs.Numbering.{called_row, called_algorithm, told, typed, operands}
 use Rattle.sl_model.specs.Typing.WellTypedScopes.{Scope as TypedScope}
-use Rattle.sl_model.specs.Typing.WellTypedExpressions.{type_of as type_in, type_of_left, types_of as types_in}
 use Rattle.sl_model.specs.Typing.WellTypedStatements.{may_be_element, may_give_element}
 use Rattle.sl_well_typed.proofs.Parts.{parentheses_kept, library_call_kept}
 use Rattle.sl_well_typed.proofs.Matching.{Meets}

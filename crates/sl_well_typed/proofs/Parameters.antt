@@ -1,5 +1,5 @@
 -- Parameters come into scope on both sides; and what a function's parts leave as it was.
-use Rattle.std.proofs.Common.{◌≡◌, ℕ, ◌+◌, ◌==◌, Bool, true, false, not, ◌&&◌, ◌||◌, List, [], ◌∷◌, ◌++◌, length, map, Option, Some, None, refl, sym, ap, ◌∙◌}
+use Rattle.std.proofs.Common.{◌≡◌, ℕ, ◌+◌, ◌==◌, Bool, List, [], ◌∷◌, ◌++◌, map, Option, Some, None, refl, ap, ◌∙◌}
 use Rattle.sl_base.specs.declared.limits.TheConstants.{PARAMETERS}
 use Rattle.sl_syntax.specs.declared.operator.Access.TheVariants as a
 use Rattle.sl_syntax.specs.declared.tree.function.Param.{Param}
@@ -10,7 +10,7 @@ use Rattle.sl_syntax.specs.Tree.{Declaration, Items}
 use Rattle.sl_typing.specs.declared.expr_type.ExprType.TheVariants as types
 use Rattle.sl_typing.specs.declared.rules.TheConstants as rule
 use Rattle.sl_typing.specs.declared.scope.Scope.{Scope}
-use Rattle.sl_typing.specs.Scopes.{is_const_name, parameter_kind, name_of_parameter, type_of_kind, passes_some_limit}
+use Rattle.sl_typing.specs.Scopes.{is_const_name, parameter_kind, name_of_parameter, passes_some_limit}
 use Rattle.sl_typing.specs.Contexts.{Context, declare_parameters, started}
 use Rattle.sl_typing.specs.Faults.{broken}
 use Rattle.sl_typing.specs.Flow.{behind_declaration, after, after_item, after_items}

@@ -1,6 +1,6 @@
 -- A place in a function: what is in scope on both sides, what the function gives, and whether a loop stands around it; and how it goes on.
-use Rattle.std.proofs.Common.{◌≡◌, ℕ, Bool, true, false, not, ◌&&◌, ◌||◌, List, [], ◌∷◌, ◌++◌, length, Option, Some, None, refl, sym, subst, ap, ◌∙◌}
-use Rattle.std.specs.Prelude.{is_none, is_some, if◌then◌else◌}
+use Rattle.std.proofs.Common.{◌≡◌, ℕ, Bool, true, false, [], length, Option, Some, None, refl, sym, subst, ap, ◌∙◌}
+use Rattle.std.specs.Prelude.{is_none, is_some}
 use Rattle.std.specs.List.{list_all}
 use Rattle.sl_base.specs.declared.place.Place.{Place}
 use Rattle.sl_syntax.specs.declared.tree.element.Element.{Element}
@@ -15,17 +15,16 @@ use Rattle.sl_typing.specs.declared.expr_type.ExprType.TheVariants as types
 use Rattle.sl_typing.specs.declared.scope.Scope.{Scope}
 use Rattle.sl_typing.specs.Types.{is_const}
 use Rattle.sl_typing.specs.Scopes.{type_of_name, number_of_name, passes_some_limit, with_variable}
-use Rattle.sl_typing.specs.Contexts.{Context, enter, looping, started, started_loop, with_hidden, with_name, position}
+use Rattle.sl_typing.specs.Contexts.{Context, enter, looping, started_loop, with_hidden, with_name, position}
 use Rattle.sl_typing.specs.TypeOf.{type_of}
-use Rattle.sl_typing.specs.Ranges.{may_go_over, element_type, frees_const}
-use Rattle.sl_typing.specs.Literals.{literals, literals_of_value, literals_of_first}
+use Rattle.sl_typing.specs.Ranges.{element_type}
+use Rattle.sl_typing.specs.Literals.{literals_of_value, literals_of_first}
 use Rattle.sl_typing.specs.Flow.{behind_declaration, behind_first, behind_hidden, in_range}
-use Rattle.sl_typing.specs.StatementFaults.{declaration_faults, first_faults, value_faults, goes_to_result, wrong_result, wrong_return}
-use Rattle.sl_typing.specs.Numbering.{converted}
+use Rattle.sl_typing.specs.StatementFaults.{first_faults, value_faults, goes_to_result, wrong_result, wrong_return}
 use Rattle.sl_typing.specs.StatementNumbering.{typed_expr, declared_auto, typed_declaration, typed_first, returned, typed_value, taken_as}
 use Rattle.std.proofs.lemmas.Bool.{not-false}
 use Rattle.sl_model.specs.Typing.WellTypedScopes.{Scope as TypedScope, is_within, variable_type}
-use Rattle.sl_model.specs.Typing.WellTypedExpressions.{type_of as type_in, type_of_left, goes_to}
+use Rattle.sl_model.specs.Typing.WellTypedExpressions.{type_of as type_in}
 use Rattle.sl_model.specs.Typing.WellTypedStatements.{is_typed_declaration, is_typed_first, is_typed_return, behind as behind_typed, behind_first as behind_typed_first}
 use Rattle.sl_model.specs.Typing.WellTypedStatements.{in_range as in_typed_range}
 use Rattle.sl_well_typed.proofs.Matching.{Meets, meets_reads, is_plain_result}

@@ -1,21 +1,17 @@
 -- The row that a call means is one of the table, and what holds of each row of the table.
-use Rattle.std.proofs.Common.{◌≡◌, ℕ, zero, suc, ◌+◌, Bool, true, false, not, ◌&&◌, ◌||◌, List, [], ◌∷◌, Option, Some, None, refl, subst, sym, arith}
+use Rattle.std.proofs.Common.{◌≡◌, ℕ, suc, ◌+◌, Bool, true, false, not, ◌&&◌, ◌||◌, List, [], ◌∷◌, Some, refl, subst, sym, arith}
 use Rattle.std.specs.Prelude.{slice_get, codes, if◌then◌else◌}
 use Rattle.std.specs.List.{list_all, list_any}
 use Rattle.std.specs.Str.{bytes_eq}
-use Rattle.sl_specs.specs.declared.call.Call.{Call}
 use Rattle.sl_specs.specs.declared.call.Call.TheVariants as c
 use Rattle.sl_specs.specs.declared.letter.Letter.{Letter}
 use Rattle.sl_specs.specs.declared.letter.Letter.TheVariants as l
 use Rattle.sl_specs.specs.declared.return_type.ReturnType.{ReturnType}
 use Rattle.sl_specs.specs.declared.return_type.ReturnType.TheVariants as r
-use Rattle.sl_specs.specs.Forms.{same_object}
 use Rattle.sl_specs.specs.Rows.{Row}
 use Rattle.sl_specs.specs.Table.{table, same_call}
 use Rattle.sl_specs.specs.Texts.{call_text}
-use Rattle.sl_typing.specs.Types.{same_answer}
 use Rattle.sl_typing.specs.Signatures.{row_at, is_output, is_algorithm}
-use Rattle.sl_typing.specs.Arguments.{is_list}
 use Rattle.sl_typing.specs.Candidates.{Found, first_from, first_row, has_row, end_in_output}
 use Rattle.sl_model.proofs.Passing.{passes_at}
 

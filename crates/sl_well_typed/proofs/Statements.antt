@@ -1,32 +1,29 @@
 -- A statement that breaks no rule is well typed.
-use Rattle.std.proofs.Common.{◌≡◌, ℕ, ◌==◌, Bool, true, false, not, ◌&&◌, ◌||◌, List, [], ◌∷◌, ◌++◌, length, Option, Some, None, refl, sym, subst, ap, ◌∙◌, option_map}
+use Rattle.std.proofs.Common.{◌≡◌, Bool, true, false, not, ◌&&◌, [], ◌++◌, Option, Some, None, refl, sym, ◌∙◌, option_map}
 use Rattle.std.specs.List.{list_all}
-use Rattle.std.proofs.lemmas.Bool.{and_from, and_parts, not-false}
+use Rattle.std.proofs.lemmas.Bool.{and_from, not-false}
 use Rattle.sl_base.specs.declared.place.Place.{Place}
-use Rattle.sl_base.specs.declared.limits.TheConstants.{SITES, STATEMENTS}
 use Rattle.sl_syntax.specs.declared.tree.element.Element.{Element}
 use Rattle.sl_syntax.specs.declared.tree.identifier.Identifier.{Identifier}
 use Rattle.sl_syntax.specs.declared.typed.parameter.ParameterKind.{ParameterKind}
 use Rattle.sl_syntax.specs.Tree as s
 use Rattle.sl_syntax.specs.Tree.{Expr, Effect, Cond, First, Stmt, Item, Items}
 use Rattle.sl_syntax.specs.Typed as t
-use Rattle.sl_typing.specs.declared.fault.Fault.{Fault}
 use Rattle.sl_typing.specs.declared.rules.TheConstants as rule
-use Rattle.sl_typing.specs.declared.scope.Scope.{Scope}
 use Rattle.sl_typing.specs.Scopes.{type_of_name, number_of_name, passes_some_limit}
-use Rattle.sl_typing.specs.Contexts.{Context, enter, looping, started, started_loop}
+use Rattle.sl_typing.specs.Contexts.{Context, enter, started, started_loop}
 use Rattle.sl_typing.specs.Ranges.{may_go_over, frees_const}
 use Rattle.sl_typing.specs.Rules.{is_unknown_variable}
 use Rattle.sl_typing.specs.Faults.{broken}
 use Rattle.sl_typing.specs.Sites.{declares_container}
-use Rattle.sl_typing.specs.Flow.{behind_declaration, behind_cond, behind_test, behind_last, behind_first, behind_hidden, at_test, at_last, in_for, in_range, in_while}
+use Rattle.sl_typing.specs.Flow.{behind_declaration, behind_cond, behind_last, behind_hidden, at_test, at_last, in_for, in_range, in_while}
 use Rattle.sl_typing.specs.Flow.{after, after_item, after_items}
 use Rattle.sl_typing.specs.Literals.{literals_of_declaration, literals_of_cond, literals_of_first, literals_of_test, literals_of_last, literals_of_stmt}
 use Rattle.sl_typing.specs.Literals.{literals_of_item, literals_of_items}
 use Rattle.sl_typing.specs.StatementFaults.{name_faults, cond_faults, wrong_cond, first_faults, test_faults, wrong_test, last_faults, value_faults, wrong_result}
 use Rattle.sl_typing.specs.StatementFaults.{wrong_return, limit_faults, site_faults, statement_faults, effect_faults, declaration_faults, declaration_place}
 use Rattle.sl_typing.specs.StatementFaults.{stmt_faults, item_faults, items_faults}
-use Rattle.sl_typing.specs.StatementNumbering.{typed_declaration, typed_effect, typed_cond, typed_first, typed_test, typed_value, taken_as, typed_stmt, typed_item}
+use Rattle.sl_typing.specs.StatementNumbering.{typed_declaration, typed_effect, typed_cond, typed_first, typed_test, taken_as, typed_stmt, typed_item}
 use Rattle.sl_typing.specs.StatementNumbering.{typed_items}
 use Rattle.sl_model.specs.Typing.WellTypedScopes.{Scope as TypedScope, is_within, variable_type}
 use Rattle.sl_model.specs.Typing.WellTypedStatements.{is_typed_cond, is_typed_last, is_typed_first, may_go_over as goes_over, in_range as in_typed_range, behind as behind_typed}
@@ -38,8 +35,8 @@ use Rattle.sl_well_typed.proofs.Scoping.{Scoped}
 use Rattle.sl_well_typed.proofs.Declared.{declaration_meets}
 use Rattle.sl_well_typed.proofs.Effects.{cond_meets, effect_meets}
 use Rattle.sl_well_typed.proofs.Behind.{cond_scope, test_scope, last_scope, after_scope}
-use Rattle.sl_well_typed.proofs.Range.{IsRange, range_is}
-use Rattle.sl_well_typed.proofs.Places.{IsAt, at_same, at_enter, at_loop, at_declared, IsFirst, first_meets, return_meets, at_range}
+use Rattle.sl_well_typed.proofs.Range.{range_is}
+use Rattle.sl_well_typed.proofs.Places.{IsAt, at_same, at_enter, at_loop, at_declared, first_meets, return_meets, at_range}
 
 -- a condition that may be missing
 test_meets : (g : Context) (m : TypedScope) → Scoped g.scope m → (k : Option Cond) → test_faults g k ≡ [] → wrong_test g k ≡ false

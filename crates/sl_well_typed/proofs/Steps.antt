@@ -1,5 +1,5 @@
 -- `++` and `--`: of a variable or an element that may be written.
-use Rattle.std.proofs.Common.{◌≡◌, ℕ, Bool, true, false, not, ◌&&◌, ◌||◌, List, [], ◌∷◌, Option, refl}
+use Rattle.std.proofs.Common.{◌≡◌, ℕ, Bool, true, false, not, List, [], Option, refl}
 use Rattle.std.proofs.lemmas.Bool.{not-false}
 use Rattle.sl_base.specs.declared.form.Form.{Form}
 use Rattle.sl_base.specs.declared.place.Place.{Place}
@@ -16,7 +16,7 @@ use Rattle.sl_typing.specs.declared.expr_type.ExprType.{ExprType}
 use Rattle.sl_typing.specs.declared.expr_type.ExprType.TheVariants as types
 use Rattle.sl_typing.specs.declared.scope.Scope.{Scope}
 use Rattle.sl_typing.specs.declared.standing.Standing.{Standing}
-use Rattle.sl_typing.specs.Types.{only, is_element, value_type}
+use Rattle.sl_typing.specs.Types.{is_element, value_type}
 use Rattle.sl_typing.specs.Scopes.{type_of_name, number_of_name, label_of_name}
 use Rattle.sl_typing.specs.TypeOf.{type_of_use, type_of, types_of}
 use Rattle.sl_typing.specs.Looks.{is_plain, is_left_side}
