@@ -49,3 +49,5 @@ pub mod Main
 pub mod Constants
 pub mod LiteralNodes
 pub mod LiteralStatements
+-- ## Sites
+pub mod FewSites
