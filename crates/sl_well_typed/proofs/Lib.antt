@@ -51,3 +51,4 @@ pub mod LiteralNodes
 pub mod LiteralStatements
 -- ## Sites
 pub mod FewSites
+pub mod FewParts
