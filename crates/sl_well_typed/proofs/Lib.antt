@@ -52,3 +52,4 @@ pub mod LiteralStatements
 -- ## Sites
 pub mod FewSites
 pub mod FewParts
+pub mod FewStatements

@@ -71,7 +71,7 @@ pub record RangeKept (g : Context) (at : Place) (how : Element) (x over : Identi
   pub hidden : passes_some_limit (enter (started_loop at g)).scope (behind_hidden g at over).scope ≡ false
   pub limit : passes_some_limit (behind_hidden g at over).scope (in_range g at how x over).scope ≡ false
 
-range_kept : (g : Context) (at : Place) (how : Element) (x over : Identifier) (a : Stmt) → stmt_faults g (s.range_for at how x over a) ≡ []
+pub range_kept : (g : Context) (at : Place) (how : Element) (x over : Identifier) (a : Stmt) → stmt_faults g (s.range_for at how x over a) ≡ []
     → RangeKept g at how x over a
 unfolding stmt_faults item_faults items_faults
 range_kept g at how x over a none =
@@ -104,7 +104,7 @@ pub record ForKept (g : Context) (at : Place) (first : Option First) (k : Option
   pub body : stmt_faults (in_for g at first k last) a ≡ []
   pub right : wrong_test (at_test g at first) k ≡ false
 
-for_kept : (g : Context) (at : Place) (first : Option First) (k : Option Cond) (last : Option Effect) (a : Stmt)
+pub for_kept : (g : Context) (at : Place) (first : Option First) (k : Option Cond) (last : Option Effect) (a : Stmt)
     → stmt_faults g (s.for at first k last a) ≡ [] → ForKept g at first k last a
 unfolding stmt_faults item_faults items_faults
 for_kept g at first k last a none =
