@@ -1,21 +1,20 @@
 -- The parts of statements that break no rule pass no limit of sites.
-use Rattle.std.proofs.Common.{◌≡◌, ℕ, ◌+◌, ◌==◌, ◌≤◌, Bool, true, false, ◌&&◌, List, [], ◌∷◌, ◌++◌, length, Option, Some, None, refl, arith, length-append, subst, sym}
+use Rattle.std.proofs.Common.{◌≡◌, ◌==◌, ◌≤◌, Bool, true, false, ◌&&◌, List, [], ◌∷◌, ◌++◌, length, Option, Some, None, arith, length-append}
 use Rattle.std.specs.Prelude.{if◌then◌else◌}
 use Rattle.std.specs.List.{list_any}
 use Rattle.std.proofs.lemmas.Bool.{eqb-false}
-use Rattle.sl_base.specs.declared.limits.TheConstants.{SITES, LIST_ELEMENTS}
+use Rattle.sl_base.specs.declared.limits.TheConstants.{SITES}
 use Rattle.sl_base.specs.declared.place.Place.{Place}
 use Rattle.sl_syntax.specs.declared.operator.Assignment.{Assignment}
 use Rattle.sl_syntax.specs.Tree as s
 use Rattle.sl_syntax.specs.Tree.{Expr, Exprs, Out, Effect, Cond}
 use Rattle.sl_typing.specs.declared.rules.TheConstants as rule
 use Rattle.sl_typing.specs.declared.standing.Standing.TheVariants as standing
-use Rattle.sl_typing.specs.Contexts.{Context, with_sites}
-use Rattle.sl_typing.specs.Looks.{place_of}
+use Rattle.sl_typing.specs.Contexts.{Context}
 use Rattle.sl_typing.specs.WrongType.{wrong_assignment}
 use Rattle.sl_typing.specs.Rules.{assigns_const, assigns_weaker}
 use Rattle.sl_typing.specs.Faults.{broken}
-use Rattle.sl_typing.specs.Sites.{sites_in_all, site_count, behind, is_assignment_site, assignment_site}
+use Rattle.sl_typing.specs.Sites.{behind, is_assignment_site}
 use Rattle.sl_typing.specs.Flow.{behind_value, behind_outs, behind_left, behind_effect, behind_cond}
 use Rattle.sl_typing.specs.StatementFaults.{expr_faults, outs_faults, wrong_out, site_faults, effect_faults, cond_faults, value_faults}
 use Rattle.sl_well_typed.proofs.Parts.{none_in_both, none_in_three, unbroken}

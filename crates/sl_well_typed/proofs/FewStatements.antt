@@ -1,33 +1,26 @@
 -- Statements, functions and programs that break no rule pass no limit of sites.
-use Rattle.std.proofs.Common.{◌≡◌, ℕ, ◌+◌, ◌==◌, ◌≤◌, Bool, true, false, not, ◌&&◌, ◌||◌, List, [], ◌∷◌, ◌++◌, length, Option, Some, None, refl, arith, length-append, subst, sym, ap, ◌∙◌}
-use Rattle.std.specs.Prelude.{nat_le}
-use Rattle.std.proofs.lemmas.Bool.{and_from, le-leb}
-use Rattle.sl_base.specs.declared.limits.TheConstants.{FUNCTIONS, SITES, LIST_ELEMENTS}
-use Rattle.sl_base.specs.declared.place.Place.{Place}
-use Rattle.sl_syntax.specs.declared.tree.function.Param.{Param}
+use Rattle.std.proofs.Common.{◌≡◌, ℕ, ◌+◌, ◌==◌, ◌≤◌, ◌&&◌, List, [], ◌∷◌, ◌++◌, length, Option, Some, None, refl, arith, length-append}
+use Rattle.sl_base.specs.declared.limits.TheConstants.{SITES, LIST_ELEMENTS}
 use Rattle.sl_syntax.specs.Tree as s
 use Rattle.sl_syntax.specs.Tree.{Expr, Exprs, Initializer, Declaration, Effect, Cond, First, Stmt, Items, Function, Program}
-use Rattle.sl_syntax.specs.Typed.{Typed}
 use Rattle.sl_typing.specs.declared.expr_type.ExprType.{ExprType}
 use Rattle.sl_typing.specs.declared.expr_type.ExprType.TheVariants as types
 use Rattle.sl_typing.specs.declared.rules.TheConstants as rule
 use Rattle.sl_typing.specs.declared.standing.Standing.TheVariants as standing
-use Rattle.sl_typing.specs.Contexts.{Context, declare_parameters, enter, started, started_loop, with_hidden}
-use Rattle.sl_typing.specs.Faults.{broken, faults_of_all}
+use Rattle.sl_typing.specs.Contexts.{Context, enter, started, started_loop, with_hidden}
+use Rattle.sl_typing.specs.Faults.{broken}
 use Rattle.sl_typing.specs.Looks.{place_of}
-use Rattle.sl_typing.specs.Sites.{sites_in, sites_in_all, site_count, behind, behind_all, declares_container}
-use Rattle.sl_typing.specs.Scopes.{type_of_name, passes_some_limit}
+use Rattle.sl_typing.specs.Sites.{sites_in, sites_in_all, site_count, behind, declares_container}
+use Rattle.sl_typing.specs.Scopes.{type_of_name}
 use Rattle.sl_typing.specs.Flow.{behind_initializer, behind_declaration, behind_cond, behind_first, behind_test, behind_last, at_test, at_last, in_for, in_range, in_while}
-use Rattle.sl_typing.specs.Flow.{before_parameters, in_function, at_brace, after_function, after_functions, after, after_item, after_items}
+use Rattle.sl_typing.specs.Flow.{after, after_item, after_items}
 use Rattle.sl_typing.specs.StatementFaults.{expr_faults, element_faults, initializer_faults, twice_faults, limit_faults, value_faults, wrong_value, declaration_faults}
 use Rattle.sl_typing.specs.StatementFaults.{first_faults, test_faults, last_faults, cond_faults, wrong_cond, effect_faults, site_faults, statement_faults}
 use Rattle.sl_typing.specs.StatementFaults.{wrong_result, wrong_return, declaration_place, stmt_faults, item_faults, items_faults}
-use Rattle.sl_typing.specs.ProgramFaults.{behind_parameter, function_faults, functions_faults, start}
 use Rattle.sl_well_typed.proofs.Parts.{none_in_both, none_in_three, unbroken}
-use Rattle.sl_well_typed.proofs.Containers.{sites_behind}
 use Rattle.sl_well_typed.proofs.FewSites.{arguments_few}
 use Rattle.sl_well_typed.proofs.FewParts.{expr_few, value_few, cond_few, site_few, effect_few}
-use Rattle.sl_well_typed.proofs.Statements.{RangeKept, range_kept, ForKept, for_kept}
+use Rattle.sl_well_typed.proofs.Statements.{range_kept, for_kept}
 
 -- behind the elements of a list in braces
 elements_few : (g : Context) (k : ℕ) (xs : Exprs) → element_faults g k xs ≡ [] → length g.sites ≤ SITES
@@ -144,7 +137,7 @@ mutual
       effect_few (started g) w (none_in_both (effect_faults (started g) w) (statement_faults g at) none).0 few
 
   -- behind items
-  items_few : (g : Context) (items : Items) → items_faults g items ≡ [] → length g.sites ≤ SITES → length (after_items g items).sites ≤ SITES
+  pub items_few : (g : Context) (items : Items) → items_faults g items ≡ [] → length g.sites ≤ SITES → length (after_items g items).sites ≤ SITES
   items_few g s.no_more none few = few
   items_few g (s.followed (s.declares d) rest) none few =
       let next = behind_declaration (started g) d in

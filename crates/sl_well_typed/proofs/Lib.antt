@@ -53,3 +53,4 @@ pub mod LiteralStatements
 pub mod FewSites
 pub mod FewParts
 pub mod FewStatements
+pub mod Few
