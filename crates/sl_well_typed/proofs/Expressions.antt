@@ -4,6 +4,7 @@ use Rattle.std.specs.Prelude.{ℤ, pos, int_le}
 use Rattle.std.specs.List.{list_all}
 use Rattle.std.proofs.lemmas.List.Folds.{list_all-append}
 use Rattle.std.proofs.lemmas.Bool.{and_parts, and_from, or_parts, not-false, le-leb}
+pub use Rattle.sl_well_typed.specs.Small.{is_small}
 use Rattle.sl_base.specs.declared.limits.TheConstants.{LARGEST_NUMBER}
 use Rattle.sl_base.specs.declared.place.Place.{Place}
 use Rattle.sl_base.specs.declared.scalar.Scalar.TheVariants as c
@@ -46,10 +47,6 @@ use Rattle.sl_well_typed.proofs.Arguments.{IsTyped, AreTyped, arguments_given}
 use Rattle.sl_well_typed.proofs.MemberCalls.{member_call_meets, index_meets}
 use Rattle.sl_well_typed.proofs.AlgorithmCalls.{algorithm_meets}
 use Rattle.sl_well_typed.proofs.OwnCalls.{own_call_meets}
-
--- a number that a text may hold
-abbrev pub is_small : ℤ → Bool
-is_small z = int_le z (pos LARGEST_NUMBER)
 
 -- two lists of such numbers
 pub both_small : (xs ys : List ℤ) → list_all is_small (xs ++ ys) ≡ true → (list_all is_small xs ≡ true) × (list_all is_small ys ≡ true)

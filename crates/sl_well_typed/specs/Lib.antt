@@ -1,0 +1,2 @@
+-- Which literals a text can have.
+pub mod Small
