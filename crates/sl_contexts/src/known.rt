@@ -1,10 +1,11 @@
 use crate::names::{copy_of, number_among};
 use crate::outside::Outside;
-use crate::own_variable::DeclaredVariable;
+use crate::own_variable::{DeclaredVariable, typed_variables};
 use crate::parameters::head_of;
 use crate::variables::{bring_in, same_variables, variable_kind};
 use sl_base::{Items, Name, Place};
 use sl_scopes::parameters::result_kind;
+use sl_syntax::typed::Variable;
 use sl_syntax::{Function, Identifier};
 use sl_typing::{ExprType, Scope, is_const};
 use std::alloc::{AllocError, Global};
@@ -38,7 +39,7 @@ impl Model for Known {
 }
 
 impl Known {
-    ghost use Rattle.std.specs.Prelude.{◌≡◌, [], ◌∷◌, length, IfOk, OnErr, OnOk};
+    ghost use Rattle.std.specs.Prelude.{◌≡◌, [], ◌∷◌, ◌^◌, ◌<◌, length, All, IfOk, OnErr, OnOk};
     ghost use Rattle.sl_syntax.specs.TreeView.{function_of};
     ghost use Rattle.sl_typing.specs.Contexts as contexts;
     ghost use Rattle.sl_typing.specs.Flow as flow;
@@ -204,6 +205,15 @@ impl Known {
         Ok(())
     }
 
+    /// Counts the sites that stand here. Where memory runs out, nothing changes.
+    pub fn with_sites(&mut self, places: &[Place]) -> Result<(), AllocError>
+        ensures counted { OnOk result (self.new ≡ contexts.with_sites places.now self.old) }
+        ensures kept { OnErr result (self.new ≡ self.old) }
+    {
+        self.sites.extend_from_slice(places)?;
+        Ok(())
+    }
+
     /// Comes before the parameters of the next function, which is known itself there. Where memory runs out, what is known is no longer that of a place,
     /// and is to be let go.
     pub fn before_parameters(
@@ -221,5 +231,22 @@ impl Known {
         self.scope.in_loop = false;
         self.variables = Items::new(alloc);
         Ok(())
+    }
+
+    /// The variables that the present function declares before this place, whose names' numbers are known to fit.
+    pub fn variables(&self, alloc: Global) -> Result<Items<Variable>, AllocError>
+        requires { All (λ v. v.name < 2 ^ 16) self.now.variables }
+        ensures { IfOk result (λ variables. variables ≡ self.now.variables) }
+    {
+        typed_variables(alloc, self.variables.as_slice())
+    }
+
+    /// The places of the sites and of the loops, and the names. It takes no memory.
+    pub fn into_parts(self) -> (Items<Place>, Items<Place>, Items<Name>)
+        ensures sites { result.0 ≡ self.sites }
+        ensures loops { result.1 ≡ self.loops }
+        ensures names { result.2 ≡ self.names }
+    {
+        (self.sites, self.loops, self.names)
     }
 }

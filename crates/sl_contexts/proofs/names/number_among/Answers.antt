@@ -1,4 +1,4 @@
-use Rattle.std.proofs.Common.{◌≡◌, ◌∙◌, sym}
+use Rattle.std.proofs.Common.{◌∙◌}
 use Rattle.sl_contexts.proofs.NameLaws.{there, absent}
 use Rattle.sl_contexts.proofs.names.number_among.Goals as goal
 
