@@ -1,0 +1,37 @@
+-- Steps one behind another.
+use Rattle.std.proofs.Common.{◌≡◌, List, [], ◌∷◌, ◌++◌, Option, Some, None, refl, sym, ◌∙◌, subst, Result, Ok, Err}
+use Rattle.sl_typing.specs.declared.fault.Fault.{Fault}
+use Rattle.sl_typing.specs.Contexts.{Context}
+use Rattle.sl_typing.specs.Typing.{first_of}
+use Rattle.sl_first_fault.specs.declared.stop.Stop.{Stop}
+use Rattle.sl_first_fault.specs.declared.stop.Stop.TheVariants.{Memory, At}
+use Rattle.sl_first_fault.specs.Means.Steps.{StopsAt, Checks, Done, Answers}
+
+-- nothing before, so what comes behind
+pub first_of-behind : (xs ys : List Fault) → first_of xs ≡ None → first_of (xs ++ ys) ≡ first_of ys
+first_of-behind [] ys e = refl
+first_of-behind (x ∷ xs) ys e = cc
+
+-- the first of the first part
+pub first_of-before : (xs ys : List Fault) (x : Fault) → first_of xs ≡ Some x → first_of (xs ++ ys) ≡ Some x
+first_of-before [] ys x e = cc
+first_of-before (y ∷ xs) ys x e = e
+
+-- a walk that stops in the first part
+pub StopsAt-before : (e : Stop) (xs ys : List Fault) → StopsAt e (first_of xs) → StopsAt e (first_of (xs ++ ys))
+StopsAt-before Memory xs ys h = tt
+StopsAt-before (At x) xs ys h = first_of-before xs ys x h
+
+-- and one that stops behind it
+pub StopsAt-behind : (e : Stop) (xs ys : List Fault) → first_of xs ≡ None → StopsAt e (first_of ys) → StopsAt e (first_of (xs ++ ys))
+StopsAt-behind Memory xs ys none h = tt
+StopsAt-behind (At x) xs ys none h = first_of-behind xs ys none ∙ h
+
+-- a part, and what comes behind it
+pub then : {A : Type 0} {xs : List Fault} {mid g : Context} (r : Result A Stop) (ys : Context → List Fault) (new : Context)
+    (behind : Context → Context) → Done xs mid g → Answers r (ys mid) new (behind mid) → Answers r (xs ++ ys g) new (behind g)
+then {A} {xs} {mid} {g} (Ok u) ys new behind d h =
+    let k = subst (λ (k : Context). Done (ys k) new (behind k)) d.is_known h in
+    record { breaks_none = first_of-behind xs (ys g) d.breaks_none ∙ k.breaks_none; is_known = k.is_known }
+then {A} {xs} {mid} {g} (Err e) ys new behind d h =
+    StopsAt-behind e xs (ys g) d.breaks_none (subst (λ (k : Context). StopsAt e (first_of (ys k))) d.is_known h)

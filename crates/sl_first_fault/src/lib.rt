@@ -1,0 +1,6 @@
+//! The first rule that a program breaks.
+#![tactic(auto)]
+
+mod faults;
+mod stop;
+mod trial;
