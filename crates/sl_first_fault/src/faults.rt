@@ -22,9 +22,7 @@ pub fn broken(test: bool, place: Place, rule: u8) -> Option<Fault>
 
 /// The first of two faults that may be there.
 pub fn earlier(first: Option<Fault>, second: Option<Fault>) -> Option<Fault>
-    ensures {
-      (xs ys : List Fault) → first ≡ first_of xs → second ≡ first_of ys → result ≡ first_of (xs ++ ys)
-    }
+    ensures { (xs ys : List Fault) → first ≡ first_of xs → second ≡ first_of ys → result ≡ first_of (xs ++ ys) }
 {
     match first {
         Some(fault) => Some(fault),

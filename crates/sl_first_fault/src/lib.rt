@@ -2,5 +2,7 @@
 #![tactic(auto)]
 
 mod faults;
+mod known;
+mod rules_stub;
+mod sites;
 mod stop;
-mod trial;
