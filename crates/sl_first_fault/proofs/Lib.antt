@@ -1,3 +1,4 @@
 pub mod StepLaws
 pub mod ScopeLaws
 pub mod SiteLaws
+pub mod LimitLaws

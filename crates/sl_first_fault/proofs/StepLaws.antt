@@ -1,5 +1,6 @@
 -- Steps one behind another.
 use Rattle.std.proofs.Common.{◌≡◌, List, [], ◌∷◌, ◌++◌, Option, Some, None, refl, sym, ◌∙◌, subst, Result, Ok, Err}
+use Rattle.std.specs.Option.{option_or}
 use Rattle.sl_typing.specs.declared.fault.Fault.{Fault}
 use Rattle.sl_typing.specs.Contexts.{Context}
 use Rattle.sl_typing.specs.Typing.{first_of}
@@ -16,6 +17,11 @@ first_of-behind (x ∷ xs) ys e = cc
 pub first_of-before : (xs ys : List Fault) (x : Fault) → first_of xs ≡ Some x → first_of (xs ++ ys) ≡ Some x
 first_of-before [] ys x e = cc
 first_of-before (y ∷ xs) ys x e = e
+
+-- the first of two parts
+pub first_of-append : (xs ys : List Fault) → first_of (xs ++ ys) ≡ option_or (first_of xs) (first_of ys)
+first_of-append [] ys = refl
+first_of-append (x ∷ xs) ys = refl
 
 -- a walk that stops in the first part
 pub StopsAt-before : (e : Stop) (xs ys : List Fault) → StopsAt e (first_of xs) → StopsAt e (first_of (xs ++ ys))
@@ -35,3 +41,13 @@ then {A} {xs} {mid} {g} (Ok u) ys new behind d h =
     record { breaks_none = first_of-behind xs (ys g) d.breaks_none ∙ k.breaks_none; is_known = k.is_known }
 then {A} {xs} {mid} {g} (Err e) ys new behind d h =
     StopsAt-behind e xs (ys g) d.breaks_none (subst (λ (k : Context). StopsAt e (first_of (ys k))) d.is_known h)
+
+-- the same faults, in other groups
+pub Answers-along : {A : Type 0} {ys : List Fault} (r : Result A Stop) (xs : List Fault) (new behind : Context)
+    → xs ≡ ys → Answers r xs new behind → Answers r ys new behind
+Answers-along {A} {ys} r xs new behind e h = subst (λ (l : List Fault). Answers r l new behind) e h
+
+-- the names of lemmas for tactics
+pub ruleset first_laws = (first_of-append)
+
+pub ruleset stop_laws = (StopsAt-before)

@@ -1,6 +1,5 @@
 //! Rules that are broken, as the walk meets them.
-ghost use Rattle.std.specs.Prelude.{◌≡◌, ◌++◌, List};
-ghost use Rattle.sl_typing.specs.declared.fault.Fault.{Fault};
+ghost use Rattle.std.specs.Prelude.{◌≡◌};
 ghost use Rattle.sl_typing.specs.Faults as spec;
 ghost use Rattle.sl_typing.specs.Typing.{first_of};
 ghost use Rattle.sl_first_fault.specs.Means.Steps.{Checks};
@@ -17,16 +16,6 @@ pub fn broken(test: bool, place: Place, rule: u8) -> Option<Fault>
         Some(Fault { place, rule })
     } else {
         None
-    }
-}
-
-/// The first of two faults that may be there.
-pub fn earlier(first: Option<Fault>, second: Option<Fault>) -> Option<Fault>
-    ensures { (xs ys : List Fault) → first ≡ first_of xs → second ≡ first_of ys → result ≡ first_of (xs ++ ys) }
-{
-    match first {
-        Some(fault) => Some(fault),
-        None => second,
     }
 }
 

@@ -87,7 +87,11 @@ impl Known {
         ensures entered { OnOk result (self.new ≡ spec.enter self.old) }
         ensures outside { IfOk result (λ outside. outside ≡ outside_of self.old.scope) }
     {
-        Ok(Outside { variables: Items::new(alloc), outer: 0, in_loop: false })
+        Ok(Outside {
+            variables: Items::new(alloc),
+            outer: 0,
+            in_loop: false,
+        })
     }
 
     pub fn looping(&mut self) -> bool
@@ -98,10 +102,8 @@ impl Known {
     }
 
     pub fn leave_loop(&mut self, in_loop: bool)
-        ensures {
-          (g : Context) → self.old.scope ≡ record g.scope { in_loop = self.old.scope.in_loop } → in_loop ≡ g.scope.in_loop →
-            self.new ≡ spec.leave g self.old
-        }
+        ensures { (g : Context) → self.old.scope ≡ record g.scope { in_loop = self.old.scope.in_loop } → in_loop ≡ g.scope.in_loop →
+            self.new ≡ spec.leave g self.old }
     {
         let _ = in_loop;
     }
@@ -120,10 +122,8 @@ impl Known {
     }
 
     pub fn leave(&mut self, outside: Outside)
-        ensures {
-          (g : Context) → outside ≡ outside_of g.scope → g.scope.functions ≡ self.old.scope.functions →
-            g.scope.result ≡ self.old.scope.result → self.new ≡ spec.leave g self.old
-        }
+        ensures { (g : Context) → outside ≡ outside_of g.scope → g.scope.functions ≡ self.old.scope.functions →
+            g.scope.result ≡ self.old.scope.result → self.new ≡ spec.leave g self.old }
     {
         let _ = outside;
     }

@@ -54,8 +54,13 @@ pass-returns-in_ok-pass_own-in-Index t c =
 pub pass-returns-in_ok-pass_own-in-MemberCall : goal.pass-returns-in_ok-pass_own-in-MemberCall
 pass-returns-in_ok-pass_own-in-MemberCall t c =
     passed _ _ _ _ c.pass_all-in-MemberCall.ensures
-    (rw (c.in-MemberCall.is, c.in_ok-pass_own-in-MemberCall.ensures, c.in_ok-pass-in-MemberCall.ensures, c.deref-in-MemberCall.ensures,
-    c.deref-in-MemberCall-2.ensures.value)
+    (rw (
+      c.in-MemberCall.is,
+      c.in_ok-pass_own-in-MemberCall.ensures,
+      c.in_ok-pass-in-MemberCall.ensures,
+      c.deref-in-MemberCall.ensures,
+      c.deref-in-MemberCall-2.ensures.value,
+    )
     (rw c.in-MemberCall.is (behind-MemberCall _ c.in-MemberCall.object _ c.in-MemberCall.arguments)))
 
 pub pass-returns-in-Member : goal.pass-returns-in-Member
