@@ -1,4 +1,9 @@
+-- ## Steps of the walk
 pub mod StepLaws
+pub mod LoopLaws
+-- ## What parts leave behind
 pub mod ScopeLaws
 pub mod SiteLaws
+-- ## Rules
 pub mod LimitLaws
+pub mod ReadLaws

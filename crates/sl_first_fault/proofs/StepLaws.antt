@@ -1,5 +1,5 @@
 -- Steps one behind another.
-use Rattle.std.proofs.Common.{◌≡◌, List, [], ◌∷◌, ◌++◌, Option, Some, None, refl, sym, ◌∙◌, subst, Result, Ok, Err}
+use Rattle.std.proofs.Common.{◌≡◌, List, [], ◌∷◌, ◌++◌, Option, Some, None, refl, sym, ◌∙◌, ap, subst, Result, Ok, Err}
 use Rattle.std.specs.Option.{option_or}
 use Rattle.sl_typing.specs.declared.fault.Fault.{Fault}
 use Rattle.sl_typing.specs.Contexts.{Context}
@@ -41,6 +41,37 @@ then {A} {xs} {mid} {g} (Ok u) ys new behind d h =
     record { breaks_none = first_of-behind xs (ys g) d.breaks_none ∙ k.breaks_none; is_known = k.is_known }
 then {A} {xs} {mid} {g} (Err e) ys new behind d h =
     StopsAt-behind e xs (ys g) d.breaks_none (subst (λ (k : Context). StopsAt e (first_of (ys k))) d.is_known h)
+
+-- a part that breaks no rule, and another one
+pub then_done : {xs : List Fault} {mid g : Context} (ys : Context → List Fault) (new : Context) (behind : Context → Context)
+    → Done xs mid g → Done (ys mid) new (behind mid) → Done (xs ++ ys g) new (behind g)
+then_done {xs} {mid} {g} ys new behind d h =
+    let k = subst (λ (k : Context). Done (ys k) new (behind k)) d.is_known h in
+    record { breaks_none = first_of-behind xs (ys g) d.breaks_none ∙ k.breaks_none; is_known = k.is_known }
+
+-- and one that stops
+pub then_stops : {xs : List Fault} {mid g : Context} (e : Stop) (ys : Context → List Fault) → Done xs mid g → StopsAt e (first_of (ys mid))
+    → StopsAt e (first_of (xs ++ ys g))
+then_stops {xs} {mid} {g} e ys d h =
+    StopsAt-behind e xs (ys g) d.breaks_none (subst (λ (k : Context). StopsAt e (first_of (ys k))) d.is_known h)
+
+-- more is known without a rule that is broken
+pub moved : {xs : List Fault} {mid g : Context} (new : Context) (behind : Context → Context) → Done xs mid g → new ≡ behind mid
+    → Done xs new (behind g)
+moved new behind d e = record { breaks_none = d.breaks_none; is_known = e ∙ ap behind d.is_known }
+
+-- rules that are tried behind a part
+pub then_checks : {A : Type 0} {xs : List Fault} {mid g : Context} (r : Result A Stop) (fault : Option Fault) (ys : List Fault)
+    → Done xs mid g → fault ≡ first_of ys → Checks r fault → Answers r (xs ++ ys) mid g
+then_checks {A} {xs} (Ok u) fault ys d e h =
+    record { breaks_none = first_of-behind xs ys d.breaks_none ∙ sym e ∙ h; is_known = d.is_known }
+then_checks {A} {xs} (Err stop) fault ys d e h = StopsAt-behind stop xs ys d.breaks_none (subst (StopsAt stop) e h)
+
+-- rules alone
+pub checked : {A : Type 0} (r : Result A Stop) (fault : Option Fault) (xs : List Fault) (g : Context) → fault ≡ first_of xs → Checks r fault
+    → Answers r xs g g
+checked (Ok u) fault xs g e h = record { breaks_none = sym e ∙ h; is_known = refl }
+checked (Err stop) fault xs g e h = subst (StopsAt stop) e h
 
 -- the same faults, in other groups
 pub Answers-along : {A : Type 0} {ys : List Fault} (r : Result A Stop) (xs : List Fault) (new behind : Context)

@@ -1,9 +1,11 @@
 //! The first rule that a program breaks.
 #![tactic(auto)]
 
+mod effect;
 mod expression;
 mod faults;
 mod known;
+mod reading;
 mod rules_stub;
 mod sites;
 mod stop;

@@ -1,12 +1,19 @@
 //! The sites of expressions, behind those that are known.
 ghost use Rattle.std.specs.Prelude.{◌≡◌, OnOk};
-ghost use Rattle.sl_syntax.specs.TreeView.{expr_of, exprs_of};
+ghost use Rattle.sl_syntax.specs.TreeView.{expr_of, exprs_of, items_of};
 ghost use Rattle.sl_typing.specs.Contexts.{with_sites};
-ghost use Rattle.sl_typing.specs.Sites.{own_site, behind, behind_all};
+ghost use Rattle.sl_typing.specs.Sites.{own_site, behind, behind_all, assignment_site, brace_site, declares_container as declares};
+ghost use Rattle.sl_typing.specs.Sites.{is_assignment_site as is_site_here};
+ghost use Rattle.sl_typing.specs.StatementFaults as spec;
+ghost use Rattle.sl_typing.specs.Typing.{first_of};
 
+use crate::faults::broken;
 use crate::known::Known;
-use crate::rules_stub::{is_site, place_of};
-use sl_syntax::Expr;
+use crate::rules_stub::{is_plain, is_site, place_of, type_of};
+use sl_base::Place;
+use sl_base::limits::SITES;
+use sl_syntax::{Assignment, Expr};
+use sl_typing::{Fault, Scope, rules};
 use std::alloc::AllocError;
 
 // The node itself, where it is a site.
@@ -68,4 +75,40 @@ pub fn pass_all(known: &mut Known, xs: &[Expr]) -> Result<(), AllocError>
         pass(known, x)?;
     }
     Ok(())
+}
+
+/// Whether the `=` of an assignment is a site: its left side is a container.
+pub fn is_assignment_site(scope: &Scope, left: &Expr, operator: Assignment) -> bool
+    ensures { result ≡ is_site_here scope.now (expr_of left.now) operator }
+{
+    match operator {
+        Assignment::Set => is_plain(left) & type_of(scope, left).is_container(),
+        Assignment::Update(_) => false,
+    }
+}
+
+/// The `=` of an assignment, where it is a site.
+pub fn pass_assignment(
+    known: &mut Known,
+    left: &Expr,
+    operator: Assignment,
+    place: Place,
+) -> Result<(), AllocError>
+    ensures { OnOk result (known.new ≡ with_sites (assignment_site known.old.scope (expr_of left.now) operator place) known.old) }
+{
+    if is_assignment_site(known.scope(), left, operator) {
+        known.with_site(place)?;
+    }
+    Ok(())
+}
+
+/// The first site past the limit, where one stands here.
+pub fn site_past_limit(known: &Known, is_site: bool, place: Place) -> Option<Fault>
+    ensures { result ≡ first_of (spec.site_faults known.now is_site place) }
+{
+    broken(
+        is_site & (known.sites() == SITES),
+        place,
+        rules::TOO_MANY_SITES,
+    )
 }
