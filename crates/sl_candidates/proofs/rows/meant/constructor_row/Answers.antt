@@ -1,0 +1,10 @@
+-- The entries of the code are the table.
+use Rattle.std.proofs.Common.{◌∙◌, ap}
+use Rattle.sl_specs.specs.Table.{table}
+use Rattle.sl_candidates.specs.Means.Places.{is_meant_constructor}
+use Rattle.sl_candidates.specs.Means.Places.{found_at}
+use Rattle.sl_candidates.proofs.TableWalks.{found_first}
+use Rattle.sl_candidates.proofs.rows.meant.constructor_row.Goals as goal
+
+pub returns : goal.returns
+returns c = c.found.ensures ∙ ap (found_at table) c.constructor_place.ensures ∙ found_first c.entries.result.now (is_meant_constructor c.args.form c.args.types.now) c.entries.ensures.rows

@@ -1,0 +1,4 @@
+-- ## Types of arguments
+pub mod Few
+-- ## What the private contracts say
+pub mod Means
