@@ -1,3 +1,2 @@
-pub mod StubOuter
 -- The promises are those of sl_typing. Here stands only what the private contracts say beside them.
 pub mod Means

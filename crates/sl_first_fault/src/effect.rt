@@ -15,12 +15,13 @@ ghost use Rattle.sl_first_fault.specs.Means.Steps.{Answers};
 
 use crate::expression::expression;
 use crate::faults::{broken, stop_at};
-use crate::known::Known;
 use crate::reading::read_fault;
-use crate::rules_stub::{assigns_const, assigns_weaker, type_of, wrong_assignment};
+use crate::rules_stub::{assigns_const, assigns_weaker, wrong_assignment};
 use crate::sites::{is_assignment_site, pass_assignment, site_past_limit};
 use crate::stop::Stop;
 use sl_base::Place;
+use sl_contexts::Known;
+use sl_expr_types::type_of;
 use sl_syntax::{Assignment, Cond, Effect, Expr, Out, Print};
 use sl_typing::{Fault, rules};
 
@@ -64,7 +65,7 @@ fn has_wrong_out(known: &Known, items: &[Out]) -> bool
 {
     items.iter().any(
         |item| -> bool
-            ensures { result ≡ spec.wrong_out known.now (out_of item.now) }
+            ensures { result ≡ spec.wrong_out known.entry.now (out_of item.now) }
         { is_wrong_out(known, item) },
     )
 }

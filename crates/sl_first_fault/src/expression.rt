@@ -9,10 +9,10 @@ ghost use Rattle.sl_typing.specs.StatementFaults.{expr_faults, value_faults};
 ghost use Rattle.sl_first_fault.specs.Means.Steps.{Answers};
 
 use crate::faults::stop_at;
-use crate::known::Known;
 use crate::rules_stub::{first_fault_in, first_fault_in_all};
 use crate::sites::{pass, pass_all};
 use crate::stop::Stop;
+use sl_contexts::Known;
 use sl_syntax::Expr;
 use sl_typing::Standing;
 

@@ -4,7 +4,6 @@
 mod effect;
 mod expression;
 mod faults;
-mod known;
 mod reading;
 mod rules_stub;
 mod sites;

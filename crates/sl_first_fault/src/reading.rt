@@ -9,9 +9,9 @@ ghost use Rattle.sl_typing.specs.Typing.{first_of};
 ghost use Rattle.sl_typing.specs.WrongType.{is_exactly};
 
 use crate::faults::broken;
-use crate::known::Known;
-use crate::rules_stub::{is_unknown_variable, type_of_name};
 use sl_base::Scalar;
+use sl_contexts::Known;
+use sl_scopes::names::{is_unknown_variable, type_of_name};
 use sl_syntax::{Identifier, Read};
 use sl_typing::{Fault, Scope, rules};
 
@@ -53,7 +53,7 @@ fn all_read_ints(scope: &Scope, names: &[Identifier]) -> bool
 {
     names.iter().all(
         |name| -> bool
-            ensures { result ≡ is_exactly scalars.Int (type_named scope.now name.now.name) }
+            ensures { result ≡ is_exactly scalars.Int (type_named scope.entry.now name.now.name) }
         { reads_int(scope, name) },
     )
 }

@@ -1,18 +1,13 @@
 //! STUB of sl_rules, sl_expr_types, sl_scopes, sl_candidates.
 #![tactic(none)]
 
-ghost use Rattle.std.specs.Prelude.{◌≡◌, List, Option, ℕ, option_copied};
-ghost use Rattle.sl_typing.specs.Scopes as scopes;
+ghost use Rattle.std.specs.Prelude.{◌≡◌};
 ghost use Rattle.sl_typing.specs.Rules as rule;
 ghost use Rattle.sl_typing.specs.Faults as fault;
 ghost use Rattle.sl_typing.specs.Typing.{first_of};
-ghost use Rattle.sl_typing.specs.TypeOf as types;
 ghost use Rattle.sl_typing.specs.Sites as sites;
-ghost use Rattle.sl_typing.specs.Looks as looks;
 ghost use Rattle.sl_typing.specs.WrongType as wrong;
 ghost use Rattle.sl_typing.specs.Order as order;
-ghost use Rattle.sl_typing.specs.Candidates as candidates;
-ghost use Rattle.sl_typing.specs.StatementFaults as statement;
 ghost use Rattle.sl_syntax.specs.TreeView.{expr_of, exprs_of};
 
 use sl_base::{Form, Place};
@@ -20,83 +15,12 @@ use sl_syntax::typed::ParameterKind;
 use sl_syntax::{Assignment, Expr, Identifier, IteratorType, Param, ResultType};
 use sl_typing::{ExprType, Fault, FunctionHead, Scope, Standing};
 
-pub fn is_declared(scope: &Scope, name: &[u8]) -> bool
-    ensures { result ≡ scopes.is_declared scope.now name.now }
-{
-    let _ = scope;
-    let _ = name;
-    false
-}
-
-pub fn type_of_name(scope: &Scope, name: &[u8]) -> ExprType
-    ensures { result ≡ scopes.type_of_name scope.now name.now }
-{
-    let _ = scope;
-    let _ = name;
-    ExprType::Wrong
-}
-
-pub fn is_unknown_variable(scope: &Scope, name: &[u8]) -> bool
-    ensures { result ≡ rule.is_unknown_variable scope.now name.now }
-{
-    let _ = scope;
-    let _ = name;
-    false
-}
-
-pub fn one_passes_limit(scope: &Scope, variable_type: ExprType) -> bool
-    ensures { (name : Option (List ℕ)) (label : ℕ) →
-        result ≡ scopes.passes_some_limit scope.now (scopes.with_variable name label variable_type scope.now) }
-{
-    let _ = scope;
-    let _ = variable_type;
-    false
-}
-
-pub fn two_pass_limit(scope: &Scope, variable_type: ExprType) -> bool
-    ensures { (name : Option (List ℕ)) (label : ℕ) →
-        result ≡ scopes.passes_some_limit scope.now
-        (scopes.with_variable name label variable_type (scopes.with_variable name label variable_type scope.now)) }
-{
-    let _ = scope;
-    let _ = variable_type;
-    false
-}
-
-pub fn type_of(scope: &Scope, e: &Expr) -> ExprType
-    ensures { result ≡ types.type_of scope.now (expr_of e.now) }
-{
-    let _ = scope;
-    let _ = e;
-    ExprType::Wrong
-}
-
-pub fn place_of(e: &Expr) -> Place
-    ensures { result ≡ looks.place_of (expr_of e.now) }
-{
-    let _ = e;
-    Place::FIRST
-}
-
-pub fn is_plain(e: &Expr) -> bool
-    ensures { result ≡ looks.is_plain (expr_of e.now) }
-{
-    let _ = e;
-    false
-}
-
 pub fn is_site(scope: &Scope, e: &Expr) -> bool
     ensures { result ≡ sites.is_site scope.now (expr_of e.now) }
 {
     let _ = scope;
     let _ = e;
     false
-}
-
-pub struct Look {
-    pub fault: Option<Fault>,
-    pub expr_type: ExprType,
-    pub sites: usize,
 }
 
 pub fn first_fault_in(scope: &Scope, before: usize, standing: Standing, e: &Expr) -> Option<Fault>

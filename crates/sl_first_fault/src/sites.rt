@@ -8,10 +8,11 @@ ghost use Rattle.sl_typing.specs.StatementFaults as spec;
 ghost use Rattle.sl_typing.specs.Typing.{first_of};
 
 use crate::faults::broken;
-use crate::known::Known;
-use crate::rules_stub::{is_plain, is_site, place_of, type_of};
+use crate::rules_stub::is_site;
 use sl_base::Place;
 use sl_base::limits::SITES;
+use sl_contexts::Known;
+use sl_expr_types::{is_plain, place_of, type_of};
 use sl_syntax::{Assignment, Expr};
 use sl_typing::{Fault, Scope, rules};
 use std::alloc::AllocError;

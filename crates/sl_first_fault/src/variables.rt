@@ -7,9 +7,10 @@ ghost use Rattle.sl_typing.specs.Typing.{first_of};
 ghost use Rattle.sl_first_fault.specs.Means.Steps.{Answers};
 
 use crate::faults::{broken, stop_at};
-use crate::known::Known;
-use crate::rules_stub::{is_declared, is_unknown_variable, one_passes_limit};
 use crate::stop::Stop;
+use sl_contexts::Known;
+use sl_scopes::names::{is_declared, is_unknown_variable};
+use sl_scopes::sorts::one_passes_limit;
 use sl_syntax::Identifier;
 use sl_typing::{ExprType, Fault, rules};
 
