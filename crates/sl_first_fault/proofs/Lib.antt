@@ -1,6 +1,7 @@
 -- ## Steps of the walk
 pub mod StepLaws
 pub mod LoopLaws
+pub mod Walks
 -- ## What parts leave behind
 pub mod ScopeLaws
 pub mod SiteLaws
