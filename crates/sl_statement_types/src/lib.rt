@@ -1,0 +1,16 @@
+//! What statements and declarations ask of types.
+#![tactic(auto)]
+
+mod blocks;
+mod elements;
+mod fault;
+mod names;
+mod results;
+
+pub use blocks::declares_container;
+pub use elements::{element_type, frees_const, head_frees_const, may_go_over, reference_type};
+pub use fault::{broken, earlier};
+pub use names::{
+    hidden_limit_fault, limit_fault, name_fault, site_fault, statement_fault, twice_fault,
+};
+pub use results::{goes_to_result, wrong_return};
