@@ -23,6 +23,12 @@ pub first_of-append : (xs ys : List Fault) → first_of (xs ++ ys) ≡ option_or
 first_of-append [] ys = refl
 first_of-append (x ∷ xs) ys = refl
 
+-- the first of two faults that may be there
+pub earlier : (first second fault : Option Fault) (xs ys : List Fault) → fault ≡ option_or first second → first ≡ first_of xs
+    → second ≡ first_of ys → fault ≡ first_of (xs ++ ys)
+earlier first second fault xs ys e a b =
+    e ∙ ap (λ (x : Option Fault). option_or x second) a ∙ ap (λ (x : Option Fault). option_or (first_of xs) x) b ∙ sym (first_of-append xs ys)
+
 -- a walk that stops in the first part
 pub StopsAt-before : (e : Stop) (xs ys : List Fault) → StopsAt e (first_of xs) → StopsAt e (first_of (xs ++ ys))
 StopsAt-before Memory xs ys h = tt

@@ -14,14 +14,15 @@ ghost use Rattle.sl_typing.specs.WrongType.{wrong_assignment as wrong};
 ghost use Rattle.sl_first_fault.specs.Means.Steps.{Answers};
 
 use crate::expression::expression;
-use crate::faults::{broken, stop_at};
+use crate::faults::stop_at;
 use crate::reading::read_fault;
 use crate::rules_stub::{assigns_const, assigns_weaker, wrong_assignment};
-use crate::sites::{is_assignment_site, pass_assignment, site_past_limit};
+use crate::sites::{is_assignment_site, pass_assignment};
 use crate::stop::Stop;
 use sl_base::Place;
 use sl_contexts::Known;
 use sl_expr_types::type_of;
+use sl_statement_types::{broken, site_fault};
 use sl_syntax::{Assignment, Cond, Effect, Expr, Out, Print};
 use sl_typing::{Fault, rules};
 
@@ -110,7 +111,7 @@ fn assignment_fault(
         place,
         rules::WEAKER_ITERATOR,
     ))
-    .or(site_past_limit(known, is_site, place))
+    .or(site_fault(known, is_site, place))
 }
 
 // An assignment.

@@ -8,10 +8,10 @@ ghost use Rattle.sl_typing.specs.StatementFaults as spec;
 ghost use Rattle.sl_typing.specs.Typing.{first_of};
 ghost use Rattle.sl_typing.specs.WrongType.{is_exactly};
 
-use crate::faults::broken;
 use sl_base::Scalar;
 use sl_contexts::Known;
 use sl_scopes::names::{is_unknown_variable, type_of_name};
+use sl_statement_types::broken;
 use sl_syntax::{Identifier, Read};
 use sl_typing::{Fault, Scope, rules};
 

@@ -2,19 +2,16 @@
 ghost use Rattle.std.specs.Prelude.{◌≡◌, OnOk};
 ghost use Rattle.sl_syntax.specs.TreeView.{expr_of, exprs_of, items_of};
 ghost use Rattle.sl_typing.specs.Contexts.{with_sites};
-ghost use Rattle.sl_typing.specs.Sites.{own_site, behind, behind_all, assignment_site, brace_site, declares_container as declares};
+ghost use Rattle.sl_typing.specs.Sites.{own_site, behind, behind_all, assignment_site, brace_site};
 ghost use Rattle.sl_typing.specs.Sites.{is_assignment_site as is_site_here};
-ghost use Rattle.sl_typing.specs.StatementFaults as spec;
-ghost use Rattle.sl_typing.specs.Typing.{first_of};
 
-use crate::faults::broken;
 use crate::rules_stub::is_site;
 use sl_base::Place;
-use sl_base::limits::SITES;
 use sl_contexts::Known;
 use sl_expr_types::{is_plain, place_of, type_of};
-use sl_syntax::{Assignment, Expr};
-use sl_typing::{Fault, Scope, rules};
+use sl_statement_types::declares_container;
+use sl_syntax::{Assignment, Expr, Item};
+use sl_typing::Scope;
 use std::alloc::AllocError;
 
 // The node itself, where it is a site.
@@ -103,13 +100,12 @@ pub fn pass_assignment(
     Ok(())
 }
 
-/// The first site past the limit, where one stands here.
-pub fn site_past_limit(known: &Known, is_site: bool, place: Place) -> Option<Fault>
-    ensures { result ≡ first_of (spec.site_faults known.now is_site place) }
+/// The closing brace of a block, where it is a site.
+pub fn pass_brace(known: &mut Known, items: &[Item], close: Place) -> Result<(), AllocError>
+    ensures { OnOk result (known.new ≡ with_sites (brace_site (items_of items.now) close) known.old) }
 {
-    broken(
-        is_site & (known.sites() == SITES),
-        place,
-        rules::TOO_MANY_SITES,
-    )
+    if declares_container(items) {
+        known.with_site(close)?;
+    }
+    Ok(())
 }
