@@ -8,3 +8,7 @@ pub mod SiteLaws
 -- ## Rules
 pub mod LimitLaws
 pub mod ReadLaws
+pub mod InitializerLaws
+pub mod CondLaws
+pub mod DeclarationLaws
+pub mod StatementLaws

@@ -27,6 +27,6 @@ first_unknown g [] = refl
 first_unknown g (x ∷ xs) = in_turn (is_unknown_variable g.scope x.name) x (flat_map (name_faults g) xs) _ (first_unknown g xs)
 
 -- a test of what items are as data
-pub list_any-map : {A B : Type 0} (test : B → Bool) (f : A → B) (xs : List A) → list_any (λ x. test (f x)) xs ≡ list_any test (map f xs)
-list_any-map test f [] = refl
-list_any-map test f (x ∷ xs) = ap (λ (b : Bool). test (f x) || b) (list_any-map test f xs)
+pub any_mapped : {A B : Type 0} (test : B → Bool) (f : A → B) (xs : List A) → list_any (λ x. test (f x)) xs ≡ list_any test (map f xs)
+any_mapped test f [] = refl
+any_mapped test f (x ∷ xs) = ap (λ (b : Bool). test (f x) || b) (any_mapped test f xs)

@@ -1,13 +1,20 @@
 -- What a part leaves of the scope that it stands in: a statement leaves it as it is, a declaration puts a variable behind the others.
 use Rattle.std.proofs.Common.{◌≡◌, ℕ, List, [], ◌∷◌, ◌++◌, Option, Some, None, refl, sym, ◌∙◌, ap, subst, append_assoc, append-nil}
+use Rattle.sl_base.specs.declared.place.Place.{Place}
+use Rattle.sl_syntax.specs.declared.tree.element.Element.{Element}
+use Rattle.sl_syntax.specs.declared.tree.identifier.Identifier.{Identifier}
+use Rattle.sl_typing.specs.declared.expr_type.ExprType.{ExprType}
+use Rattle.sl_typing.specs.declared.expr_type.ExprType.TheVariants as types
 use Rattle.sl_syntax.specs.declared.typed.parameter.ParameterKind.{ParameterKind}
 use Rattle.sl_syntax.specs.Tree as s
 use Rattle.sl_syntax.specs.Tree.{Expr, Initializer, Declaration, Out, Effect, Cond, First, Stmt, Item, Items}
 use Rattle.sl_typing.specs.declared.scope.FunctionHead.{FunctionHead}
 use Rattle.sl_typing.specs.declared.scope.NamedVariable.{NamedVariable}
 use Rattle.sl_typing.specs.declared.scope.Scope.{Scope}
-use Rattle.sl_typing.specs.Contexts.{Context, started}
+use Rattle.sl_typing.specs.Contexts.{Context, started, started_loop, enter, with_hidden}
 use Rattle.sl_typing.specs.Flow.{behind_value, behind_initializer, behind_declaration, behind_out, behind_outs, behind_effect, behind_cond, behind_first}
+use Rattle.sl_typing.specs.Flow.{in_for, in_range, at_test, at_last}
+use Rattle.sl_typing.specs.Scopes.{type_of_name}
 use Rattle.sl_typing.specs.Flow.{behind_test, behind_last, after, after_item, after_items}
 
 -- a scope with more variables behind those of another, in the same function
@@ -89,6 +96,43 @@ behind_first-extends g None = Extends-refl g.scope
 behind_first-extends g (Some (s.first_scalar at type x e)) = behind_declaration-extends g (s.declares_scalar at type x (Some e))
 behind_first-extends g (Some (s.first_auto at x e)) = behind_declaration-extends g (s.declares_auto at x e)
 behind_first-extends g (Some (s.first_effect w)) = Extends-same (behind_effect-scope g w)
+
+-- in the body of a `for`
+pub in_for-extends : (g : Context) (at : Place) (first : Option First) (k : Option Cond) (w : Option Effect)
+    → Extends g.scope (in_for g at first k w).scope
+in_for-extends g at first k w =
+    let x = behind_first-extends (enter (started_loop at g)) first in
+    let same = behind_last-scope (at_last g at first k) w ∙ behind_test-scope (at_test g at first) k in
+    record {
+      added = x.added;
+      variables = ap (λ (k : Scope). k.variables) same ∙ x.variables;
+      functions = ap (λ (k : Scope). k.functions) same ∙ x.functions;
+      result = ap (λ (k : Scope). k.result) same ∙ x.result;
+    }
+
+with_hidden-extends : (u : ExprType) (g : Context) → Extends g.scope (with_hidden u g).scope
+with_hidden-extends (types.Container access form) g = record { added = _; variables = append_assoc g.scope.variables _ _; functions = refl; result = refl }
+with_hidden-extends types.Wrong g = Extends-refl g.scope
+with_hidden-extends types.Nothing g = Extends-refl g.scope
+with_hidden-extends (types.Scalar t) g = Extends-refl g.scope
+with_hidden-extends (types.Element w) g = Extends-refl g.scope
+with_hidden-extends (types.Iterator b form) g = Extends-refl g.scope
+with_hidden-extends (types.IteratorAndBool form) g = Extends-refl g.scope
+with_hidden-extends (types.IteratorPair b form) g = Extends-refl g.scope
+with_hidden-extends (types.Handed t) g = Extends-refl g.scope
+with_hidden-extends (types.IntReference w) g = Extends-refl g.scope
+with_hidden-extends (types.EntryReference w) g = Extends-refl g.scope
+
+-- in the body of a range-for
+pub in_range-extends : (g : Context) (at : Place) (how : Element) (x over : Identifier) → Extends g.scope (in_range g at how x over).scope
+in_range-extends g at how x over =
+    let h = with_hidden-extends (type_of_name g.scope over.name) (enter (started_loop at g)) in
+    record {
+      added = h.added ++ _;
+      variables = ap (λ (l : List NamedVariable). l ++ _) h.variables ∙ append_assoc g.scope.variables h.added _;
+      functions = h.functions;
+      result = h.result;
+    }
 
 -- a statement leaves the scope as it is
 pub after-scope : (g : Context) (a : Stmt) → (after g a).scope ≡ g.scope

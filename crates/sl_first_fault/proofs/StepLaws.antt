@@ -1,8 +1,11 @@
 -- Steps one behind another.
-use Rattle.std.proofs.Common.{◌≡◌, List, [], ◌∷◌, ◌++◌, Option, Some, None, refl, sym, ◌∙◌, ap, subst, Result, Ok, Err}
+use Rattle.std.proofs.Common.{◌≡◌, List, [], ◌∷◌, ◌++◌, Option, Some, None, refl, sym, ◌∙◌, ap, subst, append_assoc, Result, Ok, Err}
 use Rattle.std.specs.Option.{option_or}
 use Rattle.sl_typing.specs.declared.fault.Fault.{Fault}
-use Rattle.sl_typing.specs.Contexts.{Context}
+use Rattle.sl_syntax.specs.declared.tree.identifier.Identifier.{Identifier}
+use Rattle.sl_typing.specs.declared.expr_type.ExprType.{ExprType}
+use Rattle.sl_typing.specs.Contexts.{Context, declare}
+use Rattle.sl_typing.specs.StatementFaults.{limit_faults}
 use Rattle.sl_typing.specs.Typing.{first_of}
 use Rattle.sl_first_fault.specs.declared.stop.Stop.{Stop}
 use Rattle.sl_first_fault.specs.declared.stop.Stop.TheVariants.{Memory, At}
@@ -66,6 +69,11 @@ pub moved : {xs : List Fault} {mid g : Context} (new : Context) (behind : Contex
     → Done xs new (behind g)
 moved new behind d e = record { breaks_none = d.breaks_none; is_known = e ∙ ap behind d.is_known }
 
+-- a part that begins where more is known
+pub started_at : (mid g : Context) (ys : Context → List Fault) (behind : Context → Context) (new : Context) → mid ≡ g
+    → Done (ys mid) new (behind mid) → Done (ys g) new (behind g)
+started_at mid g ys behind new e d = subst (λ (k : Context). Done (ys k) new (behind k)) e d
+
 -- rules that are tried behind a part
 pub then_checks : {A : Type 0} {xs : List Fault} {mid g : Context} (r : Result A Stop) (fault : Option Fault) (ys : List Fault)
     → Done xs mid g → fault ≡ first_of ys → Checks r fault → Answers r (xs ++ ys) mid g
@@ -78,6 +86,24 @@ pub checked : {A : Type 0} (r : Result A Stop) (fault : Option Fault) (xs : List
     → Answers r xs g g
 checked (Ok u) fault xs g e h = record { breaks_none = sym e ∙ h; is_known = refl }
 checked (Err stop) fault xs g e h = subst (StopsAt stop) e h
+
+-- a variable that is declared behind what it is made from, with its own rules
+pub declares : {A : Type 0} {vs : List Fault} {mid b : Context} (r : Result A Stop) (own : Option Fault) (xs : List Fault) (x : Identifier)
+    (t u : ExprType) (new g : Context) → t ≡ u → Done vs mid b → b.scope ≡ g.scope → own ≡ first_of xs
+    → ((k : Context) (zs : List Fault) → mid.scope ≡ k.scope → own ≡ first_of zs
+    → Answers r (zs ++ limit_faults k (declare x t mid) x.place) new (declare x t mid))
+    → Answers r (vs ++ (xs ++ limit_faults g (declare x u b) x.place)) new (declare x u b)
+declares {A} {vs} {mid} {b} r own xs x t u new g same d e f h =
+    subst (λ (u : ExprType). Answers r (vs ++ (xs ++ limit_faults g (declare x u b) x.place)) new (declare x u b)) same
+    (then r (λ (k : Context). xs ++ limit_faults g (declare x t k) x.place) new (λ (k : Context). declare x t k) d
+    (h g xs (ap (λ (k : Context). k.scope) d.is_known ∙ e) f))
+
+-- parts in other groups
+pub group-2 : (v a b c : List Fault) → v ++ ((a ++ b) ++ c) ≡ ((v ++ a) ++ b) ++ c
+group-2 v a b c = sym (append_assoc v (a ++ b) c) ∙ ap (λ (l : List Fault). l ++ c) (sym (append_assoc v a b))
+
+pub group-3 : (v a b c d : List Fault) → v ++ (((a ++ b) ++ c) ++ d) ≡ (((v ++ a) ++ b) ++ c) ++ d
+group-3 v a b c d = sym (append_assoc v ((a ++ b) ++ c) d) ∙ ap (λ (l : List Fault). l ++ d) (group-2 v a b c)
 
 -- the same faults, in other groups
 pub Answers-along : {A : Type 0} {ys : List Fault} (r : Result A Stop) (xs : List Fault) (new behind : Context)

@@ -1,6 +1,6 @@
 //! Declarations.
 ghost use Rattle.std.specs.Prelude.{◌≡◌, ◌++◌, not, ◌||◌, option_map, option_copied};
-ghost use Rattle.sl_syntax.specs.TreeView.{expr_of, initializer_of, declaration_of, first_of as first_part};
+ghost use Rattle.sl_syntax.specs.TreeView.{expr_of, initializer_of, declaration_of, first_of as first_seen};
 ghost use Rattle.sl_syntax.specs.Tree as tree;
 ghost use Rattle.sl_typing.specs.declared.rules.TheConstants as rule;
 ghost use Rattle.sl_typing.specs.Faults.{broken as fault};
@@ -68,13 +68,21 @@ fn scalar_declaration(
     declare_variable(known, own, name, ExprType::Scalar(scalar))
 }
 
+// The type of a variable that is declared by `auto`.
+fn auto_type(known: &Known, from: &Expr) -> ExprType
+    ensures { result ≡ types.value_type (type_seen known.now.scope (expr_of from.now)) }
+{
+    type_of(known.scope(), from).value()
+}
+
 // The first of its own rules that the declaration of a variable by `auto` breaks, but for the limit.
 #[tactic(auto, using(crate::proofs::StepLaws::first_laws))]
-fn auto_fault(known: &Known, name: &Identifier, declared: ExprType) -> Option<Fault>
-    ensures { result ≡ first_of
+fn auto_fault(known: &Known, name: &Identifier, from: &Expr) -> Option<Fault>
+    ensures { let declared = type_seen known.now.scope (expr_of from.now) in result ≡ first_of
         (spec.twice_faults known.now name.now
         ++ fault (not (types.is_number declared || types.is_iterator declared)) name.now.place rule.AUTO) }
 {
+    let declared = type_of(known.scope(), from);
     let is_wrong = !(declared.is_number() | declared.is_iterator());
     twice_fault(known, name).or(broken(is_wrong, name.place, rules::AUTO))
 }
@@ -89,10 +97,17 @@ fn auto_declaration(
     ensures { let d = tree.declares_auto place name.now (expr_of from.now) in
         Answers result (spec.declaration_faults known.old d) known.new (flow.behind_declaration known.old d) }
 {
-    let declared = type_of(known.scope(), from);
-    let own = auto_fault(known, name, declared);
+    let declared = auto_type(known, from);
+    let own = auto_fault(known, name, from);
     expression(known, from)?;
-    declare_variable(known, own, name, declared.value())
+    declare_variable(known, own, name, declared)
+}
+
+// The type of a reference.
+fn bound_type(known: &Known, head: ReferenceHead, from: &Expr) -> ExprType
+    ensures { result ≡ ranges.reference_type head (type_seen known.now.scope (expr_of from.now)) }
+{
+    reference_type(head, type_of(known.scope(), from))
 }
 
 // Whether a reference may be bound to an expression, whose type this is.
@@ -140,10 +155,27 @@ fn reference_declaration(
     ensures { let d = tree.declares_reference head name.now (expr_of from.now) in
         Answers result (spec.declaration_faults known.old d) known.new (flow.behind_declaration known.old d) }
 {
-    let declared = reference_type(head, type_of(known.scope(), from));
+    let declared = bound_type(known, head, from);
     let own = reference_fault(known, head, name, from);
     expression(known, from)?;
     declare_variable(known, own, name, declared)
+}
+
+// The first of its own rules that the declaration of a container breaks, but for the limit.
+#[tactic(auto, using(crate::proofs::StepLaws::first_laws))]
+fn own_container_fault(
+    known: &Known,
+    container: ContainerType,
+    name: &Identifier,
+    from: &Initializer,
+) -> Option<Fault>
+    ensures { result ≡ first_of
+        (spec.twice_faults known.now name.now
+        ++ (fault (spec.has_no_constructor container.form (initializer_of from.now)) container.place rule.NO_SUCH_CALL
+        ++ fault (spec.wrong_initializer known.now container.form (initializer_of from.now)) container.place rule.WRONG_TYPE
+        ++ fault (spec.is_disordered known.now (initializer_of from.now)) container.place rule.ORDER_OF_EFFECTS)) }
+{
+    twice_fault(known, name).or(container_fault(known, container, from))
 }
 
 /// The declaration of a container.
@@ -156,7 +188,7 @@ fn container_declaration(
     ensures { let d = tree.declares_container container name.now (initializer_of from.now) in
         Answers result (spec.declaration_faults known.old d) known.new (flow.behind_declaration known.old d) }
 {
-    let own = twice_fault(known, name).or(container_fault(known, container, from));
+    let own = own_container_fault(known, container, name, from);
     initializer(known, from)?;
     declare_variable(
         known,
@@ -203,23 +235,32 @@ pub fn declaration_place(x: &Declaration) -> Place
     }
 }
 
+// The first part of a `for`.
+fn first_part(known: &mut Known, x: &First) -> Result<(), Stop>
+    ensures { Answers result
+        (spec.first_faults known.old (Some (first_seen x.now)))
+        known.new (flow.behind_first known.old (Some (first_seen x.now))) }
+{
+    match x {
+        First::Scalar {
+            place,
+            scalar,
+            name,
+            value,
+        } => scalar_declaration(known, *place, *scalar, name, Some(value)),
+        First::Auto { place, name, value } => auto_declaration(known, *place, name, value),
+        First::Effect(x) => effect(known, x),
+    }
+}
+
 /// The first part of a `for`, which may be missing.
 pub fn first(known: &mut Known, x: &Option<First>) -> Result<(), Stop>
     ensures { Answers result
-        (spec.first_faults known.old (option_map first_part x.now))
-        known.new (flow.behind_first known.old (option_map first_part x.now)) }
+        (spec.first_faults known.old (option_map first_seen x.now))
+        known.new (flow.behind_first known.old (option_map first_seen x.now)) }
 {
     match x {
         None => Ok(()),
-        Some(
-            First::Scalar {
-                place,
-                scalar,
-                name,
-                value,
-            },
-        ) => scalar_declaration(known, *place, *scalar, name, Some(value)),
-        Some(First::Auto { place, name, value }) => auto_declaration(known, *place, name, value),
-        Some(First::Effect(x)) => effect(known, x),
+        Some(x) => first_part(known, x),
     }
 }

@@ -61,7 +61,7 @@ fn is_wrong_out(known: &Known, item: &Out) -> bool
 }
 
 // Whether something that is printed isn't one.
-fn has_wrong_out(known: &Known, items: &[Out]) -> bool
+fn any_wrong_out(known: &Known, items: &[Out]) -> bool
     ensures { result ≡ list_any (λ item. spec.wrong_out known.now (out_of item)) items.now }
 {
     items.iter().any(
@@ -69,6 +69,13 @@ fn has_wrong_out(known: &Known, items: &[Out]) -> bool
             ensures { result ≡ spec.wrong_out known.entry.now (out_of item.now) }
         { is_wrong_out(known, item) },
     )
+}
+
+// The same of the items as data.
+fn has_wrong_out(known: &Known, items: &[Out]) -> bool
+    ensures { result ≡ list_any (spec.wrong_out known.now) (map out_of items.now) }
+{
+    any_wrong_out(known, items)
 }
 
 // A print.

@@ -5,9 +5,16 @@ mod declaration;
 mod effect;
 mod expression;
 mod faults;
+mod function;
+mod heads;
 mod initializer;
+mod jumps;
+mod parameters;
 mod reading;
 mod rules_stub;
 mod sites;
+mod statement;
 mod stop;
 mod variables;
+
+pub use function::first_fault;
