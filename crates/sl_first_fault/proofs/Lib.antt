@@ -12,3 +12,4 @@ pub mod InitializerLaws
 pub mod CondLaws
 pub mod DeclarationLaws
 pub mod StatementLaws
+pub mod FunctionLaws

@@ -11,9 +11,10 @@ use Rattle.sl_syntax.specs.Tree.{Expr, Initializer, Declaration, Out, Effect, Co
 use Rattle.sl_typing.specs.declared.scope.FunctionHead.{FunctionHead}
 use Rattle.sl_typing.specs.declared.scope.NamedVariable.{NamedVariable}
 use Rattle.sl_typing.specs.declared.scope.Scope.{Scope}
-use Rattle.sl_typing.specs.Contexts.{Context, started, started_loop, enter, with_hidden}
+use Rattle.sl_typing.specs.Contexts.{Context, declare, looping, started, started_loop, enter, with_hidden}
 use Rattle.sl_typing.specs.Flow.{behind_value, behind_initializer, behind_declaration, behind_out, behind_outs, behind_effect, behind_cond, behind_first}
-use Rattle.sl_typing.specs.Flow.{in_for, in_range, at_test, at_last}
+use Rattle.sl_typing.specs.Flow.{in_for, in_range, at_test, at_last, behind_hidden}
+use Rattle.sl_typing.specs.Ranges.{element_type}
 use Rattle.sl_typing.specs.Scopes.{type_of_name}
 use Rattle.sl_typing.specs.Flow.{behind_test, behind_last, after, after_item, after_items}
 
@@ -123,16 +124,18 @@ with_hidden-extends (types.Handed t) g = Extends-refl g.scope
 with_hidden-extends (types.IntReference w) g = Extends-refl g.scope
 with_hidden-extends (types.EntryReference w) g = Extends-refl g.scope
 
+-- a variable behind the others, in a loop
+loop_variable-extends : (x : Identifier) (u : ExprType) (g : Context) → Extends g.scope (looping (declare x u g)).scope
+loop_variable-extends x u g = record { added = _; variables = refl; functions = refl; result = refl }
+
 -- in the body of a range-for
 pub in_range-extends : (g : Context) (at : Place) (how : Element) (x over : Identifier) → Extends g.scope (in_range g at how x over).scope
 in_range-extends g at how x over =
-    let h = with_hidden-extends (type_of_name g.scope over.name) (enter (started_loop at g)) in
-    record {
-      added = h.added ++ _;
-      variables = ap (λ (l : List NamedVariable). l ++ _) h.variables ∙ append_assoc g.scope.variables h.added _;
-      functions = h.functions;
-      result = h.result;
-    }
+    let u = type_of_name g.scope over.name in
+    let h = with_hidden-extends u (enter (started_loop at g)) in
+    let hidden : Extends g.scope (behind_hidden g at over).scope =
+    record { added = h.added; variables = h.variables; functions = h.functions; result = h.result } in
+    Extends-trans hidden (loop_variable-extends x (element_type how u) (behind_hidden g at over))
 
 -- a statement leaves the scope as it is
 pub after-scope : (g : Context) (a : Stmt) → (after g a).scope ≡ g.scope

@@ -7,6 +7,7 @@ use Rattle.sl_syntax.specs.declared.tree.element.Element.{Element}
 use Rattle.sl_syntax.specs.declared.tree.identifier.Identifier.{Identifier}
 use Rattle.sl_syntax.specs.Tree as s
 use Rattle.sl_syntax.specs.Tree.{Expr, Declaration, Cond, First, Effect, Stmt, Items}
+use Rattle.sl_syntax.proofs.TreeViews.{stmt_views}
 use Rattle.sl_typing.specs.declared.fault.Fault.{Fault}
 use Rattle.sl_typing.specs.declared.rules.TheConstants as rule
 use Rattle.sl_typing.specs.declared.scope.Scope.{Scope}
@@ -197,3 +198,6 @@ pub does : {A : Type 0} (r : Result A Stop) (g new : Context) (at : Place) (w : 
     → Answers r (stmt_faults g (s.does at w)) new (after g (s.does at w))
 unfolding stmt_faults after
 does r g new at w h = h
+
+-- a statement of the code as data
+pub ruleset statement_views = (stmt_views)

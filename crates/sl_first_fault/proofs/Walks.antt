@@ -45,20 +45,20 @@ element_walk = record {
   behind_more = behind_all-cons;
 }
 
-items-none : (g : Context) → items_faults g (items_of []) ≡ []
+pub items-none : (g : Context) → items_faults g (items_of []) ≡ []
 unfolding items_faults
 items-none g = refl
 
-items-more : (g : Context) (x : ItemCode) (xs : List ItemCode)
+pub items-more : (g : Context) (x : ItemCode) (xs : List ItemCode)
     → items_faults g (items_of (x ∷ xs)) ≡ item_faults g (item_of x) ++ items_faults (after_item g (item_of x)) (items_of xs)
 unfolding items_faults
 items-more g x xs = refl
 
-after-none : (g : Context) → after_items g (items_of []) ≡ g
+pub after-none : (g : Context) → after_items g (items_of []) ≡ g
 unfolding after_items
 after-none g = refl
 
-after-more : (g : Context) (x : ItemCode) (xs : List ItemCode) → after_items g (items_of (x ∷ xs)) ≡ after_items (after_item g (item_of x)) (items_of xs)
+pub after-more : (g : Context) (x : ItemCode) (xs : List ItemCode) → after_items g (items_of (x ∷ xs)) ≡ after_items (after_item g (item_of x)) (items_of xs)
 unfolding after_items
 after-more g x xs = refl
 

@@ -1,3 +1,4 @@
 -- What the steps of the walk over a program answer. Nobody has to believe it.
 pub mod Steps
 pub mod Sites
+pub mod Statements

@@ -34,6 +34,7 @@ pub fn brace(known: &mut Known, items: &[Item], close: Place) -> Result<(), Stop
 
 /// A statement.
 #[cycle(statement)]
+#[tactic(auto, using(crate::proofs::StatementLaws::statement_views), unfolding(crate::specs::Means::Statements::stmt_faults, crate::specs::Means::Statements::after))]
 fn statement(alloc: Global, known: &mut Known, x: &Stmt) -> Result<(), Stop>
     ensures { Answers result (stmt_faults known.old (stmt_of x.now)) known.new (after known.old (stmt_of x.now)) }
 {
@@ -80,6 +81,7 @@ fn statement(alloc: Global, known: &mut Known, x: &Stmt) -> Result<(), Stop>
 
 // A `while`.
 #[cycle(statement)]
+#[tactic(auto, unfolding(crate::specs::Means::Statements::stmt_faults, crate::specs::Means::Statements::after))]
 fn while_loop(
     alloc: Global,
     known: &mut Known,
@@ -100,6 +102,7 @@ fn while_loop(
 
 // A `for`.
 #[cycle(statement)]
+#[tactic(auto, unfolding(crate::specs::Means::Statements::stmt_faults, crate::specs::Means::Statements::after))]
 fn for_loop(
     alloc: Global,
     known: &mut Known,
@@ -120,6 +123,7 @@ fn for_loop(
 
 // A range-for.
 #[cycle(statement)]
+#[tactic(auto, unfolding(crate::specs::Means::Statements::stmt_faults, crate::specs::Means::Statements::after))]
 fn range_loop(
     alloc: Global,
     known: &mut Known,
@@ -140,6 +144,7 @@ fn range_loop(
 
 // A block.
 #[cycle(statement)]
+#[tactic(auto, unfolding(crate::specs::Means::Statements::stmt_faults, crate::specs::Means::Statements::after))]
 fn block(alloc: Global, known: &mut Known, x: &Block) -> Result<(), Stop>
     ensures { let a = tree.block x.now.place (items_of x.now.items.items) x.now.close in
         Answers result (stmt_faults known.old a) known.new (after known.old a) }
@@ -164,6 +169,7 @@ pub fn items(alloc: Global, known: &mut Known, xs: &[Item]) -> Result<(), Stop>
 
 // An item of a block.
 #[cycle(statement)]
+#[tactic(auto, unfolding(crate::specs::Means::Statements::item_faults, crate::specs::Means::Statements::after_item))]
 fn item(alloc: Global, known: &mut Known, x: &Item) -> Result<(), Stop>
     ensures { Answers result (item_faults known.old (item_of x.now)) known.new (after_item known.old (item_of x.now)) }
 {
