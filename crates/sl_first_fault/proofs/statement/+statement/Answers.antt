@@ -30,19 +30,18 @@ while_loop-returns t c =
 
 pub for_loop-returns : goal.for_loop-returns
 for_loop-returns t c =
-    for c.stop_at.result _ c.args.known.now c.for_head-head.new.known c.statement.new.known c.leave.new.self _ c.args.place
+    for c.stop_at.result _ c.args.known.now c.for_head.new.known c.statement.new.known c.leave.new.self _ c.args.place
     (option_map first_of c.args.first.now) (option_map cond_of c.args.cond.now) (option_map effect_of c.args.step.now) (stmt_of c.args.body.now)
     c.in_ok-head.ensures.walk c.in_ok-statement.ensures c.in_ok-head.ensures.outside c.leave.ensures c.in_ok-head.ensures.own c.stop_at.ensures
 
 pub range_loop-returns : goal.range_loop-returns
 range_loop-returns t c =
-    range_for c.stop_at.result _ c.args.known.now c.range_head-head.new.known c.statement.new.known c.leave.new.self _ c.args.place c.args.element
+    range_for c.stop_at.result _ c.args.known.now c.range_head.new.known c.statement.new.known c.leave.new.self _ c.args.place c.args.element
     c.args.name.now c.args.over.now (stmt_of c.args.body.now) c.in_ok-head.ensures.walk c.in_ok-statement.ensures c.in_ok-head.ensures.outside
     c.leave.ensures c.in_ok-head.ensures.own c.stop_at.ensures
 
 pub block-returns : goal.block-returns
 block-returns t c =
-    let e = c.deref.ensures.value in
-    block_done c.args.known.now c.enter-outside.new.self c.items.new.known c.brace.new.known c.leave.new.self _ c.args.x.now.place
+    block_done c.args.known.now c.enter.new.self c.items.new.known c.brace.new.known c.leave.new.self _ c.args.x.now.place
     (items_of c.args.x.now.items.items) c.args.x.now.close c.in_ok-outside.ensures.entered c.in_ok-outside.ensures.outside
     (rw c.deref.ensures.value at c.in_ok-items.ensures) (rw c.deref-2.ensures.value at c.in_ok-brace.ensures) c.leave.ensures
