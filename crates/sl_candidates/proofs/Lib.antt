@@ -6,3 +6,5 @@ pub mod LetterLaws
 pub mod LastLaws
 -- ## Walks over the table
 pub mod TableWalks
+-- ## No row takes many arguments
+pub mod FewArguments

@@ -8,3 +8,6 @@ pub mod LooksLaws
 -- ## Types
 pub mod RowLaws
 pub mod TypeLaws
+-- ## Sites
+pub mod SiteLaws
+pub mod CountLaws

@@ -18,6 +18,7 @@ use Rattle.sl_typing.specs.declared.expr_type.ExprType.{ExprType}
 use Rattle.sl_typing.specs.declared.expr_type.ExprType.TheVariants as types
 use Rattle.sl_typing.specs.declared.scope.Scope.{Scope}
 use Rattle.sl_typing.specs.Candidates.{Found, member_row, algorithm_row}
+use Rattle.sl_typing.specs.Numbering.{row_of_member}
 use Rattle.sl_typing.specs.Scopes.{type_of_name, function_named}
 use Rattle.sl_typing.specs.Types.{value_type, is_const}
 use Rattle.sl_typing.specs.TypeOf.{type_of, types_of, type_of_use, own_type, appends, algorithm_type, member_type, prefix_type, binary_type, subscript_type}
@@ -179,3 +180,21 @@ member-type g x f v u name us ys is_u is_name is_ys is_us =
     ∙ ap (λ (n : List ℕ). member_type (type_of g (expr_of x.value)) n (listed (few (types_of g (exprs_of ys))))) is_name
     ∙ ap (λ (zs : List ExprCode). member_type (type_of g (expr_of x.value)) f.name (listed (few (types_of g (exprs_of zs))))) is_ys
     ∙ sym (type-MemberCall g x f v)
+
+wrong_row-many : (u : ExprType) (name : List ℕ) (us vs : List ExprType) → 8 < length us → 8 < length vs → row_of_member u name vs ≡ row_of_member u name us
+wrong_row-many (types.Container access form) name us vs h k = member_row-many form name vs k ∙ sym (member_row-many form name us h)
+wrong_row-many u name us vs h k = refl
+
+-- the row of a member call from the types that are kept of its arguments
+pub row_of_member-few : (u : ExprType) (name : List ℕ) (us : List ExprType) → row_of_member u name (listed (few us)) ≡ row_of_member u name us
+row_of_member-few u name us = elim (cases_lt 8 (length us)) as (λ _. row_of_member u name (listed (few us)) ≡ row_of_member u name us) [
+  | inl h ↦ wrong_row-many u name us (listed (few us)) h (listed-many us h)
+  | inr h ↦ ap (row_of_member u name) (listed-few us h)
+]
+
+-- and that of a call of an algorithm
+pub algorithm_row-few : (b : Bool) (name : List ℕ) (us : List ExprType) → algorithm_row b name (listed (few us)) ≡ algorithm_row b name us
+algorithm_row-few b name us = elim (cases_lt 8 (length us)) as (λ _. algorithm_row b name (listed (few us)) ≡ algorithm_row b name us) [
+  | inl h ↦ algorithm_row-many b name (listed (few us)) (listed-many us h) ∙ sym (algorithm_row-many b name us h)
+  | inr h ↦ ap (algorithm_row b name) (listed-few us h)
+]

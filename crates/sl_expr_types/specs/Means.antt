@@ -1,3 +1,4 @@
 -- The promises are those of the definitions of typing. Here stands only what the private contracts say beside them.
 pub mod Sides
 pub mod Calls
+pub mod Counts

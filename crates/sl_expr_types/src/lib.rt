@@ -8,6 +8,7 @@ mod gives;
 mod looks;
 mod nodes;
 mod rows;
+mod sites;
 mod types;
 
 pub use appenders::{appends, is_back_inserter};
@@ -21,4 +22,7 @@ pub use nodes::{
     binary_type, own_call_type, prefix_type, selected_type, subscript_type, type_of_use,
 };
 pub use rows::{row_of_algorithm, row_of_member, row_of_subscript};
+pub use sites::{
+    capped_sum, is_member_site, is_site, is_subscript_site, site_count, site_count_of_all,
+};
 pub use types::{Types, empty, pushed, slice_of};

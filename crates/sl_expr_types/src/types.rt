@@ -8,7 +8,9 @@ use std::marker::Model;
 /// The most arguments that a call of the library has.
 pub const ARGUMENTS: usize = 8;
 
-static MANY: [ExprType; 9] = [ExprType::Wrong; 9];
+const TOO_MANY: usize = ARGUMENTS + 1;
+
+static MANY: [ExprType; TOO_MANY] = [ExprType::Wrong; TOO_MANY];
 
 /// The types of a call's arguments in their order, at most eight. A contract sees the list.
 #[derive(Drop)]

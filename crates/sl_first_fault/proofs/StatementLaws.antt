@@ -22,9 +22,9 @@ use Rattle.sl_typing.specs.StatementFaults.{value_faults, effect_faults, declara
 use Rattle.sl_typing.specs.StatementFaults.{wrong_cond, wrong_test, stmt_faults, item_faults, items_faults}
 use Rattle.sl_typing.specs.Typing.{first_of}
 use Rattle.sl_first_fault.specs.declared.stop.Stop.{Stop}
-use Rattle.sl_first_fault.specs.Means.Steps.{Done, Checks, Answers}
+use Rattle.sl_first_fault.specs.Means.Steps.{StopsAt, Done, Checks, Answers}
 use Rattle.sl_first_fault.proofs.ScopeLaws.{Extends, behind_cond-scope, after-scope, after_items-extends, in_for-extends, in_range-extends}
-use Rattle.sl_first_fault.proofs.StepLaws.{Answers-along, then_done, then_checks, moved, started_at, group-2, group-3}
+use Rattle.sl_first_fault.proofs.StepLaws.{Answers-along, StopsAt-before, then_stops, then_done, then_checks, moved, started_at, group-2, group-3}
 
 -- an `if`
 pub choice : {A : Type 0} (r : Result A Stop) (own : Option Fault) (g m1 m2 : Context) (at : Place) (k : Cond) (a : Stmt)
@@ -55,6 +55,18 @@ choice_else r own g m1 m2 m3 at k a b d1 d2 d3 e h =
     (then_checks r own (wrong ++ past)
     (then_done (λ (h : Context). stmt_faults h b) m3 (λ (h : Context). after h b)
     (then_done (λ (h : Context). stmt_faults h a) m2 (λ (h : Context). after h a) d1 d2) d3) e h)
+
+-- one whose second branch breaks a rule
+pub choice_else_stops : (e : Stop) (g m1 m2 : Context) (at : Place) (k : Cond) (a b : Stmt)
+    → Done (cond_faults (started g) k) m1 (behind_cond (started g) k) → Done (stmt_faults m1 a) m2 (after m1 a) → StopsAt e (first_of (stmt_faults m2 b))
+    → StopsAt e (first_of (stmt_faults g (s.choice_else at k a b)))
+unfolding stmt_faults after
+choice_else_stops e g m1 m2 at k a b d1 d2 h =
+    let inside = behind_cond (started g) k in
+    let parts = cond_faults (started g) k ++ stmt_faults inside a ++ stmt_faults (after inside a) b in
+    let wrong = broken (wrong_cond (started g) k) at rule.WRONG_TYPE in
+    StopsAt-before e (parts ++ wrong) (statement_faults g at) (StopsAt-before e parts wrong
+    (then_stops e (λ (h : Context). stmt_faults h b) (then_done (λ (h : Context). stmt_faults h a) m2 (λ (h : Context). after h a) d1 d2) h))
 
 -- the scope behind the body of a loop without a scope of its own
 body_scope : (g m1 m2 : Context) (b : Context) (a : Stmt) → m1 ≡ b → b.scope ≡ g.scope → m2 ≡ after (looping m1) a

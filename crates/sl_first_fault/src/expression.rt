@@ -9,10 +9,10 @@ ghost use Rattle.sl_typing.specs.StatementFaults.{expr_faults, value_faults};
 ghost use Rattle.sl_first_fault.specs.Means.Steps.{Answers};
 
 use crate::faults::stop_at;
-use crate::rules_stub::{first_fault_in, first_fault_in_all};
 use crate::sites::{pass, pass_all};
 use crate::stop::Stop;
 use sl_contexts::Known;
+use sl_rules::{look_at, look_at_all};
 use sl_syntax::Expr;
 use sl_typing::Standing;
 
@@ -20,8 +20,8 @@ use sl_typing::Standing;
 pub fn expression(known: &mut Known, e: &Expr) -> Result<(), Stop>
     ensures { Answers result (expr_faults known.old (expr_of e.now)) known.new (behind known.old (expr_of e.now)) }
 {
-    let fault = first_fault_in(known.scope(), known.sites(), Standing::Plain, e);
-    stop_at(fault)?;
+    let look = look_at(known.scope(), known.sites(), Standing::Plain, e);
+    stop_at(look.fault)?;
     pass(known, e)?;
     Ok(())
 }
@@ -32,8 +32,8 @@ pub fn arguments(known: &mut Known, xs: &[Expr]) -> Result<(), Stop>
         (faults_of_all known.old.scope (length known.old.sites) standing.Plain (exprs_of xs.now))
         known.new (behind_all known.old (exprs_of xs.now)) }
 {
-    let fault = first_fault_in_all(known.scope(), known.sites(), Standing::Plain, xs);
-    stop_at(fault)?;
+    let looks = look_at_all(known.scope(), known.sites(), Standing::Plain, xs);
+    stop_at(looks.fault)?;
     pass_all(known, xs)?;
     Ok(())
 }

@@ -18,12 +18,12 @@ ghost use Rattle.sl_first_fault.specs.Means.Steps.{Answers};
 
 use crate::expression::{arguments, expression};
 use crate::faults::stop_at;
-use crate::rules_stub::some_clash;
 use crate::stop::Stop;
 use sl_base::Form;
 use sl_base::limits::LIST_ELEMENTS;
 use sl_candidates::{constructor_row, has_constructor, list_constructor};
 use sl_contexts::Known;
+use sl_effect_order::some_clash;
 use sl_expr_types::{Types, place_of, slice_of, type_of, types_of};
 use sl_scopes::names::type_of_name;
 use sl_statement_types::{broken, name_fault};

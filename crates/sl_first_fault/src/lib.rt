@@ -11,7 +11,6 @@ mod initializer;
 mod jumps;
 mod parameters;
 mod reading;
-mod rules_stub;
 mod sites;
 mod statement;
 mod stop;

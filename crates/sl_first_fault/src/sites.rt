@@ -5,10 +5,9 @@ ghost use Rattle.sl_typing.specs.Contexts.{with_sites};
 ghost use Rattle.sl_typing.specs.Sites.{own_site, behind, behind_all, assignment_site, brace_site};
 ghost use Rattle.sl_typing.specs.Sites.{is_assignment_site as is_site_here};
 
-use crate::rules_stub::is_site;
 use sl_base::Place;
 use sl_contexts::Known;
-use sl_expr_types::{is_plain, place_of, type_of};
+use sl_expr_types::{is_plain, is_site, place_of, type_of};
 use sl_statement_types::declares_container;
 use sl_syntax::{Assignment, Expr, Item};
 use sl_typing::Scope;

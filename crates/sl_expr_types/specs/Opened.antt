@@ -1,0 +1,2 @@
+-- Definitions of typing that proofs open.
+pub use Rattle.sl_typing.specs.Sites.{is_site}
