@@ -1,5 +1,5 @@
 -- Numbers of sites in expressions, variant by variant.
-use Rattle.std.proofs.Common.{◌≡◌, ℕ, ◌<◌, ◌≤◌, ◌+◌, Bool, true, false, List, [], ◌∷◌, ◌++◌, length, take, get_or, Box, Vec, flat_map, if◌then◌else◌, refl, sym, ap, ◌∙◌, arith, subst}
+use Rattle.std.proofs.Common.{◌≡◌, ℕ, ◌<◌, ◌≤◌, ◌+◌, Bool, true, false, List, [], ◌∷◌, ◌++◌, length, take, get_or, Box, Vec, flat_map, if◌then◌else◌, refl, sym, ap, ◌∙◌, subst}
 use Rattle.std.proofs.lemmas.List.{append-nil, take_all, take_more, length-append}
 use Rattle.std.proofs.lemmas.List.Concat.{flat_map-append}
 use Rattle.std.specs.declared.alloc.Global.{Global}
@@ -19,7 +19,7 @@ use Rattle.sl_typing.specs.Looks.{place_of}
 use Rattle.sl_typing.specs.Sites.{is_site, own_site, sites_in, sites_in_all, site_count}
 use Rattle.sl_expr_types.specs.Capped.{capped}
 use Rattle.sl_expr_types.specs.Means.Counts.{one_if}
-use Rattle.sl_expr_types.proofs.SiteLaws.{capped-+, capped-left, capped-right, capped-small}
+use Rattle.sl_expr_types.proofs.SiteLaws.{capped-+, capped-left, capped-right}
 use Rattle.sl_expr_types.proofs.Views.{expr_of-Call, expr_of-LibraryCall, expr_of-Parentheses, expr_of-Prefix, expr_of-Binary, expr_of-Postfix}
 use Rattle.sl_expr_types.proofs.Views.{expr_of-Index, expr_of-MemberCall, expr_of-Member}
 

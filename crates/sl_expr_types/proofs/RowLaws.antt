@@ -1,5 +1,5 @@
 -- No call of the library has more than eight arguments.
-use Rattle.std.proofs.Common.{◌≡◌, ℕ, ◌<◌, ◌≤◌, ◌+◌, nat_le, Bool, true, false, ◌&&◌, not, List, [], ◌∷◌, length, map, sum, Option, Some, None, refl, sym, ap, ◌∙◌, arith, if◌then◌else◌}
+use Rattle.std.proofs.Common.{◌≡◌, ℕ, ◌<◌, ◌+◌, nat_le, Bool, true, false, ◌&&◌, not, List, [], ◌∷◌, length, map, sum, Option, Some, None, refl, ap, ◌∙◌, arith, if◌then◌else◌}
 use Rattle.std.specs.List.{list_all}
 use Rattle.std.proofs.lemmas.Grind.{common_steps}
 use Rattle.sl_base.specs.declared.form.Form.{Form}
@@ -9,7 +9,7 @@ use Rattle.sl_specs.specs.Rows.{Row}
 use Rattle.sl_specs.specs.Table.{table}
 use Rattle.sl_typing.specs.declared.expr_type.ExprType.{ExprType}
 use Rattle.sl_typing.specs.Arguments.{most, fewest, takes_list, takes_count, letters_take, letters_seen}
-use Rattle.sl_typing.specs.Candidates.{Found, first_from, first_row, is_called, is_candidate, member_row, algorithm_row}
+use Rattle.sl_typing.specs.Candidates.{first_from, first_row, is_called, is_candidate, member_row, algorithm_row}
 
 -- a row has no more
 abbrev is_short : Row → Bool

@@ -1,29 +1,21 @@
 -- Sites of expressions, variant by variant.
-use Rattle.std.proofs.Common.{◌≡◌, ℕ, ◌<◌, ◌≤◌, ◌+◌, ◌==◌, min, Bool, true, false, ◌&&◌, List, [], ◌∷◌, ◌++◌, length, take, get_or, Box, Vec, flat_map, if◌then◌else◌, refl, sym, ap, ◌∙◌, arith, subst, inl, inr}
+use Rattle.std.proofs.Common.{◌≡◌, ℕ, ◌<◌, ◌≤◌, ◌+◌, ◌==◌, min, Bool, false, ◌&&◌, List, length, Box, Vec, sym, ap, ◌∙◌, arith, inl, inr}
 use Rattle.std.proofs.lemmas.Bool.{cases_lt}
 use Rattle.std.proofs.lemmas.Grind.{common_steps}
-use Rattle.std.proofs.lemmas.List.{take_all, take_more, length-append}
-use Rattle.std.proofs.lemmas.List.Concat.{flat_map-append}
 use Rattle.std.specs.declared.alloc.Global.{Global}
 use Rattle.sl_base.specs.declared.limits.TheConstants.{SITES}
 use Rattle.sl_base.specs.declared.place.Place.{Place}
-use Rattle.sl_syntax.specs.declared.operator.BinaryOperator.{BinaryOperator}
-use Rattle.sl_syntax.specs.declared.operator.PostfixOperator.{PostfixOperator}
-use Rattle.sl_syntax.specs.declared.operator.PrefixOperator.{PrefixOperator}
-use Rattle.sl_syntax.specs.declared.operator.Selector.{Selector}
 use Rattle.sl_syntax.specs.declared.tree.expr.Expr.{Expr as ExprCode}
 use Rattle.sl_syntax.specs.declared.tree.expr.Expr.TheVariants as e
 use Rattle.sl_syntax.specs.declared.tree.identifier.Identifier.{Identifier}
-use Rattle.sl_syntax.specs.Tree as s
-use Rattle.sl_syntax.specs.Tree.{Expr, Exprs}
+use Rattle.sl_syntax.specs.Tree.{Expr}
 use Rattle.sl_syntax.specs.TreeView.{expr_of, exprs_of}
 use Rattle.sl_typing.specs.declared.expr_type.ExprType.{ExprType}
 use Rattle.sl_typing.specs.declared.scope.Scope.{Scope}
-use Rattle.sl_typing.specs.Looks.{is_plain, place_of}
-use Rattle.sl_typing.specs.TypeOf.{type_of, appends, size}
-use Rattle.sl_typing.specs.Sites.{is_site, own_site, sites_in, sites_in_all, site_count, is_member_site, is_subscript_site}
+use Rattle.sl_typing.specs.Looks.{is_plain}
+use Rattle.sl_typing.specs.TypeOf.{type_of, appends}
+use Rattle.sl_typing.specs.Sites.{is_site, is_member_site, is_subscript_site}
 use Rattle.sl_expr_types.specs.Capped.{capped}
-use Rattle.sl_expr_types.specs.Means.Counts.{one_if}
 use Rattle.sl_expr_types.proofs.LastLaws.{size-exprs_of}
 use Rattle.sl_expr_types.proofs.Views.{expr_of-Call, expr_of-LibraryCall, expr_of-Parentheses, expr_of-Prefix, expr_of-Binary, expr_of-Postfix}
 use Rattle.sl_expr_types.proofs.Views.{expr_of-Index, expr_of-MemberCall, expr_of-Member}

@@ -1,5 +1,5 @@
 -- The types of expressions, variant by variant.
-use Rattle.std.proofs.Common.{◌≡◌, ℕ, ◌<◌, ◌≤◌, ◌+◌, Bool, List, [], ◌∷◌, ◌++◌, length, map, take, get_or, Option, Some, None, Box, Vec, refl, sym, ap, ◌∙◌, arith, inl, inr, ◌⊎◌}
+use Rattle.std.proofs.Common.{◌≡◌, ℕ, ◌<◌, ◌≤◌, ◌+◌, Bool, List, [], ◌∷◌, ◌++◌, length, map, take, get_or, Option, Some, None, Box, Vec, refl, sym, ap, ◌∙◌, inl, inr}
 use Rattle.std.proofs.lemmas.Bool.{cases_lt}
 use Rattle.std.proofs.lemmas.List.{take_all, take_more, map-append}
 use Rattle.std.specs.declared.alloc.Global.{Global}
@@ -17,7 +17,7 @@ use Rattle.sl_syntax.specs.TreeView.{expr_of, exprs_of}
 use Rattle.sl_typing.specs.declared.expr_type.ExprType.{ExprType}
 use Rattle.sl_typing.specs.declared.expr_type.ExprType.TheVariants as types
 use Rattle.sl_typing.specs.declared.scope.Scope.{Scope}
-use Rattle.sl_typing.specs.Candidates.{Found, member_row, algorithm_row}
+use Rattle.sl_typing.specs.Candidates.{Found, algorithm_row}
 use Rattle.sl_typing.specs.Numbering.{row_of_member}
 use Rattle.sl_typing.specs.Scopes.{type_of_name, function_named}
 use Rattle.sl_typing.specs.Types.{value_type, is_const}

@@ -1,6 +1,6 @@
 -- A block declares a container where one of its items does.
 use Rattle.std.proofs.Common.{◌≡◌, List, [], ◌∷◌, refl}
-use Rattle.std.specs.Prelude.{◌||◌, map}
+use Rattle.std.specs.Prelude.{◌||◌}
 use Rattle.std.specs.List.{list_any}
 use Rattle.sl_syntax.specs.declared.tree.statement.Item.{Item as Code}
 use Rattle.sl_syntax.specs.Tree as s

@@ -1,5 +1,5 @@
 -- The two hidden iterators of a range-for over a container pass a limit where two iterators do.
-use Rattle.std.proofs.Common.{◌≡◌, Bool, None, refl, sym, ◌∙◌}
+use Rattle.std.proofs.Common.{◌≡◌, Bool, None, refl, ◌∙◌}
 use Rattle.sl_base.specs.declared.form.Form.{Form}
 use Rattle.sl_syntax.specs.declared.operator.Access.{Access}
 use Rattle.sl_typing.specs.declared.expr_type.ExprType.TheVariants as types

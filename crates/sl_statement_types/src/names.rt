@@ -19,7 +19,7 @@ use sl_typing::rules::{
 };
 use sl_typing::{ExprType, Fault, Scope, is_const};
 
-/// A variable that isn't declared.
+/// A variable that isn't declared. It takes no memory.
 pub fn name_fault(known: &Known, name: &Identifier) -> Option<Fault>
     ensures { result ≡ first_of (spec.name_faults known.now name.now) }
 {
@@ -30,7 +30,7 @@ pub fn name_fault(known: &Known, name: &Identifier) -> Option<Fault>
     )
 }
 
-/// A name that is declared in the innermost scope already.
+/// A name that is declared in the innermost scope already. It takes no memory.
 pub fn twice_fault(known: &Known, name: &Identifier) -> Option<Fault>
     ensures { result ≡ first_of (spec.twice_faults known.now name.now) }
 {
@@ -41,21 +41,21 @@ pub fn twice_fault(known: &Known, name: &Identifier) -> Option<Fault>
     )
 }
 
-/// The first site past the limit, if a site stands here.
+/// The first site past the limit, if a site stands here. It takes no memory.
 pub fn site_fault(known: &Known, is_site: bool, place: Place) -> Option<Fault>
     ensures { result ≡ first_of (spec.site_faults known.now is_site place) }
 {
     broken(is_site & (known.sites() == SITES), place, TOO_MANY_SITES)
 }
 
-/// The first statement past the limit, where a statement begins here.
+/// The first statement past the limit, where a statement begins here. It takes no memory.
 pub fn statement_fault(known: &Known, place: Place) -> Option<Fault>
     ensures { result ≡ first_of (spec.statement_faults known.now place) }
 {
     broken(known.statements() == STATEMENTS, place, TOO_MANY_STATEMENTS)
 }
 
-/// A variable past a limit, where one of this type is declared, whatever its name.
+/// A variable past a limit, where one of this type is declared, whatever its name. It takes no memory.
 pub fn limit_fault(scope: &Scope, variable_type: ExprType, place: Place) -> Option<Fault>
     ensures { (name : Option (List ℕ)) (label : ℕ) → result ≡ first_of (faults.broken
         (scopes.passes_some_limit scope.now (scopes.with_variable name label variable_type scope.now)) place rule.TOO_MANY_VARIABLES) }
@@ -79,7 +79,7 @@ fn hidden_pass_limit(known: &Known, over: ExprType) -> bool
     }
 }
 
-/// A variable past a limit, where the two hidden iterators of a range-for over what is of this type come into scope.
+/// A variable past a limit, where the two hidden iterators of a range-for over what is of this type come into scope. It takes no memory.
 pub fn hidden_limit_fault(known: &Known, over: ExprType, place: Place) -> Option<Fault>
     ensures { result ≡ first_of (spec.limit_faults known.now (with_hidden over known.now) place) }
 {

@@ -1,6 +1,4 @@
 use Rattle.std.proofs.Common.{None}
-use Rattle.sl_typing.specs.Contexts.{with_hidden}
-use Rattle.sl_typing.specs.Scopes as scopes
 use Rattle.sl_statement_types.proofs.LimitLaws.{hidden_told}
 use Rattle.sl_statement_types.proofs.names.hidden_pass_limit.Goals as goal
 
