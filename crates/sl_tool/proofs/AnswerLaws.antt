@@ -12,7 +12,7 @@ use Rattle.sl_model.specs.Reports.Texts.{report_text}
 use Rattle.sl_tool.specs.declared.status.Status.{Status}
 use Rattle.sl_tool.specs.Answers.{AnswerTo, refused, not_built, reported, IsReport, status_of}
 use Rattle.sl_tool.specs.Subset.{ReadsAs}
-use Rattle.sl_tool.specs.Refusals.{IsParsed, by_length, by_token, by_grammar}
+use Rattle.sl_model.specs.Reports.Refusals.{IsParsed, by_length, by_token, by_grammar}
 
 -- the report on a text of the subset is its answer
 pub AnswerTo-report : (file text : List ℕ) (tokens : List Token) (program : Program) (p : Text) (result : Result (Status × List ℕ) AllocError)

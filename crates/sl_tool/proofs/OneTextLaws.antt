@@ -26,7 +26,7 @@ use Rattle.sl_tool.specs.declared.status.Status.TheVariants.{Refused}
 use Rattle.sl_tool.specs.Answers.{AnswerTo, refused, not_built, reported, IsReport, status_of}
 use Rattle.sl_tool.specs.Subset.{IsInSubset}
 use Rattle.sl_tool.specs.Subset.{Item, item_words, head_words, typed_text, ReadsAs, IsBuilt}
-use Rattle.sl_tool.specs.Refusals.{IsParsed, IsRefusal, by_length, by_token, by_grammar, stop_place}
+use Rattle.sl_model.specs.Reports.Refusals.{IsParsed, IsRefusal, by_length, by_token, by_grammar, stop_place}
 use Rattle.sl_tool.proofs.SubsetProgram.{text_is_program}
 use Rattle.sl_tool.proofs.ItemLaws.{begins_with, same_item, no_item_at_end}
 

@@ -12,7 +12,7 @@ use Rattle.sl_tool.specs.declared.status.Status.{Status}
 use Rattle.sl_tool.specs.declared.status.Status.TheVariants.{Passed, Warned, Refused}
 use Rattle.sl_tool.specs.Exactness.{IsExact, IsFounded}
 use Rattle.sl_tool.specs.Subset.{IsInSubset, ReadsAs}
-use Rattle.sl_tool.specs.Refusals.{IsParsed, IsRefusal, stop_place}
+use Rattle.sl_model.specs.Reports.Refusals.{IsParsed, IsRefusal, stop_place}
 
 -- A report on a text covers the trap of every run, and no run meets what has no meaning yet. It is empty exactly where no run traps;
 -- where it isn't, the plainest run ends in the trap of its first warning. Its warnings are in order, and each is founded in the text.

@@ -2,7 +2,6 @@
 pub mod Command
 pub mod Numbers
 pub mod Texts
-pub mod Refusals
 pub mod Subset
 pub mod Exactness
 pub mod Answers

@@ -10,6 +10,3 @@ usage_line = line [] (codes "usage: stllint check FILE | run FILE INPUT SCHEDULE
 
 abbrev pub fault_line : List ℕ → List ℕ
 fault_line file = codes "read fault: " ++ line file []
-
-abbrev pub too_long_line : List ℕ → List ℕ
-too_long_line file = line file (codes ": refused: longer than 1048576 bytes")

@@ -5,7 +5,7 @@ ghost use Rattle.sl_model.specs.Reports.Covers.{Warning as WarningValue};
 ghost use Rattle.sl_model.specs.Reports.Texts.{report_text};
 ghost use Rattle.sl_tool.specs.Answers.{AnswerTo, IsReport, status_of};
 ghost use Rattle.sl_tool.specs.Subset.{IsOfText};
-ghost use Rattle.sl_tool.specs.Refusals.{IsParsed};
+ghost use Rattle.sl_model.specs.Reports.Refusals.{IsParsed};
 
 use crate::analysis::warnings_in;
 use crate::parsed::{Parsed, stop_place};

@@ -8,8 +8,8 @@ ghost use Rattle.sl_lexer.specs.Faults.{fault_of};
 ghost use Rattle.sl_syntax.specs.Begins.{IsProgram, Stops, words_in};
 ghost use Rattle.sl_syntax.specs.Tree.{Program as ProgramValue};
 ghost use Rattle.sl_syntax.specs.TreeView.{program_of};
-ghost use Rattle.sl_tool.specs.Refusals.{IsParsed, IsRefusal, rule_words, stop_place};
-ghost use Rattle.sl_tool.specs.Texts.{too_long_line};
+ghost use Rattle.sl_model.specs.Reports.Refusals.{IsParsed, IsRefusal, rule_words, stop_place};
+ghost use Rattle.sl_model.specs.Reports.Refusals.{too_long_line};
 
 use crate::refusal::refusal_line;
 use sl_base::limits::TEXT_BYTES;

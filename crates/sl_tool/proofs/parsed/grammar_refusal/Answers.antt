@@ -1,4 +1,4 @@
-use Rattle.sl_tool.specs.Refusals.{by_grammar}
+use Rattle.sl_model.specs.Reports.Refusals.{by_grammar}
 use Rattle.sl_tool.proofs.RefusalLaws.{is_refusal}
 use Rattle.sl_tool.proofs.parsed.grammar_refusal.Goals as goal
 

@@ -1,5 +1,5 @@
 use Rattle.std.proofs.Common.{arith, Ok, Err}
-use Rattle.sl_tool.specs.Refusals.{by_length}
+use Rattle.sl_model.specs.Reports.Refusals.{by_length}
 use Rattle.sl_tool.proofs.OneTextLaws.{only_program, only_line}
 use Rattle.sl_tool.proofs.parsed.program_of.Goals as goal
 

@@ -1,4 +1,4 @@
-use Rattle.sl_tool.specs.Refusals.{by_token}
+use Rattle.sl_model.specs.Reports.Refusals.{by_token}
 use Rattle.sl_tool.proofs.RefusalLaws.{is_refusal}
 use Rattle.sl_tool.proofs.parsed.token_refusal.Goals as goal
 

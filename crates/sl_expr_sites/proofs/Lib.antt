@@ -1,0 +1,4 @@
+-- ## Sites of expressions
+pub mod SiteLaws
+-- ## Scopes
+pub mod ScopeLaws

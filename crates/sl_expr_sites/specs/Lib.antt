@@ -1,0 +1,2 @@
+-- ## What the private contracts say
+pub mod Means
