@@ -24,7 +24,7 @@ use Rattle.sl_typing.specs.Types.{is_number, is_iterator, is_written, value_type
 use Rattle.sl_typing.specs.Typing.{first_of}
 use Rattle.sl_first_fault.specs.declared.stop.Stop.{Stop}
 use Rattle.sl_first_fault.specs.Means.Steps.{Done, Answers}
-use Rattle.sl_first_fault.proofs.ScopeLaws.{behind_value-scope, behind_initializer-scope}
+use Rattle.sl_expr_sites.proofs.ScopeLaws.{behind_value-scope, behind_initializer-scope}
 use Rattle.sl_first_fault.proofs.StepLaws.{Answers-along, declares, group-2, group-3}
 
 -- what the declaration of a variable answers, whatever its own rules are

@@ -16,7 +16,7 @@ use Rattle.sl_typing.specs.Sites.{behind, behind_all}
 use Rattle.sl_typing.specs.StatementFaults.{out_faults, outs_faults, expr_faults, element_faults, twice_faults, limit_faults, item_faults, items_faults}
 use Rattle.sl_typing.specs.ProgramFaults.{type_faults, behind_parameter, parameter_faults, function_faults, functions_faults}
 use Rattle.sl_typing.specs.Scopes.{name_of_parameter}
-use Rattle.sl_first_fault.proofs.SiteLaws.{behind_all-nil, behind_all-cons}
+use Rattle.sl_expr_sites.proofs.SiteLaws.{behind_all-nil, behind_all-cons}
 use Rattle.sl_first_fault.proofs.LoopLaws.{Walk}
 
 -- the items of a print

@@ -20,12 +20,11 @@ use crate::variables::declare_variable;
 use sl_base::{Place, Scalar};
 use sl_contexts::Known;
 use sl_expr_types::type_of;
-use sl_statement_types::{broken, head_frees_const, reference_type, twice_fault};
+use sl_statement_types::{broken, head_frees_const, may_be_bound, reference_type, twice_fault};
 use sl_syntax::{
     Access, ContainerType, Declaration, Expr, First, Identifier, Initializer, ReferenceHead,
-    Selector,
 };
-use sl_typing::{ExprType, Fault, Scope, rules};
+use sl_typing::{ExprType, Fault, rules};
 
 // Whether a value, where there is one, isn't a number.
 fn is_wrong_value(known: &Known, value: Option<&Expr>) -> bool
@@ -108,21 +107,6 @@ fn bound_type(known: &Known, head: ReferenceHead, from: &Expr) -> ExprType
     ensures { result ≡ ranges.reference_type head (type_seen known.now.scope (expr_of from.now)) }
 {
     reference_type(head, type_of(known.scope(), from))
-}
-
-// Whether a reference may be bound to an expression, whose type this is.
-fn may_be_bound(scope: &Scope, from: &Expr) -> bool
-    ensures { result ≡ ranges.may_be_bound scope.now (expr_of from.now) }
-{
-    match from {
-        Expr::Name(_) => false,
-        Expr::Parentheses { .. } => false,
-        Expr::Member {
-            selector: Selector::Dot,
-            ..
-        } => false,
-        _ => type_of(scope, from).is_element(),
-    }
 }
 
 // The first of its own rules that the declaration of a reference breaks, but for the limit.

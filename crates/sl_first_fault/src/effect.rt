@@ -15,14 +15,12 @@ ghost use Rattle.sl_first_fault.specs.Means.Steps.{Answers};
 
 use crate::expression::expression;
 use crate::faults::stop_at;
-use crate::reading::read_fault;
-use crate::sites::{is_assignment_site, pass_assignment};
 use crate::stop::Stop;
 use sl_base::Place;
 use sl_contexts::Known;
-use sl_expr_types::type_of;
+use sl_expr_sites::pass_assignment;
 use sl_rules::{assigns_const, assigns_weaker, wrong_assignment};
-use sl_statement_types::{broken, site_fault};
+use sl_statement_types::{broken, is_assignment_site, read_fault, site_fault, wrong_out};
 use sl_syntax::{Assignment, Cond, Effect, Expr, Out, Print};
 use sl_typing::{Fault, rules};
 
@@ -49,17 +47,6 @@ fn outs(known: &mut Known, items: &[Out]) -> Result<(), Stop>
     Ok(())
 }
 
-// Whether what is printed isn't a number.
-fn is_wrong_out(known: &Known, item: &Out) -> bool
-    ensures { result ≡ spec.wrong_out known.now (out_of item.now) }
-{
-    match item {
-        Out::Text { .. } => false,
-        Out::EndLine { .. } => false,
-        Out::Value(e) => !type_of(known.scope(), e).is_number(),
-    }
-}
-
 // Whether something that is printed isn't one.
 fn any_wrong_out(known: &Known, items: &[Out]) -> bool
     ensures { result ≡ list_any (λ item. spec.wrong_out known.now (out_of item)) items.now }
@@ -67,7 +54,7 @@ fn any_wrong_out(known: &Known, items: &[Out]) -> bool
     items.iter().any(
         |item| -> bool
             ensures { result ≡ spec.wrong_out known.entry.now (out_of item.now) }
-        { is_wrong_out(known, item) },
+        { wrong_out(known, item) },
     )
 }
 
@@ -165,16 +152,5 @@ pub fn condition(known: &mut Known, x: &Cond) -> Result<(), Stop>
         Cond::Read(read) => stop_at(read_fault(known, read)),
         Cond::NotRead { read, .. } => stop_at(read_fault(known, read)),
         Cond::Value(e) => expression(known, e),
-    }
-}
-
-/// Whether what is tested isn't a number.
-pub fn is_wrong_condition(known: &Known, x: &Cond) -> bool
-    ensures { result ≡ spec.wrong_cond known.now (cond_of x.now) }
-{
-    match x {
-        Cond::Read(_) => false,
-        Cond::NotRead { .. } => false,
-        Cond::Value(e) => !type_of(known.scope(), e).is_number(),
     }
 }

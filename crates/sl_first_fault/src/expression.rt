@@ -9,9 +9,9 @@ ghost use Rattle.sl_typing.specs.StatementFaults.{expr_faults, value_faults};
 ghost use Rattle.sl_first_fault.specs.Means.Steps.{Answers};
 
 use crate::faults::stop_at;
-use crate::sites::{pass, pass_all};
 use crate::stop::Stop;
 use sl_contexts::Known;
+use sl_expr_sites::{pass, pass_all};
 use sl_rules::{look_at, look_at_all};
 use sl_syntax::Expr;
 use sl_typing::Standing;

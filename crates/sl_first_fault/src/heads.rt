@@ -14,7 +14,7 @@ ghost use Rattle.sl_typing.specs.Typing.{first_of};
 ghost use Rattle.sl_first_fault.specs.Means.Steps.{Answers};
 
 use crate::declaration::first as first_part;
-use crate::effect::{condition, effect, is_wrong_condition};
+use crate::effect::{condition, effect};
 use crate::faults::stop_at;
 use crate::stop::Stop;
 use crate::variables::past_limit;
@@ -22,7 +22,8 @@ use sl_base::Place;
 use sl_contexts::{Known, Outside};
 use sl_scopes::names::type_of_name;
 use sl_statement_types::{
-    broken, element_type, frees_const, hidden_limit_fault, may_go_over, name_fault, statement_fault,
+    broken, element_type, frees_const, hidden_limit_fault, may_go_over, name_fault,
+    statement_fault, wrong_cond,
 };
 use sl_syntax::{Cond, Effect, Element, First, Identifier};
 use sl_typing::{ExprType, Fault, rules};
@@ -39,7 +40,7 @@ pub struct Head {
 fn tested_fault(known: &Known, place: Place, cond: &Cond) -> Option<Fault>
     ensures { result ≡ first_of (fault (spec.wrong_cond known.now (cond_of cond.now)) place rule.WRONG_TYPE) }
 {
-    broken(is_wrong_condition(known, cond), place, rules::WRONG_TYPE)
+    broken(wrong_cond(known, cond), place, rules::WRONG_TYPE)
 }
 
 /// The first of its own rules that an `if` breaks.

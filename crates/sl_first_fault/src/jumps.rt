@@ -17,8 +17,7 @@ use crate::faults::stop_at;
 use crate::stop::Stop;
 use sl_base::Place;
 use sl_contexts::Known;
-use sl_expr_types::type_of;
-use sl_statement_types::{broken, goes_to_result, statement_fault, wrong_return};
+use sl_statement_types::{broken, statement_fault, wrong_result, wrong_return};
 use sl_syntax::{Declaration, Effect, Expr};
 use sl_typing::{Fault, rules};
 
@@ -42,19 +41,6 @@ pub fn jump(known: &mut Known, place: Place) -> Result<(), Stop>
     stop_at(own)
 }
 
-// Whether a value that is given back, where there is one, doesn't fit.
-fn is_wrong_result(known: &Known, value: &Option<Expr>) -> bool
-    ensures { result ≡ spec.wrong_result known.now (option_map expr_of value.now) }
-{
-    match value {
-        None => false,
-        Some(e) => {
-            let scope = known.scope();
-            !goes_to_result(scope.result, type_of(scope, e))
-        }
-    }
-}
-
 // The first of its own rules that a `return` breaks.
 #[tactic(auto, using(crate::proofs::StepLaws::first_laws))]
 fn return_fault(known: &Known, place: Place, value: &Option<Expr>) -> Option<Fault>
@@ -63,7 +49,7 @@ fn return_fault(known: &Known, place: Place, value: &Option<Expr>) -> Option<Fau
         ++ fault (spec.wrong_return known.now.scope.result (option_map expr_of value.now)) place rule.WRONG_RETURN
         ++ spec.statement_faults known.now place) }
 {
-    broken(is_wrong_result(known, value), place, rules::WRONG_TYPE)
+    broken(wrong_result(known, value), place, rules::WRONG_TYPE)
         .or(broken(
             wrong_return(known.scope().result, value),
             place,

@@ -10,8 +10,6 @@ mod heads;
 mod initializer;
 mod jumps;
 mod parameters;
-mod reading;
-mod sites;
 mod statement;
 mod stop;
 mod variables;

@@ -13,10 +13,10 @@ use crate::heads::{
     choice_condition, choice_fault, for_head, range_head, while_condition, while_fault,
 };
 use crate::jumps::{declared_item, effect_statement, give_back, jump};
-use crate::sites::pass_brace;
 use crate::stop::Stop;
 use sl_base::Place;
 use sl_contexts::Known;
+use sl_expr_sites::pass_brace;
 use sl_statement_types::{declares_container, site_fault};
 use sl_syntax::{Block, Cond, Effect, Element, First, Identifier, Item, Stmt};
 use std::alloc::Global;
