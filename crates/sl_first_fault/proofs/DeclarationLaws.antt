@@ -1,5 +1,5 @@
 -- Declarations: a variable behind what it is made from, and its own rules.
-use Rattle.std.proofs.Common.{◌≡◌, Bool, not, ◌||◌, List, ◌++◌, Option, Result, refl, sym, ap, ◌∙◌, append_assoc}
+use Rattle.std.proofs.Common.{◌≡◌, not, ◌||◌, List, ◌++◌, Option, Result, refl, sym, ap, ◌∙◌, append_assoc}
 use Rattle.sl_base.specs.declared.place.Place.{Place}
 use Rattle.sl_base.specs.declared.scalar.Scalar.{Scalar}
 use Rattle.sl_syntax.specs.declared.operator.Access.TheVariants as a

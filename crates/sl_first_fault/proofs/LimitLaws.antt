@@ -1,5 +1,5 @@
 -- The limits on variables, where what is known stands behind sites.
-use Rattle.std.proofs.Common.{◌≡◌, ℕ, Bool, List, ◌++◌, Option, Some, ap, sym, ◌∙◌, refl}
+use Rattle.std.proofs.Common.{◌≡◌, ℕ, List, ◌++◌, Option, Some, ap, ◌∙◌, refl}
 use Rattle.std.specs.Option.{option_or}
 use Rattle.sl_base.specs.declared.place.Place.{Place}
 use Rattle.sl_syntax.specs.declared.tree.identifier.Identifier.{Identifier}

@@ -1,22 +1,16 @@
 -- The scopes of loops that have one of their own: more variables behind those around them.
-use Rattle.std.proofs.Common.{◌≡◌, ℕ, List, [], ◌∷◌, ◌++◌, Option, Some, None, refl, sym, ◌∙◌, ap, subst, append_assoc, append-nil}
+use Rattle.std.proofs.Common.{Option, refl, ◌∙◌, ap, append_assoc}
 use Rattle.sl_base.specs.declared.place.Place.{Place}
 use Rattle.sl_syntax.specs.declared.tree.element.Element.{Element}
 use Rattle.sl_syntax.specs.declared.tree.identifier.Identifier.{Identifier}
 use Rattle.sl_typing.specs.declared.expr_type.ExprType.{ExprType}
 use Rattle.sl_typing.specs.declared.expr_type.ExprType.TheVariants as types
-use Rattle.sl_syntax.specs.declared.typed.parameter.ParameterKind.{ParameterKind}
-use Rattle.sl_syntax.specs.Tree as s
-use Rattle.sl_syntax.specs.Tree.{Expr, Initializer, Declaration, Out, Effect, Cond, First, Stmt, Item, Items}
-use Rattle.sl_typing.specs.declared.scope.FunctionHead.{FunctionHead}
-use Rattle.sl_typing.specs.declared.scope.NamedVariable.{NamedVariable}
+use Rattle.sl_syntax.specs.Tree.{Effect, Cond, First}
 use Rattle.sl_typing.specs.declared.scope.Scope.{Scope}
-use Rattle.sl_typing.specs.Contexts.{Context, declare, looping, started, started_loop, enter, with_hidden}
-use Rattle.sl_typing.specs.Flow.{behind_value, behind_initializer, behind_declaration, behind_out, behind_outs, behind_effect, behind_cond, behind_first}
+use Rattle.sl_typing.specs.Contexts.{Context, declare, looping, started_loop, enter, with_hidden}
 use Rattle.sl_typing.specs.Flow.{in_for, in_range, at_test, at_last, behind_hidden}
 use Rattle.sl_typing.specs.Ranges.{element_type}
 use Rattle.sl_typing.specs.Scopes.{type_of_name}
-use Rattle.sl_typing.specs.Flow.{behind_test, behind_last, after, after_item, after_items}
 use Rattle.sl_expr_sites.proofs.ScopeLaws.{Extends, Extends-refl, Extends-trans, behind_first-extends, behind_test-scope, behind_last-scope}
 
 -- in the body of a `for`

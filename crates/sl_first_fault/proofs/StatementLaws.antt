@@ -1,5 +1,5 @@
 -- Statements: their parts in their order, their own rules behind them, and the scope that they leave as it was.
-use Rattle.std.proofs.Common.{◌≡◌, Bool, true, not, List, ◌++◌, Option, Result, refl, sym, ap, ◌∙◌, append_assoc}
+use Rattle.std.proofs.Common.{◌≡◌, Bool, true, not, List, ◌++◌, Option, Result, sym, ap, ◌∙◌, append_assoc}
 use Rattle.sl_base.specs.declared.place.Place.{Place}
 use Rattle.sl_contexts.specs.declared.outside.Outside.{Outside}
 use Rattle.sl_contexts.specs.Scoping.{outside_of}

@@ -1,5 +1,5 @@
 -- Lists of a tree that the walk goes over.
-use Rattle.std.proofs.Common.{◌≡◌, ℕ, List, [], ◌∷◌, ◌++◌, map, refl, ◌==◌}
+use Rattle.std.proofs.Common.{◌≡◌, List, [], ◌∷◌, ◌++◌, map, refl, ◌==◌}
 use Rattle.sl_syntax.specs.declared.tree.effect.Out.{Out as OutCode}
 use Rattle.sl_base.specs.declared.limits.TheConstants.{LIST_ELEMENTS, PARAMETERS}
 use Rattle.sl_syntax.specs.declared.tree.expr.Expr.{Expr as ExprCode}
