@@ -1,0 +1,6 @@
+mod Ascending
+mod ExprLiterals
+mod FunctionLiterals
+mod Near
+mod StatementLiterals
+mod Walks

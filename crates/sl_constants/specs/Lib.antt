@@ -1,0 +1,2 @@
+-- What private contracts say. Nobody has to believe it.
+pub mod Means
