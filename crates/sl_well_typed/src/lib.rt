@@ -1,0 +1,2 @@
+//! Laws of typing: what is typed is well typed.
+#![tactic(auto)]
