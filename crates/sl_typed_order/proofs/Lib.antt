@@ -1,0 +1,4 @@
+-- ## What is in scope
+pub mod Numbered
+-- ## Calls of the text's own
+pub mod Alias
