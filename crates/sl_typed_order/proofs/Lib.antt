@@ -1,4 +1,13 @@
 -- ## What is in scope
 pub mod Numbered
+pub mod Sound
 -- ## Calls of the text's own
 pub mod Alias
+-- ## Nodes
+pub mod Kept
+pub mod Nodes
+-- ## Statements
+pub mod Statements
+-- ## Programs
+pub mod Programs
+pub mod NoAlias
