@@ -261,7 +261,7 @@ names_apart g h a b known there apart =
     (λ same. let one : b ≡ a = sym (one_name g h a b known there same) in
     let yes = (bytes_eq-Decides b a).1 one in absurd cc)
 
-none_among : (g : Scope) → AllNumbered g → (a : List ℕ) (ns : List (List ℕ)) → Known g a → AllOf (Known g) ns → is_among a ns ≡ false
+pub none_among : (g : Scope) → AllNumbered g → (a : List ℕ) (ns : List (List ℕ)) → Known g a → AllOf (Known g) ns → is_among a ns ≡ false
     → is_variable_among (variable_meant g a) (map (variable_meant g) ns) ≡ false
 none_among g h a [] known all apart = refl
 none_among g h a (m ∷ ns) known all apart =

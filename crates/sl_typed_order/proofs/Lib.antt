@@ -11,3 +11,8 @@ pub mod Statements
 -- ## Programs
 pub mod Programs
 pub mod NoAlias
+-- ## Effects
+pub mod Values
+pub mod Covers
+pub mod QuietRows
+pub mod Still
