@@ -1,0 +1,18 @@
+-- ## What is in scope
+pub mod Numbered
+pub mod Sound
+-- ## Calls of the text's own
+pub mod Alias
+-- ## Nodes
+pub mod Kept
+pub mod Nodes
+-- ## Statements
+pub mod Statements
+-- ## Programs
+pub mod Programs
+pub mod NoAlias
+-- ## Effects
+pub mod Values
+pub mod Covers
+pub mod QuietRows
+pub mod Still

@@ -1,0 +1,5 @@
+use Rattle.sl_typed_order.proofs.laws.typed_order.Goals as goal
+use Rattle.sl_typed_order.proofs.NoAlias.{typed_has_no_alias}
+
+pub returns : goal.returns
+returns c = record { no_alias = typed_has_no_alias }

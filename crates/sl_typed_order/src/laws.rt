@@ -1,0 +1,11 @@
+//! What is typed is ordered.
+ghost use Rattle.std.specs.Prelude.{◌≡◌, true};
+ghost use Rattle.sl_syntax.specs.Tree.{Program};
+ghost use Rattle.sl_syntax.specs.Typed as texts;
+ghost use Rattle.sl_typing.specs.Typing.{Typed};
+ghost use Rattle.sl_model.specs.Typing.WellTyped.{has_no_alias};
+
+/// In what is typed no variable is bound to two references of a call.
+pub fn typed_order()
+    ensures no_alias { (p : Program) (u : texts.Typed) → Typed p u → has_no_alias u ≡ true }
+{}
