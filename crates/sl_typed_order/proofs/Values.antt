@@ -157,4 +157,3 @@ value_is_calculated g n (s.postfix x op at) none h = postfixed_is_calculated op 
 value_is_calculated g n (s.index x at y) none h = called_is_calculated (row_of_subscript (type_of g x)) _ _ _ _ _
 value_is_calculated g n (s.member_call x f xs) none h = called_is_calculated (row_of_member (type_of g x) f.name (types_of g xs)) _ _ _ _ _
 value_is_calculated g n (s.member x selector at f) none h = selected_is_calculated selector at (is_first f.name) _ (typed g n x)
-
