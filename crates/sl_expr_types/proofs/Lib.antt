@@ -6,7 +6,6 @@ pub mod LastLaws
 -- ## Looks
 pub mod LooksLaws
 -- ## Types
-pub mod RowLaws
 pub mod TypeLaws
 -- ## Sites
 pub mod SiteLaws

@@ -26,14 +26,14 @@ use Rattle.sl_typing.specs.TypeOf.{selected_type, is_first, algorithm_gives}
 use Rattle.sl_typing.specs.Signatures.{result_type}
 use Rattle.sl_expr_types.specs.Few.{few, pushed_to, listed}
 use Rattle.sl_expr_types.proofs.FewLaws.{listed-few, listed-many, pushed_to-few}
-use Rattle.sl_expr_types.proofs.RowLaws.{member_row-many, algorithm_row-many}
+use Rattle.sl_candidates.proofs.FewArguments.{no_member_row, no_algorithm_row}
 use Rattle.sl_expr_types.proofs.Views.{expr_of-Call, expr_of-LibraryCall, expr_of-Parentheses, expr_of-Prefix, expr_of-Binary, expr_of-Postfix}
 use Rattle.sl_expr_types.proofs.Views.{expr_of-Index, expr_of-MemberCall, expr_of-Member}
 
 no_row : (form : _) (access : _) (name : List ℕ) (us : List ExprType) → 8 < length us → member_type (types.Container access form) name us ≡ types.Wrong
 no_row form access name us h =
     ap (λ (o : Option Found). elim o as (λ _. ExprType) [ None ↦ types.Wrong | Some x ↦ result_type x.row.gives (is_const access) form us ])
-    (member_row-many form name us h)
+    (no_member_row form name us h)
 
 wrong-many : (u : ExprType) (name : List ℕ) (us vs : List ExprType) → 8 < length us → 8 < length vs → member_type u name vs ≡ member_type u name us
 wrong-many (types.Container access form) name us vs h k = no_row form access name vs k ∙ sym (no_row form access name us h)
@@ -49,7 +49,7 @@ member_type-few u name us = elim (cases_lt 8 (length us)) as (λ _. member_type 
 no_algorithm : (b : Bool) (name : List ℕ) (us : List ExprType) → 8 < length us → algorithm_type b name us ≡ types.Wrong
 no_algorithm b name us h =
     ap (λ (o : Option Found). elim o as (λ _. ExprType) [ None ↦ types.Wrong | Some x ↦ algorithm_gives b x.row.gives us ])
-    (algorithm_row-many b name us h)
+    (no_algorithm_row b name us h)
 
 -- and that of a call of an algorithm
 pub algorithm_type-few : (b : Bool) (name : List ℕ) (us : List ExprType) → algorithm_type b name (listed (few us)) ≡ algorithm_type b name us
@@ -182,7 +182,7 @@ member-type g x f v u name us ys is_u is_name is_ys is_us =
     ∙ sym (type-MemberCall g x f v)
 
 wrong_row-many : (u : ExprType) (name : List ℕ) (us vs : List ExprType) → 8 < length us → 8 < length vs → row_of_member u name vs ≡ row_of_member u name us
-wrong_row-many (types.Container access form) name us vs h k = member_row-many form name vs k ∙ sym (member_row-many form name us h)
+wrong_row-many (types.Container access form) name us vs h k = no_member_row form name vs k ∙ sym (no_member_row form name us h)
 wrong_row-many u name us vs h k = refl
 
 -- the row of a member call from the types that are kept of its arguments
@@ -195,6 +195,6 @@ row_of_member-few u name us = elim (cases_lt 8 (length us)) as (λ _. row_of_mem
 -- and that of a call of an algorithm
 pub algorithm_row-few : (b : Bool) (name : List ℕ) (us : List ExprType) → algorithm_row b name (listed (few us)) ≡ algorithm_row b name us
 algorithm_row-few b name us = elim (cases_lt 8 (length us)) as (λ _. algorithm_row b name (listed (few us)) ≡ algorithm_row b name us) [
-  | inl h ↦ algorithm_row-many b name (listed (few us)) (listed-many us h) ∙ sym (algorithm_row-many b name us h)
+  | inl h ↦ no_algorithm_row b name (listed (few us)) (listed-many us h) ∙ sym (no_algorithm_row b name us h)
   | inr h ↦ ap (algorithm_row b name) (listed-few us h)
 ]

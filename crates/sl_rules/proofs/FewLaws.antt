@@ -4,7 +4,7 @@ use Rattle.std.proofs.lemmas.Bool.{cases_lt}
 use Rattle.sl_base.specs.declared.form.Form.{Form}
 use Rattle.sl_expr_types.specs.Few.{few, listed}
 use Rattle.sl_expr_types.proofs.FewLaws.{listed-few, listed-many}
-use Rattle.sl_expr_types.proofs.RowLaws.{member_row-many, algorithm_row-many}
+use Rattle.sl_candidates.proofs.FewArguments.{no_member_row, no_algorithm_row}
 use Rattle.sl_typing.specs.declared.expr_type.ExprType.{ExprType}
 use Rattle.sl_typing.specs.declared.expr_type.ExprType.TheVariants as types
 use Rattle.sl_typing.specs.Arguments.{letters_seen, letters_write_const, letters_are_weak}
@@ -28,11 +28,11 @@ from_few f many us kept e long = ap (λ o. f (listed o)) e ∙ by_few f many us 
 
 pub member_row-few : (form : Form) (name : List ℕ) (us : List ExprType) (kept : Option (List ExprType)) → kept ≡ few us
     → member_row form name (listed kept) ≡ member_row form name us
-member_row-few form name us kept e = from_few (member_row form name) None us kept e (member_row-many form name)
+member_row-few form name us kept e = from_few (member_row form name) None us kept e (no_member_row form name)
 
 pub algorithm_row-few : (appends : Bool) (name : List ℕ) (us : List ExprType) (kept : Option (List ExprType)) → kept ≡ few us
     → algorithm_row appends name (listed kept) ≡ algorithm_row appends name us
-algorithm_row-few appends name us kept e = from_few (algorithm_row appends name) None us kept e (algorithm_row-many appends name)
+algorithm_row-few appends name us kept e = from_few (algorithm_row appends name) None us kept e (no_algorithm_row appends name)
 
 pub member_writes-few : (u : ExprType) (name : List ℕ) (us : List ExprType) (kept : Option (List ExprType)) → kept ≡ few us
     → member_writes_const u name (listed kept) ≡ member_writes_const u name us
@@ -41,7 +41,7 @@ member_writes-few (types.Container access form) name us kept e =
     (λ vs h. ap (λ (o : Option Found). elim o as (λ _. Bool) [
       | None ↦ false
       | Some x ↦ (is_const access && x.row.changes) || letters_write_const x.row.letters vs
-    ]) (member_row-many form name vs h))
+    ]) (no_member_row form name vs h))
 member_writes-few u name us kept e = refl
 
 pub algorithm_writes-few : (appends : Bool) (name : List ℕ) (us : List ExprType) (kept : Option (List ExprType)) → kept ≡ few us
@@ -51,7 +51,7 @@ algorithm_writes-few appends name us kept e =
     (λ vs h. ap (λ (o : Option Found). elim o as (λ _. Bool) [
       | None ↦ false
       | Some x ↦ letters_write_const (letters_seen appends x.row.letters) vs
-    ]) (algorithm_row-many appends name vs h))
+    ]) (no_algorithm_row appends name vs h))
 
 pub algorithm_weak-few : (appends : Bool) (name : List ℕ) (us : List ExprType) (kept : Option (List ExprType)) → kept ≡ few us
     → algorithm_is_weak appends name (listed kept) ≡ algorithm_is_weak appends name us
@@ -60,4 +60,4 @@ algorithm_weak-few appends name us kept e =
     (λ vs h. ap (λ (o : Option Found). elim o as (λ _. Bool) [
       | None ↦ false
       | Some x ↦ letters_are_weak (letters_seen appends x.row.letters) vs
-    ]) (algorithm_row-many appends name vs h))
+    ]) (no_algorithm_row appends name vs h))

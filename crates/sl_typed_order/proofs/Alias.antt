@@ -166,12 +166,12 @@ iterator_is_none c form (types.Iterator k x) h = refl
 iterator_is_none c form u h = absurd cc
 
 -- a scalar, and a container, by its name
-scalar_bound : (k : Scalar) (u : ExprType) (n : ℕ) (at : Place) (label : ℕ) → is_exactly k (type_of_use u) ≡ true
+pub scalar_bound : (k : Scalar) (u : ExprType) (n : ℕ) (at : Place) (label : ℕ) → is_exactly k (type_of_use u) ≡ true
     → the_scalar (number_in (variable u n at label)) ∷ [] ≡ variable_of_sort (sort_of u) n ∷ []
 scalar_bound k (types.Scalar j) n at label h = refl
 scalar_bound k u n at label h = absurd cc
 
-container_bound : (form : Form) (u : ExprType) (n : ℕ) (at : Place) (label : ℕ) → is_container_of form (type_of_use u) ≡ true
+pub container_bound : (form : Form) (u : ExprType) (n : ℕ) (at : Place) (label : ℕ) → is_container_of form (type_of_use u) ≡ true
     → bound_in (variable u n at label) ≡ variable_of_sort (sort_of u) n ∷ []
 container_bound form (types.Container access x) n at label h = refl
 container_bound form u n at label h = absurd cc
@@ -208,11 +208,11 @@ pub first_plain : (g : Scope) (n : ℕ) (x : Expr) (xs : Exprs) → faults_of_al
 first_plain g n x xs none =
     subst (λ (how : Standing). faults g n how x ≡ []) (plainly xs) (arguments_kept g n standing.Plain x xs none).0
 
-map_both : (g : Scope) (xs ys : List (List ℕ)) → map (variable_meant g) (xs ++ ys) ≡ map (variable_meant g) xs ++ map (variable_meant g) ys
+pub map_both : (g : Scope) (xs ys : List (List ℕ)) → map (variable_meant g) (xs ++ ys) ≡ map (variable_meant g) xs ++ map (variable_meant g) ys
 map_both g [] ys = refl
 map_both g (x ∷ xs) ys = ap (λ (vs : List Variable). variable_meant g x ∷ vs) (map_both g xs ys)
 
-both_bound : (a b c d : List Variable) → a ≡ b → c ≡ d → a ++ c ≡ b ++ d
+pub both_bound : (a b c d : List Variable) → a ≡ b → c ≡ d → a ++ c ≡ b ++ d
 both_bound a b c d h k = rw (h, k) refl
 
 -- what all arguments are bound to
@@ -239,11 +239,11 @@ name_known : (g : Scope) (n : ℕ) (e : Expr) → faults g n standing.Plain e �
 name_known g n (s.name x) none = ((name_kept g n standing.Plain x none).0, tt)
 name_known g n e none = tt
 
-either_known : (g : Scope) (test : Bool) (xs : List (List ℕ)) → AllOf (Known g) xs → AllOf (Known g) (if test then xs else [])
+pub either_known : (g : Scope) (test : Bool) (xs : List (List ℕ)) → AllOf (Known g) xs → AllOf (Known g) (if test then xs else [])
 either_known g true xs h = h
 either_known g false xs h = tt
 
-bound_known : (g : Scope) (n : ℕ) (ks : List ParameterKind) (xs : Exprs) → faults_of_all g n standing.Plain xs ≡ []
+pub bound_known : (g : Scope) (n : ℕ) (ks : List ParameterKind) (xs : Exprs) → faults_of_all g n standing.Plain xs ≡ []
     → AllOf (Known g) (bound_names ks xs)
 bound_known g n [] s.none none = tt
 bound_known g n (k ∷ ks) s.none none = tt

@@ -28,7 +28,7 @@ pub covers_none : (g : Scope) (names : List (List ℕ)) → Covers g names []
 covers_none g names x known apart other = refl
 
 -- neither of two is true
-neither : (a b : Bool) → a ≡ false → b ≡ false → (a || b) ≡ false
+pub neither : (a b : Bool) → a ≡ false → b ≡ false → (a || b) ≡ false
 neither true b h k = h
 neither false b h k = k
 

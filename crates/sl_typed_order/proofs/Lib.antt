@@ -16,3 +16,11 @@ pub mod Values
 pub mod Covers
 pub mod QuietRows
 pub mod Still
+pub mod Does
+pub mod Containers
+pub mod FormRows
+pub mod Moved
+pub mod OwnChanges
+pub mod Swap
+pub mod Operators
+pub mod Objects

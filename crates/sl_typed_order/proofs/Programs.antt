@@ -3,10 +3,15 @@ use Rattle.std.proofs.Common.{◌≡◌, ℕ, zero, suc, ◌+◌, Bool, true, fa
 use Rattle.std.proofs.Common.{length-append}
 use Rattle.std.specs.Prelude.{slice_get, flat_map}
 use Rattle.std.specs.List.{list_all}
+use Rattle.sl_syntax.specs.declared.tree.function.ResultType.{ResultType}
+use Rattle.sl_syntax.specs.declared.tree.function.ResultType.TheVariants as r
 use Rattle.sl_syntax.specs.Tree.{Function, Program}
 use Rattle.sl_syntax.specs.Typed as t
 use Rattle.sl_syntax.specs.Typed.{Typed}
 use Rattle.sl_typing.specs.declared.scope.FunctionHead.{FunctionHead}
+use Rattle.sl_typing.specs.Types.{is_container}
+use Rattle.sl_typing.specs.TypeOf.{type_given}
+use Rattle.sl_typing.specs.Scopes.{result_kind}
 use Rattle.sl_typing.specs.Contexts.{Context}
 use Rattle.sl_typing.specs.Flow.{head_of, before_parameters, in_function, after_function}
 use Rattle.sl_typing.specs.ProgramFaults.{function_faults, functions_faults, start}
@@ -21,6 +26,12 @@ use Rattle.sl_typed_order.proofs.Sound.{IsThere, Sound, parameters_sound}
 use Rattle.sl_typed_order.proofs.Kept.{IsKept}
 use Rattle.sl_typed_order.proofs.Nodes.{all_both, all_behind}
 use Rattle.sl_typed_order.proofs.Statements.{items_hold}
+
+-- no function gives a container
+given_is_none : (result : ResultType) → is_container (type_given (result_kind result)) ≡ false
+given_is_none r.Void = refl
+given_is_none (r.Scalar k) = refl
+given_is_none (r.Iterator i) = refl
 
 -- a function
 function_holds : (fs : List t.Function) (P : Node → Bool) → IsKept fs P → (g : Context) (f : Function)
@@ -42,7 +53,7 @@ functions_hold fs P kept g i (f ∷ hs) same heads there none =
     let own : slice_get fs (length g.scope.functions) ≡ Some (typed_function g f) =
     let at : i + 0 ≡ length g.scope.functions = omega arith in
     subst (λ (n : ℕ). slice_get fs n ≡ Some (typed_function g f)) at (there 0) in
-    let is : IsThere fs (head_of g f) = record { function = typed_function g f; there = own; parameters = refl } in
+    let is : IsThere fs (head_of g f) = record { function = typed_function g f; there = own; parameters = refl; result = given_is_none f.result } in
     let all = all_append (IsThere fs) g.scope.functions (head_of g f ∷ []) heads (is, tt) in
     let known = known_behind g f in
     let count : length (after_function g f).scope.functions ≡ i + 1 = rw (known, length-append, same) refl in

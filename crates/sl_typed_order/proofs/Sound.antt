@@ -1,5 +1,5 @@
 -- What names mean at a place of a text: the variables of each sort are numbered in their order, and the functions are those of the typed text.
-use Rattle.std.proofs.Common.{◌≡◌, List, [], ◌∷◌, Option, Some, None, refl, subst, sym}
+use Rattle.std.proofs.Common.{◌≡◌, false, List, [], ◌∷◌, Option, Some, None, refl, subst, sym}
 use Rattle.std.specs.Prelude.{slice_get}
 use Rattle.sl_base.specs.declared.place.Place.{Place}
 use Rattle.sl_syntax.specs.declared.operator.Access.TheVariants as a
@@ -15,8 +15,8 @@ use Rattle.sl_typing.specs.declared.expr_type.ExprType.{ExprType}
 use Rattle.sl_typing.specs.declared.expr_type.ExprType.TheVariants as types
 use Rattle.sl_typing.specs.declared.scope.FunctionHead.{FunctionHead}
 use Rattle.sl_typing.specs.declared.scope.Scope.{Scope}
-use Rattle.sl_typing.specs.Types.{value_type, is_const}
-use Rattle.sl_typing.specs.TypeOf.{type_of}
+use Rattle.sl_typing.specs.Types.{value_type, is_const, is_container}
+use Rattle.sl_typing.specs.TypeOf.{type_given, type_of}
 use Rattle.sl_typing.specs.Ranges.{reference_type, element_type}
 use Rattle.sl_typing.specs.Scopes.{parameter_kind, name_of_parameter, type_of_kind, type_of_name, with_variable}
 use Rattle.sl_typing.specs.Contexts.{Context, declare, declare_parameters, with_hidden, enter, looping, started_loop}
@@ -30,6 +30,7 @@ pub record IsThere (fs : List Function) (h : FunctionHead) : Type 0 where
   pub function : Function
   pub there : slice_get fs h.number ≡ Some function
   pub parameters : function.parameters ≡ h.parameters
+  pub result : is_container (type_given h.result) ≡ false
 
 -- what names mean at a place
 pub record Sound (fs : List Function) (g : Scope) : Type 0 where

@@ -104,7 +104,7 @@ dereferenced_no_element : (u : ExprType) → is_number u ≡ true → is_element
 dereferenced_no_element (types.Iterator c x) h = absurd cc
 dereferenced_no_element u h = refl
 
-value_no_element : (u : ExprType) → is_element (value_type u) ≡ false
+pub value_no_element : (u : ExprType) → is_element (value_type u) ≡ false
 value_no_element (types.Element w) = refl
 value_no_element u = refl
 

@@ -1,0 +1,19 @@
+-- ## Functions and sites
+pub mod Few
+-- ## What the nodes of a text pass
+pub mod Nodes
+pub mod Told
+pub mod StatementNodes
+pub mod Names
+-- ## What the nodes of a text add
+pub mod Silent
+pub mod Counting
+pub mod Upto
+pub mod Referred
+pub mod Kept
+pub mod Variables
+pub mod Loops
+-- ## Sites
+pub mod Same
+pub mod Killing
+pub mod Sites
