@@ -2,3 +2,4 @@
 pub mod SiteLaws
 -- ## Scopes
 pub mod ScopeLaws
+pub mod LoopScopes

@@ -7,6 +7,5 @@ pub mod LimitLaws
 pub mod ReadLaws
 pub mod CondLaws
 pub mod DeclarationLaws
-pub mod LoopScopes
 pub mod StatementLaws
 pub mod FunctionLaws

@@ -24,7 +24,7 @@ use Rattle.sl_typing.specs.Typing.{first_of}
 use Rattle.sl_first_fault.specs.declared.stop.Stop.{Stop}
 use Rattle.sl_first_fault.specs.Means.Steps.{StopsAt, Done, Checks, Answers}
 use Rattle.sl_expr_sites.proofs.ScopeLaws.{Extends, behind_cond-scope, after-scope, after_items-extends}
-use Rattle.sl_first_fault.proofs.LoopScopes.{in_for-extends, in_range-extends}
+use Rattle.sl_expr_sites.proofs.LoopScopes.{in_for-extends, in_range-extends}
 use Rattle.sl_first_fault.proofs.StepLaws.{Answers-along, StopsAt-before, then_stops, then_done, then_checks, moved, started_at, group-2, group-3}
 
 -- an `if`

@@ -1,0 +1,2 @@
+-- What the proofs open. Nobody has to believe it.
+pub mod Statements

@@ -1,0 +1,1 @@
+-- The promises are those of the definitions of typing.
