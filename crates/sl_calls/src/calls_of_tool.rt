@@ -1,11 +1,11 @@
 //! Each public call of sl_tool but `run_tool`, which `outside` runs.
 
 use crate::expected::{expect_bytes, expect_that};
-use sl_tool::{Status, program_of};
+use sl_tool::{Status, parsed_text};
 
 #[test]
 fn programs_of_tool(rt: HostRuntime) {
-    let read = program_of(rt.alloc(), "a.cpp", b"int main() {}").expect(&rt, "memory");
+    let read = parsed_text(rt.alloc(), b"int main() {}");
     let parsed = read.ok().expect(&rt, "the least program");
     expect_that(&rt, "six tokens", parsed.tokens.len() == 6);
     expect_that(&rt, "one function", parsed.program.functions.len() == 1);

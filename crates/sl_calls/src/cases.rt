@@ -41,11 +41,11 @@ const WRONG: [(&[u8], &str); 14] = [
     (b"%% case \n", "line 1: a case has a name"),
     (
         b"%% case x\n%% file a.cpp\n%% words check a.cpp\n%% status 0\n",
-        "line 1: a case has words, status and out, or one file and one of tokens, tree, groups, refusal",
+        "line 1: a case has words, status and out, or one file and one of tokens, tree, groups, grammar, refusal",
     ),
     (
         b"%% case x\n%% file a.cpp\n%% refusal\n%% case y\n%% refusal\n",
-        "line 4: a case has words, status and out, or one file and one of tokens, tree, groups, refusal",
+        "line 4: a case has words, status and out, or one file and one of tokens, tree, groups, grammar, refusal",
     ),
     (
         b"%% case x\n%% file a.cpp\n%% refusal\n%% tokens\n",

@@ -16,7 +16,9 @@ pub enum TextKind {
     Tree,
     /// How its operators and statements group, a line for each item of a function.
     Groups,
-    /// The line that refuses it, or nothing.
+    /// The line that refuses it by its tokens or the grammar, or nothing.
+    Grammar,
+    /// The line that refuses it by its tokens, the grammar or typing, or nothing.
     Refusal,
 }
 

@@ -17,7 +17,7 @@
 //!
 //! To a heading belong the lines up to the next one; with `bytes N` behind it, as in `%% file a.cpp bytes 4`, exactly N
 //! bytes and a line feed. In place of `words`, `status` and `out` a case with one file has one of `tokens`, `tree`,
-//! `groups` and `refusal`, and below it what is due.
+//! `groups`, `grammar` and `refusal`, and below it what is due.
 ghost use Rattle.std.specs.Prelude.{◌≡◌};
 ghost use Rattle.sl_case_files.specs.declared.case_file.CaseFileErr.TheVariants.{Memory};
 
@@ -49,7 +49,7 @@ pub enum Wrong {
     Stray,
     #[error("a case has a name")]
     NoName,
-    #[error("a case has words, status and out, or one file and one of tokens, tree, groups, refusal")]
+    #[error("a case has words, status and out, or one file and one of tokens, tree, groups, grammar, refusal")]
     NoQuestion,
 }
 

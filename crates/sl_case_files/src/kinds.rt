@@ -1,6 +1,7 @@
 //! The kinds of cases: what each asks, as the bytes of an answer.
 
 pub mod command;
+mod grammar;
 mod groups;
 mod refusal;
 mod tokens;
@@ -21,6 +22,7 @@ pub fn text_answer(
         TextKind::Tokens => tokens::answer(alloc, file),
         TextKind::Tree => tree::answer(alloc, file),
         TextKind::Groups => groups::answer(alloc, file),
+        TextKind::Grammar => grammar::answer(alloc, file),
         TextKind::Refusal => refusal::answer(alloc, file),
     }
 }

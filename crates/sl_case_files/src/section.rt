@@ -19,7 +19,7 @@ pub enum Heading<'a> {
     Status(u8),
     /// `out`
     Out,
-    /// `tokens`, `tree`, `groups` or `refusal`
+    /// `tokens`, `tree`, `groups`, `grammar` or `refusal`
     Text(TextKind),
 }
 
@@ -171,6 +171,7 @@ fn heading_of(line: &str) -> Result<(Heading<'_>, Option<usize>), Wrong> {
         "tokens" => Heading::Text(TextKind::Tokens),
         "tree" => Heading::Text(TextKind::Tree),
         "groups" => Heading::Text(TextKind::Groups),
+        "grammar" => Heading::Text(TextKind::Grammar),
         "refusal" => Heading::Text(TextKind::Refusal),
         _ => return Err(Wrong::UnknownHeading),
     };

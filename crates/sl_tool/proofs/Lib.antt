@@ -40,3 +40,4 @@ pub mod RefusalLaws
 pub mod AnswerLaws
 pub mod OutcomeLaws
 pub mod OneTextLaws
+pub mod PhaseLaws

@@ -1,10 +1,8 @@
 -- A text has one answer alone.
-use Rattle.std.proofs.Common.{◌≡◌, ◌≤◌, ℕ, List, [], ◌∷◌, ◌++◌, length, drop, refl, sym, ap, ◌∙◌, subst, arith, append_assoc, Result, Ok, Err, IfOk}
-use Rattle.std.proofs.Common.{MatchResult}
+use Rattle.std.proofs.Common.{◌≡◌, ◌≤◌, ℕ, List, [], ◌∷◌, ◌++◌, length, drop, refl, sym, ap, ◌∙◌, subst, arith, append_assoc}
 use Rattle.std.proofs.Math.Seq.{drop-append_seam}
 use Rattle.std.specs.List.{flat_map}
 use Rattle.std.specs.Prelude.{codes}
-use Rattle.std.specs.declared.alloc.AllocError.{AllocError}
 use Rattle.sl_base.specs.declared.limits.TheConstants.{TEXT_BYTES}
 use Rattle.sl_base.specs.declared.mark.Mark.TheVariants.{RightBrace}
 use Rattle.sl_base.specs.declared.place.Place.{Place}
@@ -16,11 +14,9 @@ use Rattle.sl_grammar.proofs.ProgramLaws as grammar
 use Rattle.sl_syntax.specs.Begins.{IsProgram, Stops, words_in}
 use Rattle.sl_syntax.specs.declared.subset.Text.{Text}
 use Rattle.sl_syntax.specs.Tree.{Program}
-use Rattle.sl_syntax.specs.TreeView.{program_of}
 use Rattle.sl_syntax.proofs.BeginsLaws.{stops_once, not_whole}
 use Rattle.sl_model.specs.Reports.Covers.{Warning}
 use Rattle.sl_model.specs.Reports.Texts.{report_text, refusal_line}
-use Rattle.sl_tool.specs.declared.parsed.Parsed.{Parsed}
 use Rattle.sl_tool.specs.declared.status.Status.{Status}
 use Rattle.sl_tool.specs.declared.status.Status.TheVariants.{Refused}
 use Rattle.sl_tool.specs.Answers.{AnswerTo, refused, not_built, reported, IsReport, status_of}
@@ -74,13 +70,13 @@ program_or_stops : (tokens others : List Token) (k : ℕ) → tokens ≡ others 
 program_or_stops tokens others k e stops whole = not_whole IsProgram (words_in others) k (subst (λ ts. Stops IsProgram (words_in ts) k) e stops) whole
 
 -- a text has one program
-one_program : (text : List ℕ) (ts us : List Token) (p q : Program) → IsParsed text ts p → IsParsed text us q → (ts ≡ us) × (p ≡ q)
+pub one_program : (text : List ℕ) (ts us : List Token) (p q : Program) → IsParsed text ts p → IsParsed text us q → (ts ≡ us) × (p ≡ q)
 one_program text ts us p q a b =
     let same : ts ≡ us = one_tokens text ts us a.cut b.cut in
     (same, grammar.one_program us p q a.shaped b.shaped (rw same at a.placed) b.placed)
 
 -- a text has one line that refuses it
-one_line : (file text x y : List ℕ) → IsRefusal file text x → IsRefusal file text y → x ≡ y
+pub one_line : (file text x y : List ℕ) → IsRefusal file text x → IsRefusal file text y → x ≡ y
 one_line file text _ _ (by_length long) (by_length also) = refl
 one_line file text _ _ (by_length long) (by_token short rule at fault) = absurd (omega arith)
 one_line file text _ _ (by_length long) (by_grammar short ts t k stops) = absurd (omega arith)
@@ -95,32 +91,11 @@ one_line file text _ _ (by_grammar short ts t j stops) (by_grammar also us u k o
     ap (λ (p : Place). refusal_line file p (codes "grammar")) (one_stop IsProgram text ts us j k (one_tokens text ts us t u) stops others)
 
 -- a text that has a program isn't refused
-parsed_or_refused : (file text line : List ℕ) (ts : List Token) (p : Program) → IsParsed text ts p → IsRefusal file text line → ⊥
+pub parsed_or_refused : (file text line : List ℕ) (ts : List Token) (p : Program) → IsParsed text ts p → IsRefusal file text line → ⊥
 parsed_or_refused file text _ ts p parsed (by_length long) = let short = parsed.short in omega arith
 parsed_or_refused file text _ ts p parsed (by_token short rule at fault) = not_both text ts rule at parsed.cut fault
 parsed_or_refused file text _ ts p parsed (by_grammar short us u k stops) =
     program_or_stops us ts k (one_tokens text us ts u parsed.cut) stops (grammar.is_program ts p parsed.shaped parsed.placed)
-
--- what is answered of a text is so
-abbrev IsSo : List ℕ → List ℕ → Result (Result Parsed (List ℕ)) AllocError → Type 0
-IsSo file text result =
-    IfOk result (λ read. MatchResult read (λ parsed. IsParsed text parsed.tokens (program_of parsed.program)) (λ line. IsRefusal file text line))
-
--- the program of a text is the one that is answered
-pub only_program : (file text : List ℕ) (result : Result (Result Parsed (List ℕ)) AllocError) → IsSo file text result
-    → (tokens : List Token) (program : Program) → IsParsed text tokens program
-    → IfOk result (λ read. MatchResult read (λ parsed. (parsed.tokens ≡ tokens) × (program_of parsed.program ≡ program)) (λ line. ⊥))
-only_program file text (Ok (Ok parsed)) so tokens program is = one_program text parsed.tokens tokens (program_of parsed.program) program so is
-only_program file text (Ok (Err line)) so tokens program is = parsed_or_refused file text line tokens program is so
-only_program file text (Err e) so tokens program is = tt
-
--- the line that refuses a text is the one that is answered
-pub only_line : (file text : List ℕ) (result : Result (Result Parsed (List ℕ)) AllocError) → IsSo file text result → (line : List ℕ)
-    → IsRefusal file text line
-    → IfOk result (λ read. MatchResult read (λ parsed. ⊥) (λ other. other ≡ line))
-only_line file text (Ok (Ok parsed)) so line is = parsed_or_refused file text line parsed.tokens (program_of parsed.program) so is
-only_line file text (Ok (Err other)) so line is = one_line file text other line so is
-only_line file text (Err e) so line is = tt
 
 -- a text with a report isn't refused
 status_or_refused : (r : List Warning) → status_of r ≡ Refused → ⊥

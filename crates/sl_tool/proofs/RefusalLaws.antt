@@ -1,10 +1,12 @@
 -- The line that is written for a refusal is the one that is due.
-use Rattle.std.proofs.Common.{◌≡◌, ℕ, List, Result, Ok, Err, IfOk}
+use Rattle.std.proofs.Common.{◌≡◌, List, ℕ, Some, Result, Ok, Err, IfOk, sym, ap, subst}
 use Rattle.std.specs.declared.alloc.AllocError.{AllocError}
-use Rattle.sl_model.specs.Reports.Refusals.{IsRefusal}
 
--- what is written is the line of a refusal, if anything is
-pub is_refusal : (file text line : List ℕ) (result : Result (List ℕ) AllocError) → IfOk result (λ written. written ≡ line) → IsRefusal file text line
-    → IfOk result (IsRefusal file text)
-is_refusal file text line (Ok written) is h = rw is h
-is_refusal file text line (Err e) is h = tt
+-- a line that is another has what the other has
+pub is_line : (P : List ℕ → Type 0) (due line : List ℕ) → Some due ≡ Some line → P due → P line
+is_line P due line e h = let q : due ≡ line = cc in subst P q h
+
+-- where a line is written, it is the one of the stop
+pub written : (due : List ℕ) (result : Result (List ℕ) AllocError) → IfOk result (λ line. line ≡ due) → IfOk result (λ line. Some due ≡ Some line)
+written due (Ok line) is = ap Some (sym is)
+written due (Err e) is = tt

@@ -8,7 +8,8 @@ ghost use Rattle.sl_tool.specs.Subset.{IsOfText};
 ghost use Rattle.sl_model.specs.Reports.Refusals.{IsParsed};
 
 use crate::analysis::warnings_in;
-use crate::parsed::{Parsed, stop_place};
+use crate::phases::Parsed;
+use crate::phases::program::stop_place;
 use crate::reading::read::Read;
 use crate::reading::read_text;
 use crate::refusal::refusal_line;

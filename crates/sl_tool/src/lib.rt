@@ -5,7 +5,7 @@ mod analysis;
 mod checking;
 mod command;
 mod laws;
-mod parsed;
+mod phases;
 mod reading;
 mod refusal;
 mod reporting;
@@ -13,6 +13,7 @@ mod status;
 mod tool;
 
 pub use laws::{each_text_is_reported, each_text_is_scoped, one_refusal};
-pub use parsed::{Parsed, program_of};
+pub use phases::stop::Stop;
+pub use phases::{Parsed, parsed_text, typed_text};
 pub use status::Status;
 pub use tool::run_tool;

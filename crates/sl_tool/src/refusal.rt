@@ -1,5 +1,6 @@
-//! The line that refuses a text at a place.
+//! The lines that refuse a text.
 ghost use Rattle.std.specs.Prelude.{◌≡◌, IfOk};
+ghost use Rattle.sl_model.specs.Reports.Refusals.{too_long_line};
 ghost use Rattle.sl_model.specs.Reports.Texts.{refusal_line};
 
 use sl_base::{Items, Place};
@@ -17,5 +18,13 @@ pub fn refusal_line(
     let line = place.line;
     let col = place.col;
     let text = format!(in alloc; "{file}:{line}:{col}: refused: {why}\n")?;
+    Items::from_slice(alloc, text.as_bytes())
+}
+
+/// The line that refuses the text of a file that is too long.
+pub fn too_long_line(alloc: Global, file: &str) -> Result<Items<u8>, AllocError>
+    ensures { IfOk result (λ line. line ≡ too_long_line file.now) }
+{
+    let text = format!(in alloc; "{file}: refused: longer than 1048576 bytes\n")?;
     Items::from_slice(alloc, text.as_bytes())
 }

@@ -7,7 +7,7 @@ ghost use Rattle.sl_base.specs.Outside.{OthersKept};
 
 use crate::checking::check;
 use crate::command::{Command, command_in};
-use crate::parsed::program_of;
+use crate::phases::parsed_text;
 use crate::status::Status;
 use sl_base::limits::TEXT_BYTES;
 use sl_base::{Files, Items, ReadErr, Sink, read_all, write_all};
@@ -83,9 +83,9 @@ fn list_rows<K: Sink>(alloc: Global, out: &mut K) -> Status
 fn answer(alloc: Global, file: &str, text: &[u8]) -> Result<(Status, Items<u8>), AllocError>
     ensures { IfOk result (λ a. AnswerTo file.now text.now a.0 a.1) }
 {
-    match program_of(alloc, file, text)? {
+    match parsed_text(alloc, text) {
         Ok(parsed) => check(alloc, file, text, &parsed),
-        Err(line) => Ok((Status::Refused, line)),
+        Err(stop) => Ok((Status::Refused, stop.line(alloc, file)?)),
     }
 }
 

@@ -6,15 +6,15 @@ mod statement;
 
 use crate::case::SourceFile;
 use sl_syntax::{Function, Item};
-use sl_tool::program_of;
+use sl_tool::parsed_text;
 use statement::item_text;
 use std::alloc::{AllocError, Global};
 
 /// A line for each item of a text's functions.
 pub fn answer(alloc: Global, file: &SourceFile) -> Result<Vec<u8>, AllocError> {
-    match program_of(alloc, file.name, file.bytes)? {
+    match parsed_text(alloc, file.bytes) {
         Ok(parsed) => lines_of(alloc, &parsed.program.functions),
-        Err(line) => line.as_slice().to_vec(alloc),
+        Err(stop) => stop.line(alloc, file.name)?.as_slice().to_vec(alloc),
     }
 }
 

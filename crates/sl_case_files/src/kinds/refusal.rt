@@ -1,13 +1,13 @@
 //! The line that refuses a text.
 
 use crate::case::SourceFile;
-use sl_tool::program_of;
+use sl_tool::typed_text;
 use std::alloc::{AllocError, Global};
 
-/// The line that refuses a text, or nothing.
+/// The line that refuses a text by its tokens, the grammar or typing, or nothing.
 pub fn answer(alloc: Global, file: &SourceFile) -> Result<Vec<u8>, AllocError> {
-    match program_of(alloc, file.name, file.bytes)? {
+    match typed_text(alloc, file.bytes) {
         Ok(_) => Ok(Vec::new(alloc)),
-        Err(line) => line.as_slice().to_vec(alloc),
+        Err(stop) => stop.line(alloc, file.name)?.as_slice().to_vec(alloc),
     }
 }

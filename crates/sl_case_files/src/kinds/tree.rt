@@ -4,14 +4,14 @@ use crate::case::SourceFile;
 use crate::kinds::word::word_text;
 use sl_base::Word;
 use sl_syntax::write_tokens;
-use sl_tool::program_of;
+use sl_tool::parsed_text;
 use std::alloc::{AllocError, Global};
 
 /// The words of a text's tree, one a line.
 pub fn answer(alloc: Global, file: &SourceFile) -> Result<Vec<u8>, AllocError> {
-    match program_of(alloc, file.name, file.bytes)? {
+    match parsed_text(alloc, file.bytes) {
         Ok(parsed) => lines_of(alloc, write_tokens(alloc, &parsed.program)?.as_slice()),
-        Err(line) => line.as_slice().to_vec(alloc),
+        Err(stop) => stop.line(alloc, file.name)?.as_slice().to_vec(alloc),
     }
 }
 

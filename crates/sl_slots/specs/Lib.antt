@@ -1,0 +1,5 @@
+pub mod Shown
+pub mod Rearranging
+pub mod Trading
+pub mod Fates
+pub mod Stored
