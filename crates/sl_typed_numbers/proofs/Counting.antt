@@ -1,6 +1,7 @@
 -- What stands before a place, and what a function gives of the nodes of a statement: where each part adds what the function gives of its nodes, so do
 -- statements, items and functions.
-use Rattle.std.proofs.Common.{◌≡◌, Bool, true, false, List, [], ◌∷◌, ◌++◌, length, append_assoc, Option, Some, None, refl, sym, ◌∙◌, ap, option_map}
+use Rattle.std.proofs.Common.{◌≡◌, Bool, true, false, List, [], ◌∷◌, ◌++◌, length, append_assoc, Option, Some, None, refl, sym, subst, ◌∙◌, ap}
+use Rattle.std.proofs.Common.{option_map}
 use Rattle.std.specs.Prelude.{not}
 use Rattle.std.specs.List.{filter_map}
 use Rattle.std.proofs.lemmas.List.{append-nil}
@@ -11,6 +12,7 @@ use Rattle.sl_syntax.specs.declared.tree.identifier.Identifier.{Identifier}
 use Rattle.sl_syntax.specs.Tree as s
 use Rattle.sl_syntax.specs.Tree.{Expr, Declaration, Effect, Cond, First, Stmt, Item, Items, Function}
 use Rattle.sl_typing.specs.declared.rules.TheConstants as rule
+use Rattle.sl_typing.specs.declared.scope.FunctionHead.{FunctionHead}
 use Rattle.sl_typing.specs.Contexts.{Context, enter, leave, looping, started, started_loop, with_sites}
 use Rattle.sl_typing.specs.Faults.{broken}
 use Rattle.sl_typing.specs.Ranges.{may_go_over}
@@ -28,8 +30,11 @@ use Rattle.sl_typing.specs.Typing.{typed_function}
 use Rattle.sl_model.specs.Typing.WellTypedNodes.{Node, a_loop, a_range, a_variable, a_brace, has_container, element_variable}
 use Rattle.sl_model.specs.Typing.WellTypedNodes.{nodes_in_value, nodes_in_cond, nodes_in_effect, nodes_in_last, nodes_in_declaration}
 use Rattle.sl_model.specs.Typing.WellTypedNodes.{nodes_in_first, nodes_in_stmt, nodes_in_stmts}
+use Rattle.sl_number_limits.proofs.Growth.{Grows}
 use Rattle.sl_number_limits.proofs.Lists.{parts, not_broken}
 use Rattle.sl_number_limits.proofs.PartFaults as part
+use Rattle.sl_number_limits.proofs.StatementGrowth.{condition_grows, while_grows, at_test_grows, at_last_grows, for_grows, range_grows}
+use Rattle.sl_number_limits.proofs.StatementGrowth.{after_grows, after_item_grows}
 
 -- behind nodes there is what a function gives of them, behind what was there before
 abbrev pub Adds : (X : Type 0) → (Node → Option X) → List X → List X → List Node → Type 0
@@ -56,13 +61,24 @@ adds_to X f a b c xs h k = h ∙ k
 pub adds_nothing : (X : Type 0) (f : Node → Option X) (a : List X) (xs : List Node) → filter_map f xs ≡ [] → Adds X f a a xs
 adds_nothing X f a xs h = sym (append-nil a) ∙ ap (λ (l : List X). a ++ l) (sym h)
 
--- what each part adds
-pub record Counts (X : Type 0) (f : Node → Option X) (m : Context → List X) : Type 0 where
-  pub conditions : (g : Context) (k : Cond) → cond_faults g k ≡ [] → Adds X f (m g) (m (behind_cond g k)) (nodes_in_cond (typed_cond g k))
-  pub effects : (g : Context) (w : Effect) → effect_faults g w ≡ [] → Adds X f (m g) (m (behind_effect g w)) (nodes_in_effect (typed_effect g w))
-  pub declarations : (g : Context) (d : Declaration) → declaration_faults g d ≡ []
+-- nothing is known of the functions in scope
+abbrev pub NoneKnown : List FunctionHead → Type 0
+NoneKnown hs = Unit {0}
+
+-- what is known of them is known behind
+known : (K : List FunctionHead → Type 0) (g h : Context) → Grows g h → K g.scope.functions → K h.scope.functions
+known K g h w k = subst K (sym w.functions) k
+
+-- what each part adds, where so much is known of the functions in scope
+pub record Counts (X : Type 0) (f : Node → Option X) (m : Context → List X) (K : List FunctionHead → Type 0) : Type 0 where
+  pub conditions : (g : Context) (k : Cond) → K g.scope.functions → cond_faults g k ≡ []
+      → Adds X f (m g) (m (behind_cond g k)) (nodes_in_cond (typed_cond g k))
+  pub effects : (g : Context) (w : Effect) → K g.scope.functions → effect_faults g w ≡ []
+      → Adds X f (m g) (m (behind_effect g w)) (nodes_in_effect (typed_effect g w))
+  pub declarations : (g : Context) (d : Declaration) → K g.scope.functions → declaration_faults g d ≡ []
       → Adds X f (m g) (m (behind_declaration g d)) (nodes_in_declaration (typed_declaration g d))
-  pub returns : (g : Context) (v : Option Expr) → value_faults g v ≡ [] → Adds X f (m g) (m (behind_value g v)) (nodes_in_value (typed_value g v))
+  pub returns : (g : Context) (v : Option Expr) → K g.scope.functions → value_faults g v ≡ []
+      → Adds X f (m g) (m (behind_value g v)) (nodes_in_value (typed_value g v))
   pub begins : (g : Context) → m (started g) ≡ m g
   pub enters : (g : Context) → m (enter g) ≡ m g
   pub leaves : (g h : Context) → m (leave g h) ≡ m h
@@ -80,50 +96,56 @@ not_not true h = refl
 not_not false h = absurd cc
 
 -- the parts of a `for`
-head_adds : (X : Type 0) (f : Node → Option X) (m : Context → List X) → Counts X f m → (g : Context) (first : Option First)
-    → first_faults g first ≡ [] → Adds X f (m g) (m (behind_first g first)) (nodes_in_first (typed_first g first))
-head_adds X f m c g None none = adds_none X f (m g)
-head_adds X f m c g (Some (s.first_scalar at type x e)) none = c.declarations g (s.declares_scalar at type x (Some e)) none
-head_adds X f m c g (Some (s.first_auto at x e)) none = c.declarations g (s.declares_auto at x e) none
-head_adds X f m c g (Some (s.first_effect w)) none = c.effects g w none
+head_adds : (X : Type 0) (f : Node → Option X) (m : Context → List X) (K : List FunctionHead → Type 0) → Counts X f m K
+    → (g : Context) (first : Option First)
+    → K g.scope.functions → first_faults g first ≡ [] → Adds X f (m g) (m (behind_first g first)) (nodes_in_first (typed_first g first))
+head_adds X f m K c g None k none = adds_none X f (m g)
+head_adds X f m K c g (Some (s.first_scalar at type x e)) k none = c.declarations g (s.declares_scalar at type x (Some e)) k none
+head_adds X f m K c g (Some (s.first_auto at x e)) k none = c.declarations g (s.declares_auto at x e) k none
+head_adds X f m K c g (Some (s.first_effect w)) k none = c.effects g w k none
 
-test_adds : (X : Type 0) (f : Node → Option X) (m : Context → List X) → Counts X f m → (g : Context) (k : Option Cond)
-    → test_faults g k ≡ [] → Adds X f (m g) (m (behind_test g k)) (nodes_in_cond (typed_test g k))
-test_adds X f m c g None none = adds_none X f (m g)
-test_adds X f m c g (Some k) none = c.conditions g k none
+test_adds : (X : Type 0) (f : Node → Option X) (m : Context → List X) (K : List FunctionHead → Type 0) → Counts X f m K
+    → (g : Context) (k : Option Cond)
+    → K g.scope.functions → test_faults g k ≡ [] → Adds X f (m g) (m (behind_test g k)) (nodes_in_cond (typed_test g k))
+test_adds X f m K c g None known none = adds_none X f (m g)
+test_adds X f m K c g (Some k) known none = c.conditions g k known none
 
-last_adds : (X : Type 0) (f : Node → Option X) (m : Context → List X) → Counts X f m → (g : Context) (w : Option Effect)
-    → last_faults g w ≡ [] → Adds X f (m g) (m (behind_last g w)) (nodes_in_last (option_map (typed_effect g) w))
-last_adds X f m c g None none = adds_none X f (m g)
-last_adds X f m c g (Some w) none = c.effects g w none
+last_adds : (X : Type 0) (f : Node → Option X) (m : Context → List X) (K : List FunctionHead → Type 0) → Counts X f m K
+    → (g : Context) (w : Option Effect)
+    → K g.scope.functions → last_faults g w ≡ [] → Adds X f (m g) (m (behind_last g w)) (nodes_in_last (option_map (typed_effect g) w))
+last_adds X f m K c g None k none = adds_none X f (m g)
+last_adds X f m K c g (Some w) k none = c.effects g w k none
 
 mutual
   unfolding typed_stmt typed_item typed_items stmt_faults item_faults items_faults nodes_in_stmt nodes_in_stmts after after_item after_items
 
   -- a statement
-  pub stmt_adds : (X : Type 0) (f : Node → Option X) (m : Context → List X) → Counts X f m → (g : Context) (a : Stmt) → stmt_faults g a ≡ []
+  pub stmt_adds : (X : Type 0) (f : Node → Option X) (m : Context → List X) (K : List FunctionHead → Type 0)
+      → Counts X f m K → (g : Context) (a : Stmt) → K g.scope.functions → stmt_faults g a ≡ []
       → Adds X f (m g) (m (after g a)) (nodes_in_stmt (typed_stmt g a))
-  stmt_adds X f m c g (s.block at items close) none =
+  stmt_adds X f m K c g (s.block at items close) w none =
       let inner = after_items (enter g) items in
       let closed = with_sites (brace_site items close) inner in
       adds_to X f (m g) (m closed) (m (leave g closed)) _ (c.leaves g closed)
       (adds_both X f (m g) (m inner) (m closed) (nodes_in_stmts (typed_items (enter g) items)) _
-      (adds_from X f (m g) (m (enter g)) (m inner) _ (c.enters g) (items_add X f m c (enter g) items (part.block_items g at items close none)))
+      (adds_from X f (m g) (m (enter g)) (m inner) _ (c.enters g) (items_add X f m K c (enter g) items w (part.block_items g at items close none)))
       (c.braces (enter g) items close))
-  stmt_adds X f m c g (s.choice at k a) none =
+  stmt_adds X f m K c g (s.choice at k a) w none =
       let h = behind_cond (started g) k in
       adds_both X f (m g) (m h) (m (after h a)) (nodes_in_cond (typed_cond (started g) k)) (nodes_in_stmt (typed_stmt h a))
-      (adds_from X f (m g) (m (started g)) (m h) _ (c.begins g) (c.conditions (started g) k (part.choice_condition g at k a none)))
-      (stmt_adds X f m c h a (part.choice_body g at k a none))
-  stmt_adds X f m c g (s.choice_else at k a b) none =
+      (adds_from X f (m g) (m (started g)) (m h) _ (c.begins g) (c.conditions (started g) k w (part.choice_condition g at k a none)))
+      (stmt_adds X f m K c h a (known K g h (condition_grows g k) w) (part.choice_body g at k a none))
+  stmt_adds X f m K c g (s.choice_else at k a b) w none =
       let h = behind_cond (started g) k in
       let i = after h a in
+      let wh = known K g h (condition_grows g k) w in
       adds_both X f (m g) (m h) (m (after i b)) (nodes_in_cond (typed_cond (started g) k))
       (nodes_in_stmt (typed_stmt h a) ++ nodes_in_stmt (typed_stmt i b))
-      (adds_from X f (m g) (m (started g)) (m h) _ (c.begins g) (c.conditions (started g) k (part.choice_else_condition g at k a b none)))
+      (adds_from X f (m g) (m (started g)) (m h) _ (c.begins g) (c.conditions (started g) k w (part.choice_else_condition g at k a b none)))
       (adds_both X f (m h) (m i) (m (after i b)) (nodes_in_stmt (typed_stmt h a)) (nodes_in_stmt (typed_stmt i b))
-      (stmt_adds X f m c h a (part.choice_else_body g at k a b none)) (stmt_adds X f m c i b (part.else_body g at k a b none)))
-  stmt_adds X f m c g (s.while at k a) none =
+      (stmt_adds X f m K c h a wh (part.choice_else_body g at k a b none))
+      (stmt_adds X f m K c i b (known K h i (after_grows h a) wh) (part.else_body g at k a b none)))
+  stmt_adds X f m K c g (s.while at k a) w none =
       let start = started_loop at g in
       let h = behind_cond start k in
       let i = in_while g at k in
@@ -132,9 +154,10 @@ mutual
       let body = nodes_in_stmt (typed_stmt i a) in
       adds_to X f (m g) (m j) (m (leave g j)) (a_loop (length g.loops) ∷ (condition ++ body)) (c.leaves g j)
       (adds_both X f (m g) (m start) (m j) (a_loop (length g.loops) ∷ []) (condition ++ body) (c.loops at g)
-      (adds_both X f (m start) (m h) (m j) condition body (c.conditions start k (part.while_condition g at k a none))
-      (adds_from X f (m h) (m i) (m j) body (c.stays h) (stmt_adds X f m c i a (part.while_body g at k a none)))))
-  stmt_adds X f m c g (s.for at first k last a) none =
+      (adds_both X f (m start) (m h) (m j) condition body (c.conditions start k w (part.while_condition g at k a none))
+      (adds_from X f (m h) (m i) (m j) body (c.stays h)
+      (stmt_adds X f m K c i a (known K g i (while_grows g at k) w) (part.while_body g at k a none)))))
+  stmt_adds X f m K c g (s.for at first k last a) w none =
       let start = started_loop at g in
       let h0 = enter start in
       let h1 = at_test g at first in
@@ -149,11 +172,14 @@ mutual
       adds_to X f (m g) (m j) (m (leave g j)) (a_loop (length g.loops) ∷ (n1 ++ (n2 ++ (n3 ++ n4)))) (c.leaves g j)
       (adds_both X f (m g) (m start) (m j) (a_loop (length g.loops) ∷ []) (n1 ++ (n2 ++ (n3 ++ n4))) (c.loops at g)
       (adds_both X f (m start) (m h1) (m j) n1 (n2 ++ (n3 ++ n4))
-      (adds_from X f (m start) (m h0) (m h1) n1 (c.enters start) (head_adds X f m c h0 first (part.for_first g at first k last a none)))
-      (adds_both X f (m h1) (m h2) (m j) n2 (n3 ++ n4) (test_adds X f m c h1 k (part.for_test g at first k last a none))
-      (adds_both X f (m h2) (m h3) (m j) n3 n4 (last_adds X f m c h2 last (part.for_last g at first k last a none))
-      (adds_from X f (m h3) (m i) (m j) n4 (c.stays h3) (stmt_adds X f m c i a (part.for_body g at first k last a none)))))))
-  stmt_adds X f m c g (s.range_for at how x over a) none =
+      (adds_from X f (m start) (m h0) (m h1) n1 (c.enters start) (head_adds X f m K c h0 first w (part.for_first g at first k last a none)))
+      (adds_both X f (m h1) (m h2) (m j) n2 (n3 ++ n4)
+      (test_adds X f m K c h1 k (known K g h1 (at_test_grows g at first) w) (part.for_test g at first k last a none))
+      (adds_both X f (m h2) (m h3) (m j) n3 n4
+      (last_adds X f m K c h2 last (known K g h2 (at_last_grows g at first k) w) (part.for_last g at first k last a none))
+      (adds_from X f (m h3) (m i) (m j) n4 (c.stays h3)
+      (stmt_adds X f m K c i a (known K g i (for_grows g at first k last) w) (part.for_body g at first k last a none)))))))
+  stmt_adds X f m K c g (s.range_for at how x over a) w none =
       let start = started_loop at g in
       let i = in_range g at how x over in
       let j = after i a in
@@ -165,34 +191,38 @@ mutual
       adds_to X f (m g) (m j) (m (leave g j)) (a_loop (length g.loops) ∷ (range ++ body)) (c.leaves g j)
       (adds_both X f (m g) (m start) (m j) (a_loop (length g.loops) ∷ []) (range ++ body) (c.loops at g)
       (adds_both X f (m start) (m i) (m j) range body (c.ranges g at how x over may)
-      (stmt_adds X f m c i a (part.range_body g at how x over a none))))
-  stmt_adds X f m c g (s.break at) none = adds_to X f (m g) (m g) (m (started g)) [] (c.begins g) (adds_none X f (m g))
-  stmt_adds X f m c g (s.continue at) none = adds_to X f (m g) (m g) (m (started g)) [] (c.begins g) (adds_none X f (m g))
-  stmt_adds X f m c g (s.gives_back at v) none =
-      adds_from X f (m g) (m (started g)) _ _ (c.begins g) (c.returns (started g) v (part.given_value g at v none))
-  stmt_adds X f m c g (s.does at w) none =
-      adds_from X f (m g) (m (started g)) _ _ (c.begins g) (c.effects (started g) w (part.done_effect g at w none))
+      (stmt_adds X f m K c i a (known K g i (range_grows g at how x over) w) (part.range_body g at how x over a none))))
+  stmt_adds X f m K c g (s.break at) w none = adds_to X f (m g) (m g) (m (started g)) [] (c.begins g) (adds_none X f (m g))
+  stmt_adds X f m K c g (s.continue at) w none = adds_to X f (m g) (m g) (m (started g)) [] (c.begins g) (adds_none X f (m g))
+  stmt_adds X f m K c g (s.gives_back at v) w none =
+      adds_from X f (m g) (m (started g)) _ _ (c.begins g) (c.returns (started g) v w (part.given_value g at v none))
+  stmt_adds X f m K c g (s.does at e) w none =
+      adds_from X f (m g) (m (started g)) _ _ (c.begins g) (c.effects (started g) e w (part.done_effect g at e none))
 
   -- an item of a block
-  pub item_adds : (X : Type 0) (f : Node → Option X) (m : Context → List X) → Counts X f m → (g : Context) (i : Item) → item_faults g i ≡ []
+  pub item_adds : (X : Type 0) (f : Node → Option X) (m : Context → List X) (K : List FunctionHead → Type 0)
+      → Counts X f m K → (g : Context) (i : Item) → K g.scope.functions → item_faults g i ≡ []
       → Adds X f (m g) (m (after_item g i)) (nodes_in_stmt (typed_item g i))
-  item_adds X f m c g (s.declares d) none =
-      adds_from X f (m g) (m (started g)) _ _ (c.begins g) (c.declarations (started g) d (part.declared g d none))
-  item_adds X f m c g (s.states a) none = stmt_adds X f m c g a (part.stated g a none)
+  item_adds X f m K c g (s.declares d) w none =
+      adds_from X f (m g) (m (started g)) _ _ (c.begins g) (c.declarations (started g) d w (part.declared g d none))
+  item_adds X f m K c g (s.states a) w none = stmt_adds X f m K c g a w (part.stated g a none)
 
   -- items
-  pub items_add : (X : Type 0) (f : Node → Option X) (m : Context → List X) → Counts X f m → (g : Context) (items : Items) → items_faults g items ≡ []
+  pub items_add : (X : Type 0) (f : Node → Option X) (m : Context → List X) (K : List FunctionHead → Type 0)
+      → Counts X f m K → (g : Context) (items : Items) → K g.scope.functions → items_faults g items ≡ []
       → Adds X f (m g) (m (after_items g items)) (nodes_in_stmts (typed_items g items))
-  items_add X f m c g s.no_more none = adds_none X f (m g)
-  items_add X f m c g (s.followed i rest) none =
+  items_add X f m K c g s.no_more w none = adds_none X f (m g)
+  items_add X f m K c g (s.followed i rest) w none =
       let h = after_item g i in
       adds_both X f (m g) (m h) (m (after_items h rest)) (nodes_in_stmt (typed_item g i)) (nodes_in_stmts (typed_items h rest))
-      (item_adds X f m c g i (part.first_item g i rest none)) (items_add X f m c h rest (part.other_items g i rest none))
+      (item_adds X f m K c g i w (part.first_item g i rest none))
+      (items_add X f m K c h rest (known K g h (after_item_grows g i) w) (part.other_items g i rest none))
 
 -- a function, from the start of its body
-pub function_adds : (X : Type 0) (f : Node → Option X) (m : Context → List X) → Counts X f m → (g : Context) (w : Function) → function_faults g w ≡ []
+pub function_adds : (X : Type 0) (f : Node → Option X) (m : Context → List X) (K : List FunctionHead → Type 0)
+    → Counts X f m K → (g : Context) (w : Function) → K (in_function g w).scope.functions → function_faults g w ≡ []
     → Adds X f (m (in_function g w)) (m (after_function g w)) (nodes_in_stmt (typed_function g w).body)
 unfolding nodes_in_stmt nodes_in_stmts
-function_adds X f m c g w none =
+function_adds X f m K c g w k none =
     adds_both X f (m (in_function g w)) (m (at_brace g w)) (m (after_function g w)) (nodes_in_stmts (typed_items (in_function g w) w.items)) _
-    (items_add X f m c (in_function g w) w.items (part.function_items g w none)) (c.braces (in_function g w) w.items w.closes)
+    (items_add X f m K c (in_function g w) w.items k (part.function_items g w none)) (c.braces (in_function g w) w.items w.closes)

@@ -17,3 +17,11 @@ pub mod Loops
 pub mod Same
 pub mod Killing
 pub mod Sites
+-- ## The numbers of sites
+pub mod NumberedNodes
+pub mod LeftSides
+pub mod Objects
+pub mod NumberedArguments
+pub mod NumberedSites
+pub mod NumberedParts
+pub mod NumberedStatements

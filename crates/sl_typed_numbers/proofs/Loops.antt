@@ -19,7 +19,7 @@ use Rattle.sl_typing.specs.Typing.{typed_function}
 use Rattle.sl_model.specs.Typing.WellTypedNodes.{Node, a_variable, nodes_in, nodes_in_operands, nodes_in_declaration, nodes_in_stmt}
 use Rattle.sl_model.specs.Typing.WellTypedNumbers.{loop_in, are_numbers_of}
 use Rattle.sl_typed_numbers.proofs.Silent.{Skips, silent, silent_operands, two_silent}
-use Rattle.sl_typed_numbers.proofs.Counting.{Counts, function_adds}
+use Rattle.sl_typed_numbers.proofs.Counting.{Counts, NoneKnown, function_adds}
 use Rattle.sl_typed_numbers.proofs.Kept.{Keeps, kept, value_keeps, initializer_keeps, effect_adds_none, cond_adds_none, value_adds_none}
 use Rattle.sl_typed_numbers.proofs.Upto.{upto, added_are_numbers}
 
@@ -69,13 +69,13 @@ hidden_keeps (types.Container access form) h = refl
 hidden_keeps u h = refl
 
 -- the loops of each part of a text
-counts : Counts ℕ loop_in loops_before
+counts : Counts ℕ loop_in loops_before NoneKnown
 counts = record {
-  conditions = λ g k none. cond_adds_none ℕ loop_in loops_before skips keeps g k;
-  effects = λ g w none. effect_adds_none ℕ loop_in loops_before skips keeps g w;
-  declarations = λ g d none. kept ℕ loop_in (loops_before g) (loops_before (behind_declaration g d)) (nodes_in_declaration (typed_declaration g d))
+  conditions = λ g k w none. cond_adds_none ℕ loop_in loops_before skips keeps g k;
+  effects = λ g e w none. effect_adds_none ℕ loop_in loops_before skips keeps g e;
+  declarations = λ g d w none. kept ℕ loop_in (loops_before g) (loops_before (behind_declaration g d)) (nodes_in_declaration (typed_declaration g d))
       (declaration_keeps g d) (declaration_silent (typed_declaration g d));
-  returns = λ g v none. value_adds_none ℕ loop_in loops_before skips keeps g v;
+  returns = λ g v w none. value_adds_none ℕ loop_in loops_before skips keeps g v;
   begins = λ g. refl;
   enters = λ g. refl;
   leaves = λ g h. refl;
@@ -98,4 +98,4 @@ loops_are_numbered limit g f none few =
     let xs = filter_map loop_in (nodes_in_stmt (typed_function g f).body) in
     let same = parameters_keep (before_parameters g f) f.params in
     added_are_numbers (length g.loops) (length (after_function g f).loops) limit xs
-    (function_adds ℕ loop_in loops_before counts g f none ∙ ap (λ (l : List ℕ). l ++ xs) same) few
+    (function_adds ℕ loop_in loops_before NoneKnown counts g f tt none ∙ ap (λ (l : List ℕ). l ++ xs) same) few

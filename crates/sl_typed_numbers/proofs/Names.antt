@@ -57,7 +57,8 @@ names_pass_text names = record {
   braces = λ g items. refl;
   ranges = λ g st at over none. used_is_name g.scope over.name names (scope_stands names g st)
       (not_broken (is_unknown_variable g.scope over.name) over.place rule.UNKNOWN_NAME none);
-  assignments = λ g st x at y access form f k es none is found. trimmed_are names (told g.scope x ∷ told g.scope y ∷ []) (two_told g.scope x y names (scope_stands names g st));
+  assignments = λ g st x at y access form f k es none is found.
+      trimmed_are names (told g.scope x ∷ told g.scope y ∷ []) (two_told g.scope x y names (scope_stands names g st));
   makings = λ g st form at made es. trimmed_are names (None ∷ told_in g made) (initializer_told g made names (scope_stands names g st));
 }
 

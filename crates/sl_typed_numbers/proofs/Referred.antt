@@ -42,7 +42,8 @@ use Rattle.sl_typing.specs.Numbering.{row_call, called_row, row_of_subscript, ro
 use Rattle.sl_well_typed.proofs.AlgorithmTypes.{stands_alone, algorithm_stands}
 use Rattle.sl_well_typed.proofs.Bound.{is_called_element}
 use Rattle.sl_well_typed.proofs.Parts.{library_call_kept, index_kept}
-use Rattle.sl_well_typed.proofs.Rows.{found_row, row_is_fine, is_fine, is_member_fine, is_subscript_fine, is_algorithm_fine, is_output_fine, is_output_given}
+use Rattle.sl_well_typed.proofs.Rows.{found_row, row_is_fine, is_fine, is_member_fine, is_subscript_fine, is_algorithm_fine, is_output_fine}
+use Rattle.sl_well_typed.proofs.Rows.{is_output_given}
 use Rattle.sl_well_typed.proofs.Rows.{gives_own, gives_element, are_one_number, needs_strength}
 
 both_ways : (x : Bool) → x ≡ false → x ≡ true → ⊥
@@ -142,7 +143,8 @@ own_called r.Iterator constant form us h es own may = absurd cc
 own_called r.IteratorAndBool constant form us h es own may = absurd cc
 own_called r.IteratorPair constant form us h es own may = absurd cc
 
-member_row_gives : (form : Form) (name : List ℕ) (us : List ExprType) (x : Found) → member_row form name us ≡ Some x → gives_own x.row.gives ≡ true
+pub member_row_gives : (form : Form) (name : List ℕ) (us : List ExprType) (x : Found) → member_row form name us ≡ Some x
+    → gives_own x.row.gives ≡ true
 member_row_gives form name us x e =
     let found = found_row (λ row. is_candidate (Some form) name (length us) row && letters_take form row.letters us) x e in
     let row = x.row in
@@ -178,7 +180,8 @@ unfolding type_of types_of typed operands wrong_type no_such_call
 referred_is_called g n how (s.number at k) none may = absurd cc
 referred_is_called g n how (s.truth at x) none may = absurd cc
 referred_is_called g n how (s.name x) none may = absurd cc
-referred_is_called g n how (s.call f xs) none may = absurd (both_ways (is_element (own_type (function_named g f.name))) (own_none (function_named g f.name)) may)
+referred_is_called g n how (s.call f xs) none may =
+    absurd (both_ways (is_element (own_type (function_named g f.name))) (own_none (function_named g f.name)) may)
 referred_is_called g n how (s.library_call f xs) none may =
     let keeps = (library_call_kept g n how f xs none).1 in
     let alone = algorithm_stands g f.name xs (not_false (fits_algorithm g f.name xs) keeps.types) in

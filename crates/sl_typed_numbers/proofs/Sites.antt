@@ -27,7 +27,8 @@ use Rattle.sl_typing.specs.declared.standing.Standing.{Standing}
 use Rattle.sl_typing.specs.Types.{same_answer, is_element, is_container}
 use Rattle.sl_typing.specs.Signatures.{row_at}
 use Rattle.sl_typing.specs.Arguments.{letters_take, letters_seen, takes_count, takes_list}
-use Rattle.sl_typing.specs.Candidates.{Found, is_candidate, is_called, is_named, is_row_of, is_constructor_of, member_row, algorithm_row, subscript_row}
+use Rattle.sl_typing.specs.Candidates.{Found, is_candidate, is_called, is_named, is_row_of, is_constructor_of, member_row, algorithm_row}
+use Rattle.sl_typing.specs.Candidates.{subscript_row}
 use Rattle.sl_typing.specs.Candidates.{assignment_row, list_constructor, constructor_row, end_in_output, has_output, row_kills}
 use Rattle.sl_typing.specs.Contexts.{Context, started}
 use Rattle.sl_typing.specs.Scopes.{type_of_name}
@@ -71,7 +72,8 @@ answered false true k h = absurd cc
 due : (n : ℕ) (row : Row) (is : Bool) (k : ℕ) → row_at n ≡ Some row → row_kills row ≡ is
     → same_answer (is_call_site (callees.Row n)) (is_some (if is then Some k else None)) ≡ true
 due n row is k there same =
-    subst (λ (o : Option Row). same_answer (kills_at o) (is_some (if is then Some k else None)) ≡ true) (sym there) (answered (row_kills row) is k same)
+    subst (λ (o : Option Row). same_answer (kills_at o) (is_some (if is then Some k else None)) ≡ true) (sym there)
+    (answered (row_kills row) is k same)
 
 -- no site
 not_due : (n : ℕ) (row : Row) → row_at n ≡ Some row → row_kills row ≡ false → same_answer (is_call_site (callees.Row n)) false ≡ true
@@ -133,7 +135,8 @@ and_true : (x y z : Bool) → x ≡ true → z ≡ y → z ≡ (x && y)
 and_true true y z h k = k
 and_true false y z h k = absurd cc
 
-member_due : (g : Scope) (n : ℕ) (how : Standing) (x : Expr) (w : Identifier) (xs : Exprs) (o : Found) → own_faults g n how (s.member_call x w xs) ≡ []
+member_due : (g : Scope) (n : ℕ) (how : Standing) (x : Expr) (w : Identifier) (xs : Exprs) (o : Found)
+    → own_faults g n how (s.member_call x w xs) ≡ []
     → row_of_member (type_of g x) w.name (types_of g xs) ≡ Some o
     → same_answer (is_call_site (callees.Row o.number)) (is_some (site_number g n (s.member_call x w xs))) ≡ true
 unfolding site_number is_site
@@ -169,9 +172,10 @@ appender_due : (g : Scope) (n : ℕ) (w : Identifier) (xs : Exprs) (k : ℕ) →
 unfolding site_number is_site
 appender_due g n w xs k all = answered true (appends w.name xs) (at_word g n (s.library_call w xs)) (sym all)
 
--- `advance` appends nothing
-advance_is_other : (row : Row) → call_text row.call ≡ codes "advance" → list_any (λ name. has_name name row) output_names ≡ false
-advance_is_other row text = subst (λ (l : List ℕ). list_any (λ name. bytes_eq l name) output_names ≡ false) (sym text) refl
+-- a call with the name of no algorithm with an output appends nothing
+other_row : (row : Row) (word : List ℕ) → call_text row.call ≡ word → list_any (λ name. bytes_eq word name) output_names ≡ false
+    → list_any (λ name. has_name name row) output_names ≡ false
+other_row row word text other = subst (λ (l : List ℕ). list_any (λ name. bytes_eq l name) output_names ≡ false) (sym text) other
 
 output_of : (b : Bool) (e out : Bool) → b ≡ true → (not b || (if e then out else not out)) ≡ true → e ≡ true → out ≡ true
 output_of true true out h k l = k
@@ -183,8 +187,8 @@ output_is_fine row fine =
     let f4 = and_parts (is_member_fine row && is_subscript_fine row && is_algorithm_fine row && is_output_fine row) (is_output_given row) fine in
     (and_parts (is_member_fine row && is_subscript_fine row && is_algorithm_fine row) (is_output_fine row) f4.0).1
 
-no_output : (name : List ℕ) (n : ℕ) → name ≡ codes "advance" → has_output name n ≡ true → ⊥
-no_output name n is some =
+no_output : (name word : List ℕ) (n : ℕ) → name ≡ word → list_any (λ k. bytes_eq word k) output_names ≡ false → has_output name n ≡ true → ⊥
+no_output name word n is none some =
     let other = some_row (λ r. is_candidate None name n r && end_in_output r.letters) some in
     let both = and_parts (is_candidate None name n other.row) (end_in_output other.row.letters) other.passes in
     let called = (and_parts (is_called None name other.row) (takes_count other.row.letters n) both.0).0 in
@@ -194,16 +198,17 @@ no_output name n is some =
     let fine = output_is_fine other.row (row_is_fine other.index other.row other.there) in
     let out = list_any (λ nm. has_name nm other.row) output_names in
     let yes = output_of (same_object other.row.form None) (end_in_output other.row.letters) out own fine both.1 in
-    let no = advance_is_other other.row text in
+    let no = other_row other.row word text none in
     cc
 
 first_fails : (x y : Bool) → (x ≡ true → ⊥) → (x && y) ≡ false
 first_fails true y h = absurd (h refl)
 first_fails false y h = refl
 
-advance_appends_none : (name : List ℕ) (xs : Exprs) → bytes_eq name (codes "advance") ≡ true → appends name xs ≡ false
-advance_appends_none name xs is =
-    first_fails (has_output name (size xs)) (end_in_appender xs) (no_output name (size xs) (same_text name (codes "advance") is))
+pub appends_none : (word name : List ℕ) (xs : Exprs) → list_any (λ k. bytes_eq word k) output_names ≡ false → bytes_eq name word ≡ true
+    → appends name xs ≡ false
+appends_none word name xs other is =
+    first_fails (has_output name (size xs)) (end_in_appender xs) (no_output name word (size xs) (same_text name word is) other)
 
 -- the nodes of expressions have the sites that are due
 sites_pass : (g : Scope) → Passes has_due_site g
@@ -217,7 +222,7 @@ sites_pass g = record {
   subscripts = λ n how x at y o object es none found. subscript_due g n x at y o found;
   members = λ n how x w xs o object es none found. member_due g n how x w xs o none found;
   algorithms = λ n how w xs o es none found other. algorithm_due g n w xs o found other;
-  advances = λ n how w xs o es none found name. algorithm_due g n w xs o found (advance_appends_none w.name xs name);
+  advances = λ n how w xs o es none found name. algorithm_due g n w xs o found (appends_none (codes "advance") w.name xs refl name);
   appenders = λ n how w xs o es none found all. appender_due g n w xs o.number all;
 }
 
@@ -282,7 +287,8 @@ made_of_list form =
     constructor_due test form (list_constructor form) (λ x e. (found_row test x e).there)
     (λ x e. (and_parts (is_row_of form c.Constructor x.row) (takes_list x.row.letters) (found_row test x e).passes).0)
 
-making_due : (g : Context) (form : Form) (made : Initializer) → same_answer (is_call_site (callees.Row (number_of_row (making_row g form made)))) false ≡ true
+making_due : (g : Context) (form : Form) (made : Initializer)
+    → same_answer (is_call_site (callees.Row (number_of_row (making_row g form made)))) false ≡ true
 making_due g form s.absent = made_of form []
 making_due g form (s.copies x) = made_of form (type_of_name g.scope x.name ∷ [])
 making_due g form (s.braces equal s.none) = made_of form []

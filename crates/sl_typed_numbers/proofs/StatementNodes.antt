@@ -1,5 +1,6 @@
 -- What the nodes of each sort pass, the nodes of each typed statement pass that breaks no rule.
-use Rattle.std.proofs.Common.{◌≡◌, ℕ, ◌+◌, ◌≤◌, Bool, true, List, [], ◌∷◌, ◌++◌, length, length-append, Option, Some, None, refl, sym, subst, option_map, arith}
+use Rattle.std.proofs.Common.{◌≡◌, ℕ, ◌+◌, ◌≤◌, Bool, true, List, [], ◌∷◌, ◌++◌, length, length-append, Option, Some, None, refl, sym, subst}
+use Rattle.std.proofs.Common.{option_map, arith}
 use Rattle.std.specs.Prelude.{flat_map, replicate}
 use Rattle.std.proofs.Math.Nat.{le_trans}
 use Rattle.sl_base.specs.declared.form.Form.{Form}
@@ -40,7 +41,8 @@ use Rattle.sl_typing.specs.StatementNumbering.{typed_expr, typed_outs, assigned_
 use Rattle.sl_typing.specs.StatementNumbering.{typed_cond, making_row, told_in, operands_in, number_of_row, declared_auto, bound}
 use Rattle.sl_typing.specs.StatementNumbering.{typed_declaration, typed_first, typed_test, returned, typed_value, brace_number, taken_as}
 use Rattle.sl_typing.specs.StatementNumbering.{typed_stmt, typed_item, typed_items}
-use Rattle.sl_model.specs.Typing.WellTypedNodes.{Node, a_call, a_loop, a_range, a_variable, a_brace, has_container, element_variable, nodes_in, nodes_in_left}
+use Rattle.sl_model.specs.Typing.WellTypedNodes.{Node, a_call, a_loop, a_range, a_variable, a_brace, has_container, element_variable, nodes_in}
+use Rattle.sl_model.specs.Typing.WellTypedNodes.{nodes_in_left}
 use Rattle.sl_model.specs.Typing.WellTypedNodes.{nodes_in_operands, nodes_in_value, nodes_in_cond, nodes_in_printed, nodes_in_effect}
 use Rattle.sl_model.specs.Typing.WellTypedNodes.{nodes_in_last, nodes_in_declaration, nodes_in_first, nodes_in_stmt, nodes_in_stmts}
 use Rattle.sl_number_limits.specs.Fits.{Fits}

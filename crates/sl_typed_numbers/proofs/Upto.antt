@@ -57,7 +57,8 @@ from_goes_up n (suc (suc k)) = and_from (suc n == n + 1) (go_up (from (suc n) (s
 from_below : (n k limit : ℕ) → k + n ≤ limit → list_all (λ x. nat_lt x limit) (from n k) ≡ true
 from_below n zero limit h = refl
 from_below n (suc k) limit h =
-    and_from (nat_lt n limit) (list_all (λ x. nat_lt x limit) (from (suc n) k)) (lt-ltb n limit (omega arith)) (from_below (suc n) k limit (omega arith))
+    and_from (nat_lt n limit) (list_all (λ x. nat_lt x limit) (from (suc n) k)) (lt-ltb n limit (omega arith))
+    (from_below (suc n) k limit (omega arith))
 
 -- what is added to the numbers below one are numbers of so many things
 pub added_are_numbers : (n m limit : ℕ) (xs : List ℕ) → upto m ≡ upto n ++ xs → m ≤ limit → are_numbers_of limit xs ≡ true

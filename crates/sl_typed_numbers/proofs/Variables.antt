@@ -1,5 +1,6 @@
 -- A function lists the variables that its nodes declare, with names that are there.
-use Rattle.std.proofs.Common.{◌≡◌, ℕ, ◌≤◌, Bool, true, false, List, [], ◌∷◌, ◌++◌, append_assoc, length, map, Some, None, refl, sym, subst, ◌∙◌, ap, arith}
+use Rattle.std.proofs.Common.{◌≡◌, ℕ, ◌≤◌, Bool, true, false, List, [], ◌∷◌, ◌++◌, append_assoc, length, map, Some, None, refl, sym, subst, ◌∙◌, ap}
+use Rattle.std.proofs.Common.{arith}
 use Rattle.std.specs.Prelude.{not, nat_lt, ◌||◌, ◌&&◌, if◌then◌else◌}
 use Rattle.std.specs.List.{All, list_all, filter_map}
 use Rattle.std.proofs.lemmas.Bool.{and_from, lt-ltb}
@@ -60,7 +61,7 @@ use Rattle.sl_well_typed.proofs.Bound.{is_called_element}
 use Rattle.std.proofs.Math.Nat.{le_trans}
 use Rattle.sl_typed_numbers.proofs.Silent.{Skips, silent, silent_operands}
 use Rattle.sl_typed_numbers.proofs.Kept.{Keeps, initializer_keeps, effect_adds_none, cond_adds_none, value_adds_none}
-use Rattle.sl_typed_numbers.proofs.Counting.{Adds, Counts, adds_from, not_not, function_adds}
+use Rattle.sl_typed_numbers.proofs.Counting.{Adds, Counts, NoneKnown, adds_from, not_not, function_adds}
 use Rattle.sl_typed_numbers.proofs.Referred.{referred_is_called}
 
 -- the sorts of variables
@@ -107,11 +108,14 @@ keeps places g = refl
 auto_adds : (x : Identifier) (g : Context) (u : ExprType) (e : t.Expr) → not (is_number u || is_iterator u) ≡ false
     → Adds VariableKind kind_in (kinds_before g) (kinds_before (declare x (value_type u) g)) (nodes_in_declaration (declared_auto u e))
 auto_adds x g (types.Iterator b form) e h =
-    declares_kind x (types.Iterator b form) g (nodes_in e ++ a_variable variables.Iterator ∷ []) variables.Iterator (last_kind (nodes_in e) variables.Iterator (no_kind e)) refl
+    declares_kind x (types.Iterator b form) g (nodes_in e ++ a_variable variables.Iterator ∷ []) variables.Iterator
+    (last_kind (nodes_in e) variables.Iterator (no_kind e)) refl
 auto_adds x g (types.Scalar type) e h =
-    declares_kind x (types.Scalar type) g (nodes_in e ++ a_variable variables.Scalar ∷ []) variables.Scalar (last_kind (nodes_in e) variables.Scalar (no_kind e)) refl
+    declares_kind x (types.Scalar type) g (nodes_in e ++ a_variable variables.Scalar ∷ []) variables.Scalar
+    (last_kind (nodes_in e) variables.Scalar (no_kind e)) refl
 auto_adds x g (types.Element w) e h =
-    declares_kind x (value_type (types.Element w)) g (nodes_in e ++ a_variable variables.Scalar ∷ []) variables.Scalar (last_kind (nodes_in e) variables.Scalar (no_kind e)) refl
+    declares_kind x (value_type (types.Element w)) g (nodes_in e ++ a_variable variables.Scalar ∷ []) variables.Scalar
+    (last_kind (nodes_in e) variables.Scalar (no_kind e)) refl
 auto_adds x g u e h = absurd cc
 
 reference_adds : (x : Identifier) (g : Context) (w : Bool) (e : t.Expr) → is_called_element e ≡ true
@@ -136,7 +140,8 @@ auto_is g at x e none =
 
 declaration_adds : (g : Context) (d : Declaration) → declaration_faults g d ≡ []
     → Adds VariableKind kind_in (kinds_before g) (kinds_before (behind_declaration g d)) (nodes_in_declaration (typed_declaration g d))
-declaration_adds g (s.declares_scalar at type x None) none = declares_kind x (types.Scalar type) g (a_variable variables.Scalar ∷ []) variables.Scalar refl refl
+declaration_adds g (s.declares_scalar at type x None) none =
+    declares_kind x (types.Scalar type) g (a_variable variables.Scalar ∷ []) variables.Scalar refl refl
 declaration_adds g (s.declares_scalar at type x (Some e)) none =
     let d = converted type (type_of g.scope e) (typed_expr g e) in
     declares_kind x (types.Scalar type) (behind g e) (nodes_in d ++ a_variable variables.Scalar ∷ []) variables.Scalar
@@ -151,7 +156,8 @@ declaration_adds g (s.declares_container ct x made) none =
     let nodes = nodes_in_operands (operands_in g row made) ++ a_variable variables.Container ∷ [] in
     adds_from VariableKind kind_in (kinds_before g) (kinds_before h) _ nodes (initializer_keeps VariableKind kinds_before keeps g made)
     (declares_kind x (types.Container access.Whole ct.form) h nodes variables.Container
-    (last_kind (nodes_in_operands (operands_in g row made)) variables.Container (silent_operands VariableKind kind_in skips (operands_in g row made))) refl)
+    (last_kind (nodes_in_operands (operands_in g row made)) variables.Container
+    (silent_operands VariableKind kind_in skips (operands_in g row made))) refl)
 
 -- the variable of a range-for
 reference_kind : (b v w : Bool) → variable_kind (if b then types.EntryReference v else types.IntReference w) ≡ variables.Reference
@@ -170,19 +176,20 @@ range_adds h (element.Reference head) x (types.Container access form) at label m
 range_adds h how x u at label may = absurd cc
 
 -- what each part of a text declares
-counts : Counts VariableKind kind_in kinds_before
+counts : Counts VariableKind kind_in kinds_before NoneKnown
 counts = record {
-  conditions = λ g k none. cond_adds_none VariableKind kind_in kinds_before skips keeps g k;
-  effects = λ g w none. effect_adds_none VariableKind kind_in kinds_before skips keeps g w;
-  declarations = declaration_adds;
-  returns = λ g v none. value_adds_none VariableKind kind_in kinds_before skips keeps g v;
+  conditions = λ g k w none. cond_adds_none VariableKind kind_in kinds_before skips keeps g k;
+  effects = λ g e w none. effect_adds_none VariableKind kind_in kinds_before skips keeps g e;
+  declarations = λ g d w none. declaration_adds g d none;
+  returns = λ g v w none. value_adds_none VariableKind kind_in kinds_before skips keeps g v;
   begins = λ g. refl;
   enters = λ g. refl;
   leaves = λ g h. refl;
   stays = λ g. refl;
   loops = λ at g. sym (append-nil (kinds_before g));
   braces = λ g items close. sym (append-nil (kinds_before (after_items g items)));
-  ranges = λ g at how x over may. range_adds (enter (started_loop at g)) how x (type_of_name g.scope over.name) at (label_in (label_of_name g.scope over.name)) may;
+  ranges = λ g at how x over may.
+      range_adds (enter (started_loop at g)) how x (type_of_name g.scope over.name) at (label_in (label_of_name g.scope over.name)) may;
 }
 
 -- parameters
@@ -206,8 +213,9 @@ parameters_declare g (q ∷ qs) =
 function_kinds : (g : Context) (f : Function) → function_faults g f ≡ []
     → kinds_before (at_brace g f) ≡ map kind_of (map parameter_kind f.params) ++ filter_map kind_in (nodes_in_stmt (typed_function g f).body)
 function_kinds g f none =
-    function_adds VariableKind kind_in kinds_before counts g f none
-    ∙ ap (λ (l : List VariableKind). l ++ filter_map kind_in (nodes_in_stmt (typed_function g f).body)) (parameters_declare (before_parameters g f) f.params)
+    function_adds VariableKind kind_in kinds_before NoneKnown counts g f tt none
+    ∙ ap (λ (l : List VariableKind). l ++ filter_map kind_in (nodes_in_stmt (typed_function g f).body))
+    (parameters_declare (before_parameters g f) f.params)
 
 -- variables are of their own sorts
 same_kind : (k : VariableKind) → sameb the_type k k ≡ true

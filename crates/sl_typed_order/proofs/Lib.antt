@@ -24,3 +24,10 @@ pub mod OwnChanges
 pub mod Swap
 pub mod Operators
 pub mod Objects
+-- ## Calls of algorithms
+pub mod AlgorithmRows
+pub mod Appending
+pub mod AlgorithmDeeds
+-- ## Expressions
+pub mod Deeds
+pub mod Orders

@@ -135,7 +135,7 @@ not_output true h = h
 not_output false h = h
 
 -- what stands plainly isn't a call of `back_inserter`
-no_appender : (e : Expr) → is_lone_appender standing.Plain e ≡ false → is_back_inserter e ≡ false
+pub no_appender : (e : Expr) → is_lone_appender standing.Plain e ≡ false → is_back_inserter e ≡ false
 unfolding is_lone_appender
 no_appender e h = not_output (is_back_inserter e) h
 

@@ -1,0 +1,2 @@
+-- ## The parts of a well typed text
+pub mod Joined
