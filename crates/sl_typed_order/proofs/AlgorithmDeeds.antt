@@ -1,13 +1,11 @@
 -- What a call of an algorithm does by its name is all that it does to variables.
-use Rattle.std.proofs.Common.{◌≡◌, ℕ, zero, suc, ◌+◌, Bool, true, false, not, ◌&&◌, ◌||◌, List, [], ◌∷◌, ◌++◌, length, take, drop, Option, Some, None, refl, sym, subst, ap}
+use Rattle.std.proofs.Common.{◌≡◌, ℕ, zero, suc, ◌+◌, Bool, true, false, not, ◌&&◌, ◌||◌, List, [], ◌∷◌, Option, Some, None, refl, sym, subst}
 use Rattle.std.specs.Prelude.{flat_map, codes, slice_get, if◌then◌else◌}
 use Rattle.std.specs.List.{list_all, list_any}
 use Rattle.std.specs.Str.{bytes_eq}
-use Rattle.std.proofs.lemmas.Bool.{and_parts, or_parts, not-false, false_from_ne_true}
+use Rattle.std.proofs.lemmas.Bool.{and_parts, or_parts, not-false}
 use Rattle.sl_base.specs.declared.form.Form.TheVariants as f
 use Rattle.sl_base.specs.declared.place.Place.{Place}
-use Rattle.sl_base.specs.declared.scalar.Scalar.{Scalar}
-use Rattle.sl_base.specs.declared.scalar.Scalar.TheVariants as c
 use Rattle.sl_specs.specs.declared.call.Call.TheVariants as calls
 use Rattle.sl_specs.specs.declared.letter.Letter.{Letter}
 use Rattle.sl_specs.specs.declared.letter.Letter.TheVariants as l
@@ -15,7 +13,6 @@ use Rattle.sl_specs.specs.declared.return_type.ReturnType.{ReturnType}
 use Rattle.sl_specs.specs.declared.return_type.ReturnType.TheVariants as r
 use Rattle.sl_specs.specs.Rows.{Row}
 use Rattle.sl_specs.specs.Table.{table, same_call}
-use Rattle.sl_syntax.specs.declared.tree.identifier.Identifier.{Identifier}
 use Rattle.sl_syntax.specs.declared.typed.callee.Callee.TheVariants as callees
 use Rattle.sl_syntax.specs.Tree as s
 use Rattle.sl_syntax.specs.Tree.{Expr, Exprs}
@@ -24,26 +21,25 @@ use Rattle.sl_syntax.specs.Typed.{Function, Operands}
 use Rattle.sl_typing.specs.declared.expr_type.ExprType.{ExprType}
 use Rattle.sl_typing.specs.declared.expr_type.ExprType.TheVariants as types
 use Rattle.sl_typing.specs.declared.scope.Scope.{Scope}
-use Rattle.sl_typing.specs.declared.standing.Standing.{Standing}
 use Rattle.sl_typing.specs.declared.standing.Standing.TheVariants as standing
 use Rattle.sl_typing.specs.Types.{same_scalar, scalar_of, is_number, is_iterator}
-use Rattle.sl_typing.specs.Signatures.{one, row_at, is_algorithm}
+use Rattle.sl_typing.specs.Signatures.{row_at, is_algorithm}
 use Rattle.sl_typing.specs.Arguments.{letters_take, letters_seen}
 use Rattle.sl_typing.specs.Candidates.{Found, is_candidate, has_row, algorithm_row, has_output}
 use Rattle.sl_typing.specs.Scopes.{type_of_name, number_of_name}
 use Rattle.sl_typing.specs.TypeOf.{size, end_in_appender, appends, type_of_use, type_of, types_of}
-use Rattle.sl_typing.specs.Looks.{is_plain, bare_name}
-use Rattle.sl_typing.specs.Sites.{site_count, inside}
-use Rattle.sl_typing.specs.WrongType.{first_is_plain, fits_algorithm, wrong_type}
-use Rattle.sl_typing.specs.Faults.{last_standing, standing_before, faults, faults_of_all}
+use Rattle.sl_typing.specs.Looks.{bare_name}
+use Rattle.sl_typing.specs.Sites.{site_count}
+use Rattle.sl_typing.specs.WrongType.{first_is_plain, fits_algorithm}
+use Rattle.sl_typing.specs.Faults.{last_standing, faults, faults_of_all}
 use Rattle.sl_typing.specs.Order.{Deeds, nothing_done, changing, writing, last_arguments, first_name, writes_elements, algorithm_deeds}
 use Rattle.sl_typing.specs.Order.{is_written_letter}
 use Rattle.sl_typing.specs.Numbering.{Way, as_it_is, as_number, as_variable, number_in, handed, ways, head, first_operand, other_operands, first_way}
 use Rattle.sl_typing.specs.Numbering.{other_ways, variable, typed, operands}
 use Rattle.sl_model.specs.Typing.WellTypedCalls.{is_advance}
-use Rattle.sl_model.specs.Typing.WellTypedNodes.{Node, a_call}
+use Rattle.sl_model.specs.Typing.WellTypedNodes.{a_call}
 use Rattle.sl_model.specs.Typing.WellTypedOrder.{Variable, the_iterator, container_in, iterator_in, listed, changed_by}
-use Rattle.sl_well_typed.proofs.Parts.{Keeps, parentheses_kept, arguments_kept, library_call_kept}
+use Rattle.sl_well_typed.proofs.Parts.{parentheses_kept, arguments_kept}
 use Rattle.sl_well_typed.proofs.Rows.{moves_iterator, gives_fitting}
 use Rattle.sl_well_typed.proofs.Arguments.{as_many_types}
 use Rattle.sl_well_typed.proofs.AlgorithmCalls.{fine_by_name}
@@ -94,7 +90,7 @@ numbers_are_none g n ws (s.with x xs) none numbers =
     rw (first, rest) refl
 
 -- what `advance` is given: an iterator as it is, and a number
-abbrev are_moved : List ExprType → Bool
+abbrev pub are_moved : List ExprType → Bool
 are_moved [] = false
 are_moved (u ∷ us) = is_iterator u && list_all is_number us
 
@@ -106,13 +102,13 @@ two_taken (u ∷ v ∷ []) h =
 two_taken (u ∷ v ∷ w ∷ us) h =
     let parts = and_parts (is_iterator u) (is_number v && false) h in let no = and_parts (is_number v) false parts.1 in absurd cc
 
-moved_types : (b : Bool) (gives : ReturnType) (letters : List Letter) (us : List ExprType) → moves_iterator gives letters ≡ true
+pub moved_types : (b : Bool) (gives : ReturnType) (letters : List Letter) (us : List ExprType) → moves_iterator gives letters ≡ true
     → letters_take f.Vector (letters_seen b letters) us ≡ true → are_moved us ≡ true
 moved_types true r.Nothing (l.IteratorVariable ∷ l.Distance ∷ []) us k h = two_taken us h
 moved_types false r.Nothing (l.IteratorVariable ∷ l.Distance ∷ []) us k h = two_taken us h
 moved_types b gives letters us k h = absurd cc
 
-moved_way : (gives : ReturnType) (letters : List Letter) → moves_iterator gives letters ≡ true → first_way (ways letters) ≡ as_it_is
+pub moved_way : (gives : ReturnType) (letters : List Letter) → moves_iterator gives letters ≡ true → first_way (ways letters) ≡ as_it_is
 moved_way r.Nothing (l.IteratorVariable ∷ l.Distance ∷ []) h = refl
 moved_way gives letters h = absurd cc
 
@@ -215,6 +211,32 @@ reads_only b g name xs x is none =
     second_fails (is_candidate None name (size xs) row) (list_any is_written_letter row.letters) candidate
     (row_fails (λ r. is_candidate None name (size xs) r && list_any is_written_letter r.letters) x.number row none is.there)
 
+-- what is known of a call of `advance`
+pub record Moves (g : Scope) (n : ℕ) (xs : Exprs) (x : Found) : Type 0 where
+  pub advances : is_advance x.row ≡ true
+  pub plain : faults_of_all g n standing.Plain xs ≡ []
+  pub named : first_is_plain xs ≡ true
+  pub way : first_way (ways x.row.letters) ≡ as_it_is
+  pub taken : are_moved (types_of g xs) ≡ true
+
+pub moves_is : (g : Scope) (n : ℕ) (name : List ℕ) (xs : Exprs) → faults_of_all g n (last_standing name xs) xs ≡ []
+    → fits_algorithm g name xs ≡ true → (x : Found) → IsMeant (appends name xs) name (types_of g xs) x
+    → bytes_eq name (codes "back_inserter") ≡ false → bytes_eq name (codes "advance") ≡ true → Moves g n xs x
+moves_is g n name xs none fits x is p q =
+    let row = x.row in
+    let fine = fine_by_name row name is.algorithm is.called.text in
+    let both : (moves_iterator row.gives row.letters && same_call calls.Advance row.call) ≡ true = rw (p, q) at fine in
+    let moves = and_parts (moves_iterator row.gives row.letters) (same_call calls.Advance row.call) both in
+    let out = no_output name (size xs) (codes "advance") q refl in
+    let lost = (and_parts _ (not (bytes_eq name (codes "advance") && not (first_is_plain xs))) fits).1 in
+    let first : not (not (first_is_plain xs)) ≡ true = rw q at lost in record {
+      advances = moves.1;
+      plain = subst (λ (b : Bool). faults_of_all g n (if b then standing.Output else standing.Plain) xs ≡ []) out none;
+      named = not-false (first_is_plain xs) (unnot (not (first_is_plain xs)) first);
+      way = moved_way row.gives row.letters moves.0;
+      taken = moved_types (appends name xs) row.gives row.letters (types_of g xs) moves.0 is.takes;
+    }
+
 -- a call of an algorithm
 pub algorithm_does : (fs : List Function) (g : Scope) → AllNumbered g → (n : ℕ) (name : List ℕ) (xs : Exprs)
     → faults_of_all g n (last_standing name xs) xs ≡ [] → fits_algorithm g name xs ≡ true
@@ -240,17 +262,9 @@ algorithm_does fs g h n name xs none fits x e at site told =
         → Does fs g (changing (first_name xs))
         (a_call (head (callees.Row x.number) at site None told) (t.with (t.iterator (number_in (first_operand es))) (other_operands es)) ∷ [])
     mover p q =
-        let fine = fine_by_name row name is.algorithm is.called.text in
-        let both : (moves_iterator row.gives row.letters && same_call calls.Advance row.call) ≡ true = rw (p, q) at fine in
-        let moves = and_parts (moves_iterator row.gives row.letters) (same_call calls.Advance row.call) both in
-        let out = no_output name (size xs) (codes "advance") q refl in
-        let plain : faults_of_all g n standing.Plain xs ≡ [] =
-        subst (λ (b : Bool). faults_of_all g n (if b then standing.Output else standing.Plain) xs ≡ []) out none in
-        let lost = (and_parts _ (not (bytes_eq name (codes "advance") && not (first_is_plain xs))) fits).1 in
-        let first : not (not (first_is_plain xs)) ≡ true = rw q at lost in
-        let covers = moved_covers g h n (ways row.letters) xs plain (not-false (first_is_plain xs) (unnot (not (first_is_plain xs)) first))
-        (moved_way row.gives row.letters moves.0) (moved_types (appends name xs) row.gives row.letters (types_of g xs) moves.0 is.takes) in
-        mover_does fs g (first_name xs) x is.there tame moves.1 at site told (number_in (first_operand es)) (other_operands es) covers
+        let moves = moves_is g n name xs none fits x is p q in
+        mover_does fs g (first_name xs) x is.there tame moves.advances at site told (number_in (first_operand es)) (other_operands es)
+        (moved_covers g h n (ways row.letters) xs moves.plain moves.named moves.way moves.taken)
 
     appender : appends name xs ≡ true → Does fs g (changing (first_name (last_arguments xs))) (a_call (head (callees.Appends x.number) at site None told) es ∷ [])
     appender p =

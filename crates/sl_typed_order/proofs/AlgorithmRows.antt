@@ -1,9 +1,9 @@
 -- The rows of algorithms: which have an output, and what they take and give. What stands plainly gives no container.
 use Rattle.std.proofs.Common.{◌≡◌, ℕ, Bool, true, false, not, ◌&&◌, ◌||◌, List, [], ◌∷◌, length, take, drop, Option, Some, None, refl, sym, subst, ⊎_elim}
-use Rattle.std.specs.Prelude.{codes, is_none, if◌then◌else◌}
+use Rattle.std.specs.Prelude.{codes, if◌then◌else◌}
 use Rattle.std.specs.List.{list_any}
 use Rattle.std.specs.Str.{bytes_eq}
-use Rattle.std.proofs.lemmas.Bool.{and_parts, and_from, cases_Bool, not-false, not-true, false_from_ne_true}
+use Rattle.std.proofs.lemmas.Bool.{and_parts, cases_Bool, not-true, false_from_ne_true}
 use Rattle.std.proofs.lemmas.Slice.Eq.{bytes_eq-Decides}
 use Rattle.sl_base.specs.declared.form.Form.TheVariants as f
 use Rattle.sl_specs.specs.declared.call.Call.TheVariants as calls
@@ -14,7 +14,6 @@ use Rattle.sl_specs.specs.declared.return_type.ReturnType.TheVariants as r
 use Rattle.sl_specs.specs.Rows.{Row}
 use Rattle.sl_specs.specs.Table.{same_call}
 use Rattle.sl_specs.specs.Texts.{call_text}
-use Rattle.sl_syntax.specs.declared.tree.identifier.Identifier.{Identifier}
 use Rattle.sl_syntax.specs.Tree as s
 use Rattle.sl_syntax.specs.Tree.{Exprs}
 use Rattle.sl_typing.specs.declared.expr_type.ExprType.{ExprType}
@@ -26,13 +25,10 @@ use Rattle.sl_typing.specs.Signatures.{one, range, first_type, last_type, row_at
 use Rattle.sl_typing.specs.Arguments.{is_sequence, letters_take, letters_seen}
 use Rattle.sl_typing.specs.Candidates.{Found, is_candidate, algorithm_row, has_output, end_in_output}
 use Rattle.sl_typing.specs.TypeOf.{size, appends, end_in_appender, algorithm_gives, type_of, types_of}
-use Rattle.sl_typing.specs.WrongType.{first_is_plain, fits_algorithm, wrong_type}
-use Rattle.sl_typing.specs.Faults.{faults}
-use Rattle.sl_well_typed.proofs.Parts.{Keeps, library_call_kept}
+use Rattle.sl_well_typed.proofs.Parts.{library_call_kept}
 use Rattle.sl_well_typed.proofs.Rows.{found_row, some_row, has_name, output_names, begin_with_iterator, are_output, gives_fitting, gives_output}
-use Rattle.sl_well_typed.proofs.Rows.{moves_iterator, gives_container}
+use Rattle.sl_well_typed.proofs.Rows.{moves_iterator}
 use Rattle.sl_well_typed.proofs.Letters.{int_is_iterator, first_end}
-use Rattle.sl_well_typed.proofs.Arguments.{as_many_types}
 use Rattle.sl_well_typed.proofs.Algorithms.{IsAlgorithmRow, algorithm_row_is}
 use Rattle.sl_well_typed.proofs.AlgorithmCalls.{IsCalled, candidate_is, fine_by_name, mover_gives}
 use Rattle.sl_typed_order.proofs.Values.{no_appender}

@@ -1,5 +1,5 @@
 -- What stands as an output, and what an algorithm that appends to a container changes.
-use Rattle.std.proofs.Common.{◌≡◌, ℕ, ◌+◌, Bool, true, false, not, ◌&&◌, ◌||◌, List, [], ◌∷◌, ◌++◌, Option, Some, None, refl, sym, subst}
+use Rattle.std.proofs.Common.{◌≡◌, ℕ, ◌+◌, Bool, true, false, not, ◌||◌, List, [], ◌∷◌, ◌++◌, Option, Some, None, refl, sym, subst}
 use Rattle.std.specs.Prelude.{flat_map, codes, if◌then◌else◌}
 use Rattle.std.specs.Str.{bytes_eq}
 use Rattle.std.proofs.lemmas.Bool.{and_parts, or_parts, not-true}
@@ -7,24 +7,23 @@ use Rattle.sl_base.specs.declared.place.Place.{Place}
 use Rattle.sl_syntax.specs.declared.tree.identifier.Identifier.{Identifier}
 use Rattle.sl_syntax.specs.Tree as s
 use Rattle.sl_syntax.specs.Tree.{Expr, Exprs}
-use Rattle.sl_syntax.specs.Typed as t
 use Rattle.sl_syntax.specs.Typed.{Operands}
 use Rattle.sl_typing.specs.declared.fault.Fault.{Fault}
 use Rattle.sl_typing.specs.declared.scope.Scope.{Scope}
 use Rattle.sl_typing.specs.declared.standing.Standing.{Standing}
 use Rattle.sl_typing.specs.declared.standing.Standing.TheVariants as standing
 use Rattle.sl_typing.specs.Types.{is_container}
-use Rattle.sl_typing.specs.Candidates.{Found, algorithm_row, has_output}
-use Rattle.sl_typing.specs.TypeOf.{size, are_none, is_back_inserter, end_in_appender, appends, type_of, types_of}
+use Rattle.sl_typing.specs.Candidates.{Found, algorithm_row}
+use Rattle.sl_typing.specs.TypeOf.{size, is_back_inserter, end_in_appender, appends, type_of, types_of}
 use Rattle.sl_typing.specs.Looks.{bare_name}
 use Rattle.sl_typing.specs.Sites.{site_count, inside}
 use Rattle.sl_typing.specs.WrongType.{wrong_type}
 use Rattle.sl_typing.specs.Rules.{is_lone_appender}
-use Rattle.sl_typing.specs.Faults.{own_faults, last_standing, standing_before, faults, faults_of_all}
+use Rattle.sl_typing.specs.Faults.{own_faults, last_standing, faults, faults_of_all}
 use Rattle.sl_typing.specs.Order.{last_arguments, first_name}
 use Rattle.sl_typing.specs.Numbering.{Way, handed, first_operand, ways, letters_of, first_way, other_ways, called_algorithm, typed, operands}
 use Rattle.sl_model.specs.Typing.WellTypedOrder.{Variable, container_in, listed}
-use Rattle.sl_well_typed.proofs.Parts.{Keeps, none_in_both, arguments_kept, library_call_kept}
+use Rattle.sl_well_typed.proofs.Parts.{none_in_both, arguments_kept, library_call_kept}
 use Rattle.sl_typed_order.proofs.Numbered.{AllNumbered}
 use Rattle.sl_typed_order.proofs.Covers.{Covers, covers_none, covers_both, covers_left}
 use Rattle.sl_typed_order.proofs.Does.{covers_alone}

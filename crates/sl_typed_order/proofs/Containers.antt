@@ -1,10 +1,7 @@
 -- What has the type of a container is a bare name of one.
-use Rattle.std.proofs.Common.{◌≡◌, ℕ, ◌+◌, Bool, true, false, not, ◌&&◌, ◌||◌, List, [], ◌∷◌, ◌++◌, map, Option, Some, None, reverse, refl, sym, subst, ap, ◌∙◌}
-use Rattle.std.specs.Prelude.{flat_map, codes, is_none, if◌then◌else◌}
-use Rattle.std.specs.Str.{bytes_eq}
-use Rattle.std.proofs.lemmas.Bool.{and_parts, or_parts, not-false}
+use Rattle.std.proofs.Common.{◌≡◌, ℕ, ◌+◌, Bool, true, false, List, [], ◌∷◌, refl, sym, subst}
+use Rattle.std.specs.Prelude.{flat_map, if◌then◌else◌}
 use Rattle.sl_base.specs.declared.place.Place.{Place}
-use Rattle.sl_base.specs.declared.scalar.Scalar.{Scalar}
 use Rattle.sl_syntax.specs.declared.tree.identifier.Identifier.{Identifier}
 use Rattle.sl_syntax.specs.Tree as s
 use Rattle.sl_syntax.specs.Tree.{Expr, Exprs}
@@ -22,11 +19,11 @@ use Rattle.sl_typing.specs.Looks.{bare_name}
 use Rattle.sl_typing.specs.Sites.{site_count}
 use Rattle.sl_typing.specs.Faults.{faults, faults_of_all}
 use Rattle.sl_typing.specs.Order.{container_names}
-use Rattle.sl_typing.specs.Numbering.{Way, as_it_is, as_number, as_variable, number_in, converted, handed, first_way, other_ways, variable, typed, operands}
+use Rattle.sl_typing.specs.Numbering.{Way, as_it_is, as_number, as_variable, number_in, handed, first_way, other_ways, variable, typed, operands}
 use Rattle.sl_model.specs.Typing.WellTypedOrder.{Variable, the_container, container_in, listed}
 use Rattle.sl_model.proofs.Tells.{AllOf}
 use Rattle.sl_well_typed.proofs.Parts.{name_kept, parentheses_kept, arguments_kept}
-use Rattle.sl_typed_order.proofs.Numbered.{AllNumbered, variable_of_sort, variable_meant}
+use Rattle.sl_typed_order.proofs.Numbered.{AllNumbered, variable_of_sort}
 use Rattle.sl_typed_order.proofs.Alias.{Known, first_plain}
 use Rattle.sl_typed_order.proofs.Covers.{Covers, covers_none, covers_both, covers_names}
 use Rattle.sl_typed_order.proofs.Values.{is_variable, value_is_calculated}

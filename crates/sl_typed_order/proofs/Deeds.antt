@@ -1,13 +1,11 @@
 -- What an expression does by names is all that its nodes do to variables.
-use Rattle.std.proofs.Common.{◌≡◌, ℕ, zero, suc, ◌+◌, Bool, true, false, not, ◌&&◌, ◌||◌, List, [], ◌∷◌, ◌++◌, length, map, Option, Some, None, refl, sym, subst, ◌∙◌}
-use Rattle.std.specs.Prelude.{flat_map, codes, is_none, slice_get, if◌then◌else◌}
+use Rattle.std.proofs.Common.{◌≡◌, ℕ, zero, suc, ◌+◌, Bool, true, false, ◌&&◌, ◌||◌, List, [], ◌∷◌, ◌++◌, length, map, Option, Some, None, refl, sym, subst, ◌∙◌}
+use Rattle.std.specs.Prelude.{flat_map, codes, slice_get, if◌then◌else◌}
 use Rattle.std.specs.List.{list_any}
 use Rattle.std.specs.Str.{bytes_eq}
-use Rattle.std.proofs.lemmas.Bool.{and_parts, and_from, or_parts, not-false}
+use Rattle.std.proofs.lemmas.Bool.{and_parts, and_from, not-false}
 use Rattle.std.proofs.lemmas.List.Folds.{list_any-append}
-use Rattle.sl_base.specs.declared.form.Form.{Form}
 use Rattle.sl_base.specs.declared.place.Place.{Place}
-use Rattle.sl_base.specs.declared.scalar.Scalar.{Scalar}
 use Rattle.sl_base.specs.declared.scalar.Scalar.TheVariants as c
 use Rattle.sl_specs.specs.declared.return_type.ReturnType.{ReturnType}
 use Rattle.sl_specs.specs.declared.return_type.ReturnType.TheVariants as r
@@ -17,7 +15,6 @@ use Rattle.sl_syntax.specs.declared.operator.PostfixOperator.{PostfixOperator}
 use Rattle.sl_syntax.specs.declared.operator.PostfixOperator.TheVariants as q
 use Rattle.sl_syntax.specs.declared.operator.PrefixOperator.{PrefixOperator}
 use Rattle.sl_syntax.specs.declared.operator.PrefixOperator.TheVariants as p
-use Rattle.sl_syntax.specs.declared.tree.identifier.Identifier.{Identifier}
 use Rattle.sl_syntax.specs.declared.typed.callee.Callee.TheVariants as callees
 use Rattle.sl_syntax.specs.declared.typed.head.Head.{Head}
 use Rattle.sl_syntax.specs.declared.typed.operator.Operator.TheVariants as operators
@@ -36,22 +33,22 @@ use Rattle.sl_typing.specs.declared.standing.Standing.TheVariants as standing
 use Rattle.sl_typing.specs.Types.{scalar_of, common, is_number, is_iterator, is_container, is_element}
 use Rattle.sl_typing.specs.Signatures.{row_at}
 use Rattle.sl_typing.specs.Arguments.{letters_take}
-use Rattle.sl_typing.specs.Candidates.{Found, is_candidate, has_row, form_member_changes, member_row, algorithm_row, subscript_row}
+use Rattle.sl_typing.specs.Candidates.{Found, is_candidate, has_row, form_member_changes, algorithm_row, subscript_row}
 use Rattle.sl_typing.specs.Scopes.{function_named, type_of_name, number_of_name}
 use Rattle.sl_typing.specs.TypeOf.{size, appends, is_first, type_of, types_of}
-use Rattle.sl_typing.specs.Looks.{is_left_side, is_plain, bare_name}
-use Rattle.sl_typing.specs.Sites.{site_count, site_number, inside}
+use Rattle.sl_typing.specs.Looks.{is_left_side, bare_name}
+use Rattle.sl_typing.specs.Sites.{site_count, inside}
 use Rattle.sl_typing.specs.WrongType.{can_step, wrong_type, fits_algorithm}
 use Rattle.sl_typing.specs.Faults.{part_standing, last_standing, standing_before, faults, faults_of_all}
 use Rattle.sl_typing.specs.Order.{Deeds, nothing_done, changing, both, moved_names, container_names, handed_names, parameters_of, algorithm_deeds}
 use Rattle.sl_typing.specs.Order.{prefix_deeds, subscript_changes, subscript_deeds, member_changes, member_deeds, deeds, deeds_of_all}
-use Rattle.sl_typing.specs.Numbering.{Way, as_number, number_in, left_of, converted, handed, ways, parameter_way, told, told_all, head, operator_head, one}
+use Rattle.sl_typing.specs.Numbering.{Way, as_number, number_in, converted, handed, ways, parameter_way, head, operator_head, one}
 use Rattle.sl_typing.specs.Numbering.{first_operand, other_operands, stepped, prefixed, postfixed, row_call, called_row, called_algorithm, letters_of}
-use Rattle.sl_typing.specs.Numbering.{row_of_subscript, row_of_member, number_of_function, first_way, other_ways, variable, typed, operands}
-use Rattle.sl_model.specs.Typing.WellTypedNodes.{Node, a_literal, a_call, an_own_call, nodes_in, nodes_in_left, nodes_in_operands}
-use Rattle.sl_model.specs.Typing.WellTypedOrder.{Variable, the_iterator, the_container, same_variable, variable_of, container_in, listed}
+use Rattle.sl_typing.specs.Numbering.{row_of_subscript, row_of_member, number_of_function, first_way, other_ways, typed, operands}
+use Rattle.sl_model.specs.Typing.WellTypedNodes.{a_call, an_own_call, nodes_in, nodes_in_left, nodes_in_operands}
+use Rattle.sl_model.specs.Typing.WellTypedOrder.{Variable, the_iterator, the_container, same_variable, container_in, listed}
 use Rattle.sl_model.specs.Typing.WellTypedOrder.{is_among as is_variable_among}
-use Rattle.sl_well_typed.proofs.Parts.{Keeps, call_kept, library_call_kept, parentheses_kept, prefix_kept, binary_kept, postfix_kept, index_kept}
+use Rattle.sl_well_typed.proofs.Parts.{call_kept, library_call_kept, parentheses_kept, prefix_kept, binary_kept, postfix_kept, index_kept}
 use Rattle.sl_well_typed.proofs.Parts.{member_call_kept, member_kept, arguments_kept}
 use Rattle.sl_well_typed.proofs.Steps.{left_side_is_plain}
 use Rattle.sl_well_typed.proofs.Rows.{found_row}
@@ -60,14 +57,14 @@ use Rattle.sl_typed_order.proofs.Numbered.{variable_meant}
 use Rattle.sl_typed_order.proofs.Sound.{Sound}
 use Rattle.sl_typed_order.proofs.Kept.{algorithm_node}
 use Rattle.sl_typed_order.proofs.Covers.{Covers, covers_none, covers_both, covers_left, neither}
-use Rattle.sl_typed_order.proofs.Does.{Does, does_none, does_left, does_right, does_both, does_first, does_second, covers_alone}
+use Rattle.sl_typed_order.proofs.Does.{Does, does_none, does_right, does_both, does_first, does_second, covers_alone}
 use Rattle.sl_typed_order.proofs.QuietRows.{member_row_is}
 use Rattle.sl_typed_order.proofs.FormRows.{form_row, subscript_row_is, form_call_does}
 use Rattle.sl_typed_order.proofs.Containers.{operands_cover, handed_covers}
 use Rattle.sl_typed_order.proofs.Moved.{iterator_covers, plain_moved, number_covers}
 use Rattle.sl_typed_order.proofs.OwnChanges.{own_call_does}
 use Rattle.sl_typed_order.proofs.Swap.{handed_does}
-use Rattle.sl_typed_order.proofs.Operators.{quiet_before, variable_does, one_does, selected_does, joined_does, stepped_does}
+use Rattle.sl_typed_order.proofs.Operators.{variable_does, one_does, selected_does, joined_does, stepped_does}
 use Rattle.sl_typed_order.proofs.Objects.{container_object}
 use Rattle.sl_typed_order.proofs.AlgorithmRows.{none_gives}
 use Rattle.sl_typed_order.proofs.Appending.{other_covers}

@@ -1,5 +1,5 @@
 -- What a part does by names, and what its nodes do to variables.
-use Rattle.std.proofs.Common.{◌≡◌, ℕ, Bool, true, false, ◌||◌, List, [], ◌∷◌, ◌++◌, refl, sym, subst, ap, ◌∙◌}
+use Rattle.std.proofs.Common.{◌≡◌, ℕ, Bool, false, List, [], ◌∷◌, ◌++◌, refl, sym, subst, ap, ◌∙◌}
 use Rattle.std.specs.Prelude.{flat_map}
 use Rattle.std.specs.List.{list_any}
 use Rattle.std.proofs.lemmas.Bool.{or_parts}
@@ -7,7 +7,7 @@ use Rattle.std.proofs.lemmas.Grind.{flat_map-append}
 use Rattle.std.proofs.lemmas.List.Folds.{list_any-append}
 use Rattle.sl_syntax.specs.Typed.{Function}
 use Rattle.sl_typing.specs.declared.scope.Scope.{Scope}
-use Rattle.sl_typing.specs.Order.{Deeds, nothing_done, both}
+use Rattle.sl_typing.specs.Order.{Deeds, both}
 use Rattle.sl_model.specs.Typing.WellTypedNodes.{Node}
 use Rattle.sl_model.specs.Typing.WellTypedOrder.{Variable, same_variable, is_among as is_variable_among, is_change, changed_by, is_write}
 use Rattle.sl_typed_order.proofs.Numbered.{variable_meant}

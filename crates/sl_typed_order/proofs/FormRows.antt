@@ -1,40 +1,16 @@
 -- The rows of forms: what they give, and whether they change.
-use Rattle.std.proofs.Common.{◌≡◌, ℕ, ◌+◌, ◌==◌, Bool, true, false, not, ◌&&◌, ◌||◌, cond, List, [], ◌∷◌, ◌++◌, map, Option, Some, None, reverse, refl, sym, subst}
-use Rattle.std.proofs.Common.{ap, arith, ◌∙◌}
-use Rattle.std.specs.Prelude.{flat_map, codes, length, is_none, is_some, slice_get, if◌then◌else◌}
-use Rattle.std.specs.List.{list_all, list_any}
-use Rattle.std.specs.Str.{bytes_eq}
-use Rattle.std.proofs.lemmas.Bool.{and_parts, and_from, or_parts, not-false, eqb-true}
+use Rattle.std.proofs.Common.{◌≡◌, ℕ, Bool, true, false, not, ◌&&◌, ◌||◌, List, [], ◌∷◌, ◌++◌, Option, Some, refl, sym, subst}
+use Rattle.std.specs.Prelude.{flat_map, if◌then◌else◌}
+use Rattle.std.specs.List.{list_any}
+use Rattle.std.proofs.lemmas.Bool.{and_parts}
 use Rattle.sl_base.specs.declared.place.Place.{Place}
 use Rattle.sl_base.specs.declared.form.Form.{Form}
-use Rattle.sl_base.specs.declared.scalar.Scalar.{Scalar}
 use Rattle.sl_specs.specs.declared.call.Call.TheVariants as calls
-use Rattle.sl_specs.specs.declared.return_type.ReturnType.{ReturnType}
-use Rattle.sl_specs.specs.declared.return_type.ReturnType.TheVariants as r
 use Rattle.sl_specs.specs.Forms.{same_object}
-use Rattle.sl_specs.specs.Rows.{Row}
 use Rattle.sl_specs.specs.Table.{same_call}
-use Rattle.sl_syntax.specs.declared.operator.Access.TheVariants as a
-use Rattle.sl_syntax.specs.declared.operator.BinaryOperator.{BinaryOperator}
-use Rattle.sl_syntax.specs.declared.operator.BinaryOperator.TheVariants as b
-use Rattle.sl_syntax.specs.declared.operator.PrefixOperator.{PrefixOperator}
-use Rattle.sl_syntax.specs.declared.operator.PrefixOperator.TheVariants as p
-use Rattle.sl_syntax.specs.declared.operator.Selector.TheVariants as l
-use Rattle.sl_syntax.specs.declared.tree.identifier.Identifier.{Identifier}
 use Rattle.sl_syntax.specs.declared.typed.callee.Callee.TheVariants as callees
-use Rattle.sl_syntax.specs.declared.typed.head.Head.{Head}
-use Rattle.sl_syntax.specs.declared.typed.parameter.ParameterKind.{ParameterKind}
-use Rattle.sl_syntax.specs.declared.typed.parameter.ParameterKind.TheVariants as parameters
-use Rattle.sl_syntax.specs.Tree as s
-use Rattle.sl_syntax.specs.Tree.{Expr, Exprs}
-use Rattle.sl_syntax.specs.Typed as t
 use Rattle.sl_syntax.specs.Typed.{Function, Operands}
-use Rattle.sl_typing.specs.declared.expr_type.ExprType.{ExprType}
-use Rattle.sl_typing.specs.declared.expr_type.ExprType.TheVariants as types
-use Rattle.sl_typing.specs.declared.scope.FunctionHead.{FunctionHead}
 use Rattle.sl_typing.specs.declared.scope.Scope.{Scope}
-use Rattle.sl_typing.specs.declared.standing.Standing.{Standing}
-use Rattle.sl_typing.specs.declared.standing.Standing.TheVariants as standing
 use Rattle.sl_typing.specs.Signatures.{row_at, is_algorithm}
 use Rattle.sl_typing.specs.Candidates.{Found, is_row_of, subscript_row}
 use Rattle.sl_typing.specs.Numbering.{head}

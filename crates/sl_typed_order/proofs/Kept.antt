@@ -16,13 +16,12 @@ use Rattle.sl_syntax.specs.Tree as s
 use Rattle.sl_syntax.specs.Tree.{Expr, Exprs, Initializer}
 use Rattle.sl_syntax.specs.Typed as t
 use Rattle.sl_syntax.specs.Typed.{Function, Left, Operands}
-use Rattle.sl_typing.specs.declared.expr_type.ExprType.{ExprType}
 use Rattle.sl_typing.specs.declared.scope.Scope.{Scope}
 use Rattle.sl_typing.specs.declared.standing.Standing.{Standing}
 use Rattle.sl_typing.specs.Candidates.{Found, algorithm_row}
 use Rattle.sl_typing.specs.Contexts.{Context}
 use Rattle.sl_typing.specs.Faults.{faults}
-use Rattle.sl_typing.specs.Numbering.{Way, as_number, number_in, handed, ways, parameter_way, told, told_all, head, operator_head, one, two, first_operand}
+use Rattle.sl_typing.specs.Numbering.{Way, as_number, as_variable, number_in, handed, ways, parameter_way, told, told_all, head, operator_head, one, two, first_operand}
 use Rattle.sl_typing.specs.Numbering.{other_operands, row_of_member, number_of_function, typed, operands}
 use Rattle.sl_typing.specs.Order.{parameters_of, is_ordered}
 use Rattle.sl_typing.specs.Scopes.{function_named}
@@ -42,6 +41,11 @@ algorithm_node x append name at site names es =
     else if append then a_call (head (callees.Appends x.number) at site None names) es ∷ []
     else a_call (head (callees.Row x.number) at site None names) es ∷ []
 
+-- a way that hands a value over, and no variable
+abbrev pub is_plain_way : Way → Bool
+is_plain_way as_variable = false
+is_plain_way w = true
+
 -- a test that each node of what breaks no rule passes
 pub record IsKept (fs : List Function) (P : Node → Bool) : Type 0 where
   pub literals : (z : ℤ) → P (a_literal z) ≡ true
@@ -60,7 +64,7 @@ pub record IsKept (fs : List Function) (P : Node → Bool) : Type 0 where
       → faults g n how (s.binary x op at y) ≡ [] → is_ordered op ≡ false → (c : Scalar)
       → P (an_operator (handed (as_number c) (type_of g x) (typed g n x)) (handed (as_number c) (type_of g y) (typed g (n + site_count g x) y))) ≡ true
   pub pairs : (g : Scope) (n : ℕ) (how : Standing) (x : Expr) (op : BinaryOperator) (at : Place) (y : Expr) → Sound fs g
-      → faults g n how (s.binary x op at y) ≡ [] → is_ordered op ≡ false → (o : Operator) (names : List (Option ℕ)) (w : Way)
+      → faults g n how (s.binary x op at y) ≡ [] → is_ordered op ≡ false → (o : Operator) (names : List (Option ℕ)) (w : Way) → is_plain_way w ≡ true
       → P (a_call (operator_head o at names) (two (typed g n x) (handed w (type_of g y) (typed g (n + site_count g x) y)))) ≡ true
   pub own_calls : (g : Scope) (n : ℕ) (how : Standing) (f : Identifier) (xs : Exprs) → Sound fs g → faults g n how (s.call f xs) ≡ []
       → let o = function_named g f.name in P (an_own_call (number_of_function o) (operands g n (map parameter_way (parameters_of o)) xs)) ≡ true

@@ -31,3 +31,5 @@ pub mod AlgorithmDeeds
 -- ## Expressions
 pub mod Deeds
 pub mod Orders
+pub mod BesideAppender
+pub mod Ordered

@@ -1,63 +1,50 @@
 -- The variables that `++` and `--` change.
-use Rattle.std.proofs.Common.{◌≡◌, ℕ, ◌+◌, ◌==◌, Bool, true, false, not, ◌&&◌, ◌||◌, cond, List, [], ◌∷◌, ◌++◌, map, Option, Some, None, reverse, refl, sym, subst}
-use Rattle.std.proofs.Common.{ap, arith, ◌∙◌}
-use Rattle.std.specs.Prelude.{flat_map, codes, length, is_none, is_some, slice_get, if◌then◌else◌}
-use Rattle.std.specs.List.{list_all, list_any}
-use Rattle.std.specs.Str.{bytes_eq}
-use Rattle.std.proofs.lemmas.Bool.{and_parts, and_from, or_parts, not-false, eqb-true}
+use Rattle.std.proofs.Common.{◌≡◌, ℕ, Bool, true, false, ◌&&◌, List, [], ◌∷◌, Option, Some, None, refl, sym, subst}
+use Rattle.std.specs.Prelude.{is_none}
+use Rattle.std.proofs.lemmas.Bool.{and_parts, not-false}
 use Rattle.sl_base.specs.declared.place.Place.{Place}
 use Rattle.sl_base.specs.declared.form.Form.{Form}
-use Rattle.sl_base.specs.declared.scalar.Scalar.{Scalar}
-use Rattle.sl_specs.specs.declared.call.Call.TheVariants as calls
 use Rattle.sl_specs.specs.declared.return_type.ReturnType.{ReturnType}
 use Rattle.sl_specs.specs.declared.return_type.ReturnType.TheVariants as r
-use Rattle.sl_specs.specs.Forms.{same_object}
-use Rattle.sl_specs.specs.Rows.{Row}
-use Rattle.sl_specs.specs.Table.{same_call}
-use Rattle.sl_syntax.specs.declared.operator.Access.TheVariants as a
 use Rattle.sl_syntax.specs.declared.operator.BinaryOperator.{BinaryOperator}
 use Rattle.sl_syntax.specs.declared.operator.BinaryOperator.TheVariants as b
-use Rattle.sl_syntax.specs.declared.operator.PrefixOperator.{PrefixOperator}
 use Rattle.sl_syntax.specs.declared.operator.PrefixOperator.TheVariants as p
 use Rattle.sl_syntax.specs.declared.operator.Selector.TheVariants as l
-use Rattle.sl_syntax.specs.declared.tree.identifier.Identifier.{Identifier}
-use Rattle.sl_syntax.specs.declared.typed.callee.Callee.TheVariants as callees
 use Rattle.sl_syntax.specs.declared.typed.head.Head.{Head}
 use Rattle.sl_syntax.specs.declared.typed.parameter.ParameterKind.{ParameterKind}
 use Rattle.sl_syntax.specs.declared.typed.parameter.ParameterKind.TheVariants as parameters
 use Rattle.sl_syntax.specs.Tree as s
 use Rattle.sl_syntax.specs.Tree.{Expr, Exprs}
-use Rattle.sl_syntax.specs.Typed as t
-use Rattle.sl_syntax.specs.Typed.{Function, Operands}
+use Rattle.sl_syntax.specs.Typed.{Operands}
 use Rattle.sl_typing.specs.declared.expr_type.ExprType.{ExprType}
 use Rattle.sl_typing.specs.declared.expr_type.ExprType.TheVariants as types
 use Rattle.sl_typing.specs.declared.scope.FunctionHead.{FunctionHead}
 use Rattle.sl_typing.specs.declared.scope.Scope.{Scope}
 use Rattle.sl_typing.specs.declared.standing.Standing.{Standing}
 use Rattle.sl_typing.specs.declared.standing.Standing.TheVariants as standing
-use Rattle.sl_typing.specs.Types.{is_const, value_type, is_number, is_iterator, is_container, is_element}
-use Rattle.sl_typing.specs.Signatures.{result_type, row_at}
+use Rattle.sl_typing.specs.Types.{is_const, is_number, is_iterator, is_container, is_element}
+use Rattle.sl_typing.specs.Signatures.{result_type}
 use Rattle.sl_typing.specs.Candidates.{Found, member_row, subscript_row}
 use Rattle.sl_typing.specs.Scopes.{sort_of, type_of_name, number_of_name, function_named}
-use Rattle.sl_typing.specs.TypeOf.{appends, is_part_name, element_at, arithmetic_type, binary_type, member_type, own_type, type_given, is_first, part_type, type_of_use, type_of, types_of}
+use Rattle.sl_typing.specs.TypeOf.{is_part_name, arithmetic_type, binary_type, member_type, own_type, type_given, is_first, part_type, type_of_use, type_of, types_of}
 use Rattle.sl_typing.specs.Looks.{is_left_side, is_plain, bare_name}
 use Rattle.sl_typing.specs.Sites.{inside}
-use Rattle.sl_typing.specs.WrongType.{fits_algorithm, fits_member, second_may_be_element, has_parts, fits_selector, is_iterator_pair, is_before_part, wrong_type}
+use Rattle.sl_typing.specs.WrongType.{fits_algorithm, has_parts, wrong_type}
 use Rattle.sl_typing.specs.Rules.{has_no_subscript, no_such_call}
-use Rattle.sl_typing.specs.Faults.{part_standing, faults, faults_of_all}
+use Rattle.sl_typing.specs.Faults.{part_standing, faults}
 use Rattle.sl_typing.specs.Order.{moved_names}
-use Rattle.sl_typing.specs.Numbering.{Way, number_in, left_of, part, part_of, row_call, called_row, letters_of, ways, row_of_subscript, row_of_member, label_in, variable}
+use Rattle.sl_typing.specs.Numbering.{number_in, left_of, part_of, row_call, called_row, letters_of, ways, row_of_subscript, row_of_member, variable}
 use Rattle.sl_typing.specs.Numbering.{typed, operands}
 use Rattle.sl_model.specs.Typing.WellTypedOrder.{Variable, the_container, the_iterator, object_in, variable_of}
-use Rattle.sl_well_typed.proofs.Parts.{Keeps, name_kept, library_call_kept, parentheses_kept, index_kept, member_call_kept, member_kept}
+use Rattle.sl_well_typed.proofs.Parts.{library_call_kept, index_kept, member_call_kept, member_kept}
 use Rattle.sl_well_typed.proofs.Rows.{gives_own, gives_element}
 use Rattle.sl_well_typed.proofs.AlgorithmTypes.{stands_alone, algorithm_stands}
-use Rattle.sl_typed_order.proofs.Numbered.{AllNumbered, variable_of_sort, variable_meant}
+use Rattle.sl_typed_order.proofs.Numbered.{AllNumbered, variable_of_sort}
 use Rattle.sl_typed_order.proofs.Covers.{is_reference_type, Covers, covers_none, covers_names, covers_reference}
-use Rattle.sl_typed_order.proofs.QuietRows.{IsMemberRow, member_row_is}
-use Rattle.sl_typed_order.proofs.Still.{unnot, value_no_element}
-use Rattle.sl_typed_order.proofs.FormRows.{IsFormRow, form_row, IsSubscriptRow, subscript_row_is}
-use Rattle.sl_typed_order.proofs.Containers.{bare_known, object_covers}
+use Rattle.sl_typed_order.proofs.QuietRows.{member_row_is}
+use Rattle.sl_typed_order.proofs.Still.{value_no_element}
+use Rattle.sl_typed_order.proofs.FormRows.{form_row, subscript_row_is}
+use Rattle.sl_typed_order.proofs.Containers.{bare_known}
 
 -- a name
 name_moved : (u : ExprType) (n : ℕ) (at : Place) (label : ℕ) → is_number (type_of_use u) ≡ true

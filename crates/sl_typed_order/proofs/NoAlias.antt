@@ -1,5 +1,5 @@
 -- In what is typed no variable is bound to two references of a call.
-use Rattle.std.proofs.Common.{◌≡◌, ℕ, Bool, true, false, List, [], ◌∷◌, Option, Some, None, refl, sym, subst}
+use Rattle.std.proofs.Common.{◌≡◌, ℕ, Bool, true, false, List, [], ◌∷◌, Option, None, refl, sym, subst}
 use Rattle.std.specs.Prelude.{if◌then◌else◌, codes}
 use Rattle.std.specs.List.{list_all}
 use Rattle.std.specs.Str.{bytes_eq}
@@ -55,7 +55,7 @@ apart_kept fs = record {
   lone_operators = λ o at names e. refl;
   moves = λ op at names n e. refl;
   operators = λ g n how x op at y sound none ordered c. refl;
-  pairs = λ g n how x op at y sound none ordered o names w. refl;
+  pairs = λ g n how x op at y sound none ordered o names w plain. refl;
   own_calls = λ g n how f xs sound none. call_binds_apart g sound.numbered n how f xs none;
   algorithms = λ g n how f xs sound none x e.
       algorithm_apart x (appends f.name xs) f.name f.place (site_number g n (s.library_call f xs)) (None ∷ told_all g xs)

@@ -1,5 +1,5 @@
 -- What each node of an expression that breaks no rule passes: by induction over expressions.
-use Rattle.std.proofs.Common.{◌≡◌, ℕ, ◌+◌, Bool, true, false, ◌&&◌, List, [], ◌∷◌, ◌++◌, map, Option, Some, None, refl, sym, subst, ◌∙◌}
+use Rattle.std.proofs.Common.{◌≡◌, ℕ, ◌+◌, Bool, true, false, List, [], ◌∷◌, ◌++◌, Option, Some, None, refl, sym, subst, ◌∙◌}
 use Rattle.std.specs.Prelude.{if◌then◌else◌, codes, pos}
 use Rattle.std.specs.List.{list_all}
 use Rattle.std.specs.Str.{bytes_eq}
@@ -38,17 +38,16 @@ use Rattle.sl_typing.specs.declared.standing.Standing.{Standing}
 use Rattle.sl_typing.specs.declared.standing.Standing.TheVariants as standing
 use Rattle.sl_typing.specs.Types.{same_scalar, scalar_of, common, is_iterator}
 use Rattle.sl_typing.specs.Candidates.{Found, algorithm_row}
-use Rattle.sl_typing.specs.Scopes.{function_named, type_of_name, number_of_name, label_of_name}
+use Rattle.sl_typing.specs.Scopes.{type_of_name, number_of_name}
 use Rattle.sl_typing.specs.TypeOf.{appends, is_first, type_of, types_of}
 use Rattle.sl_typing.specs.Sites.{site_count, site_number, inside}
 use Rattle.sl_typing.specs.Faults.{part_standing, last_standing, standing_before, faults, faults_of_all}
-use Rattle.sl_typing.specs.Order.{parameters_of}
-use Rattle.sl_typing.specs.Numbering.{Way, as_it_is, as_number, as_variable, no_expr, number_in, left_of, converted, handed, first_way, other_ways, ways, parameter_way}
-use Rattle.sl_typing.specs.Numbering.{told, told_all, head, operator_head, one, two, first_operand, other_operands, step_operator, stepped, negated, prefixed}
+use Rattle.sl_typing.specs.Numbering.{Way, as_it_is, as_number, as_variable, number_in, left_of, converted, handed, first_way, other_ways, ways}
+use Rattle.sl_typing.specs.Numbering.{told, told_all, head, operator_head, one, two, first_operand, other_operands, step_operator, stepped, prefixed}
 use Rattle.sl_typing.specs.Numbering.{postfixed, sum_operator, calculated, joined, part_of, arrow_operator, selected, row_call, called_row, called_algorithm}
-use Rattle.sl_typing.specs.Numbering.{letters_of, row_of_subscript, row_of_member, number_of_function, truth_number, label_in, variable, typed, operands}
-use Rattle.sl_model.specs.Typing.WellTypedNodes.{Node, a_call, an_own_call, nodes_in, nodes_in_left, nodes_in_operands}
-use Rattle.sl_well_typed.proofs.Parts.{Keeps, call_kept, library_call_kept, parentheses_kept, prefix_kept, binary_kept, postfix_kept, index_kept}
+use Rattle.sl_typing.specs.Numbering.{letters_of, row_of_subscript, row_of_member, truth_number, variable, typed, operands}
+use Rattle.sl_model.specs.Typing.WellTypedNodes.{Node, a_call, nodes_in, nodes_in_left, nodes_in_operands}
+use Rattle.sl_well_typed.proofs.Parts.{call_kept, library_call_kept, parentheses_kept, prefix_kept, binary_kept, postfix_kept, index_kept}
 use Rattle.sl_well_typed.proofs.Parts.{member_call_kept, member_kept, arguments_kept}
 use Rattle.sl_typed_order.proofs.Sound.{Sound}
 use Rattle.sl_typed_order.proofs.Kept.{algorithm_node, IsKept}
@@ -232,13 +231,13 @@ calculated_holds : (fs : List Function) (P : Node → Bool) → IsKept fs P → 
     → Holds P (calculated op at u v names (typed g n x) (typed g (n + site_count g x) y))
 unfolding nodes_in
 calculated_holds fs P kept g n how x op at y sound none h k names (types.Iterator c1 f1) (types.Iterator c2 f2) eu ev =
-    all_behind P _ _ (kept.pairs g n how x (b.Arithmetic op) at y sound none refl operators.Difference names as_it_is)
+    all_behind P _ _ (kept.pairs g n how x (b.Arithmetic op) at y sound none refl operators.Difference names as_it_is refl)
     (two_hold P (typed g n x) (typed g (n + site_count g x) y) h k)
 calculated_holds fs P kept g n how x op at y sound none h k names (types.Iterator c1 f1) v eu ev =
     subst (λ (w : ExprType). Holds P (t.call (operator_head (sum_operator op) at names)
     (two (typed g n x) (converted c.Diff w (typed g (n + site_count g x) y))))) ev
     (
-    all_behind P _ _ (kept.pairs g n how x (b.Arithmetic op) at y sound none refl (sum_operator op) names (as_number c.Diff))
+    all_behind P _ _ (kept.pairs g n how x (b.Arithmetic op) at y sound none refl (sum_operator op) names (as_number c.Diff) refl)
     (two_hold P (typed g n x) (converted c.Diff (type_of g y) (typed g (n + site_count g x) y)) h
     (converted_holds P c.Diff (type_of g y) (typed g (n + site_count g x) y) k))
     )
@@ -269,7 +268,7 @@ joined_holds fs P kept g n how x (b.Comparison op) at y sound none h k names =
     let e = typed g (n + site_count g x) y in
     either_holds P (is_iterator (type_of g x)) _ _
     (
-    all_behind P _ _ (kept.pairs g n how x (b.Comparison op) at y sound none refl (operators.Compare op) names as_it_is) (two_hold P d e h k)
+    all_behind P _ _ (kept.pairs g n how x (b.Comparison op) at y sound none refl (operators.Compare op) names as_it_is refl) (two_hold P d e h k)
     )
     (
     all_behind P _ _ (kept.operators g n how x (b.Comparison op) at y sound none refl type)

@@ -1,44 +1,18 @@
 -- What operators, names and pieces do by names is all that their nodes do to variables.
-use Rattle.std.proofs.Common.{◌≡◌, ℕ, ◌+◌, ◌==◌, Bool, true, false, not, ◌&&◌, ◌||◌, cond, List, [], ◌∷◌, ◌++◌, map, Option, Some, None, reverse, refl, sym, subst}
-use Rattle.std.proofs.Common.{ap, arith, ◌∙◌}
-use Rattle.std.specs.Prelude.{flat_map, codes, length, is_none, is_some, slice_get, if◌then◌else◌}
-use Rattle.std.specs.List.{list_all, list_any}
-use Rattle.std.specs.Str.{bytes_eq}
-use Rattle.std.proofs.lemmas.Bool.{and_parts, and_from, or_parts, not-false, eqb-true}
+use Rattle.std.proofs.Common.{◌≡◌, ℕ, Bool, true, false, List, [], ◌∷◌, ◌++◌, Option, refl}
+use Rattle.std.specs.Prelude.{if◌then◌else◌}
 use Rattle.sl_base.specs.declared.place.Place.{Place}
-use Rattle.sl_base.specs.declared.form.Form.{Form}
 use Rattle.sl_base.specs.declared.scalar.Scalar.{Scalar}
-use Rattle.sl_specs.specs.declared.call.Call.TheVariants as calls
-use Rattle.sl_specs.specs.declared.return_type.ReturnType.{ReturnType}
-use Rattle.sl_specs.specs.declared.return_type.ReturnType.TheVariants as r
-use Rattle.sl_specs.specs.Forms.{same_object}
-use Rattle.sl_specs.specs.Rows.{Row}
-use Rattle.sl_specs.specs.Table.{same_call}
-use Rattle.sl_syntax.specs.declared.operator.Access.TheVariants as a
 use Rattle.sl_syntax.specs.declared.operator.BinaryOperator.{BinaryOperator}
 use Rattle.sl_syntax.specs.declared.operator.BinaryOperator.TheVariants as b
-use Rattle.sl_syntax.specs.declared.operator.PrefixOperator.{PrefixOperator}
-use Rattle.sl_syntax.specs.declared.operator.PrefixOperator.TheVariants as p
 use Rattle.sl_syntax.specs.declared.operator.Selector.TheVariants as l
-use Rattle.sl_syntax.specs.declared.tree.identifier.Identifier.{Identifier}
-use Rattle.sl_syntax.specs.declared.typed.callee.Callee.TheVariants as callees
-use Rattle.sl_syntax.specs.declared.typed.head.Head.{Head}
-use Rattle.sl_syntax.specs.declared.typed.parameter.ParameterKind.{ParameterKind}
-use Rattle.sl_syntax.specs.declared.typed.parameter.ParameterKind.TheVariants as parameters
-use Rattle.sl_syntax.specs.Tree as s
-use Rattle.sl_syntax.specs.Tree.{Expr, Exprs}
 use Rattle.sl_syntax.specs.Typed as t
 use Rattle.sl_syntax.specs.Typed.{Function, Operands}
 use Rattle.sl_typing.specs.declared.expr_type.ExprType.{ExprType}
 use Rattle.sl_typing.specs.declared.expr_type.ExprType.TheVariants as types
-use Rattle.sl_typing.specs.declared.scope.FunctionHead.{FunctionHead}
 use Rattle.sl_typing.specs.declared.scope.Scope.{Scope}
-use Rattle.sl_typing.specs.declared.standing.Standing.{Standing}
-use Rattle.sl_typing.specs.declared.standing.Standing.TheVariants as standing
 use Rattle.sl_syntax.specs.declared.operator.Arithmetic.{Arithmetic}
 use Rattle.sl_syntax.specs.declared.operator.Arithmetic.TheVariants as o
-use Rattle.sl_syntax.specs.declared.operator.PostfixOperator.{PostfixOperator}
-use Rattle.sl_syntax.specs.declared.operator.PostfixOperator.TheVariants as q
 use Rattle.sl_syntax.specs.declared.operator.Selector.{Selector}
 use Rattle.sl_syntax.specs.declared.typed.operator.Operator.{Operator}
 use Rattle.sl_syntax.specs.declared.typed.operator.Operator.TheVariants as operators
@@ -47,25 +21,15 @@ use Rattle.sl_syntax.specs.declared.typed.step.Step.{Step}
 use Rattle.sl_syntax.specs.declared.typed.step.Step.TheVariants as steps
 use Rattle.sl_syntax.specs.Typed.{Left}
 use Rattle.sl_base.specs.declared.scalar.Scalar.TheVariants as c
-use Rattle.sl_typing.specs.Types.{same_scalar, scalar_of, common, is_number, is_iterator, is_container, is_element}
-use Rattle.sl_typing.specs.Candidates.{Found, algorithm_row}
-use Rattle.sl_typing.specs.Scopes.{function_named, type_of_name, number_of_name}
-use Rattle.sl_typing.specs.TypeOf.{appends, is_first, type_of, types_of}
-use Rattle.sl_typing.specs.Looks.{is_left_side, is_plain, bare_name}
-use Rattle.sl_typing.specs.Sites.{site_count, site_number, inside}
-use Rattle.sl_typing.specs.WrongType.{can_step, wrong_type}
-use Rattle.sl_typing.specs.Faults.{part_standing, last_standing, standing_before, faults, faults_of_all}
-use Rattle.sl_typing.specs.Order.{Deeds, nothing_done, changing, both, moved_names, handed_names, parameters_of, prefix_deeds, subscript_deeds, member_deeds}
-use Rattle.sl_typing.specs.Order.{algorithm_deeds, deeds, deeds_of_all}
-use Rattle.sl_typing.specs.Numbering.{Way, as_number, number_in, left_of, converted, handed, first_way, other_ways, one, two, operator_head, step_operator, stepped, prefixed}
-use Rattle.sl_typing.specs.Numbering.{postfixed, sum_operator, calculated, joined, part_of, arrow_operator, selected, variable, typed, operands}
+use Rattle.sl_typing.specs.Types.{scalar_of, common, is_iterator}
+use Rattle.sl_typing.specs.Order.{Deeds, nothing_done, changing, both}
+use Rattle.sl_typing.specs.Numbering.{as_number, number_in, left_of, converted, one, two, operator_head, step_operator, stepped}
+use Rattle.sl_typing.specs.Numbering.{sum_operator, calculated, joined, part_of, arrow_operator, selected, variable}
 use Rattle.sl_model.specs.Typing.WellTypedCalls.{is_moving_operator}
-use Rattle.sl_model.specs.Typing.WellTypedNodes.{Node, a_literal, a_use, a_call, an_operator, a_step, nodes_in, nodes_in_left, nodes_in_operands}
-use Rattle.sl_model.specs.Typing.WellTypedOrder.{Variable, the_iterator, variable_of}
-use Rattle.sl_well_typed.proofs.Parts.{Keeps, prefix_kept}
-use Rattle.sl_well_typed.proofs.Steps.{left_side_is_plain}
+use Rattle.sl_model.specs.Typing.WellTypedNodes.{Node, a_call, an_operator, a_step, nodes_in, nodes_in_left, nodes_in_operands}
+use Rattle.sl_model.specs.Typing.WellTypedOrder.{the_iterator, variable_of}
 use Rattle.sl_typed_order.proofs.Covers.{Covers, covers_none}
-use Rattle.sl_typed_order.proofs.Does.{Does, does_none, does_left, does_right, does_both, does_alone, covers_alone}
+use Rattle.sl_typed_order.proofs.Does.{Does, does_none, does_left, does_both, does_alone, covers_alone}
 use Rattle.sl_typed_order.proofs.Swap.{handed_does}
 
 -- an operator that moves nothing

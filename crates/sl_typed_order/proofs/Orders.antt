@@ -1,6 +1,5 @@
 -- Operands whose order doesn't matter by names: neither does it by variables.
-use Rattle.std.proofs.Common.{◌≡◌, ℕ, ◌+◌, Bool, true, false, not, ◌&&◌, ◌||◌, List, [], ◌∷◌, ◌++◌, length, map, Option, Some, None, refl, sym, subst, ◌∙◌}
-use Rattle.std.specs.Prelude.{flat_map}
+use Rattle.std.proofs.Common.{◌≡◌, ℕ, ◌+◌, Bool, true, false, ◌&&◌, List, [], ◌∷◌, map, refl, ◌∙◌}
 use Rattle.std.specs.List.{list_all}
 use Rattle.std.proofs.lemmas.Bool.{and_parts, and_from, or_parts, not-false}
 use Rattle.std.proofs.lemmas.List.Folds.{list_all-append}
@@ -19,7 +18,7 @@ use Rattle.sl_typing.specs.declared.expr_type.ExprType.TheVariants as types
 use Rattle.sl_typing.specs.declared.scope.Scope.{Scope}
 use Rattle.sl_typing.specs.declared.standing.Standing.TheVariants as standing
 use Rattle.sl_typing.specs.Scopes.{type_of_name, number_of_name}
-use Rattle.sl_typing.specs.TypeOf.{size, type_of_use, type_of, types_of}
+use Rattle.sl_typing.specs.TypeOf.{type_of_use, type_of, types_of}
 use Rattle.sl_typing.specs.Looks.{is_plain}
 use Rattle.sl_typing.specs.Sites.{site_count}
 use Rattle.sl_typing.specs.WrongType.{is_exactly, fits_parameter, fit_parameters}
@@ -27,14 +26,14 @@ use Rattle.sl_typing.specs.Faults.{faults, faults_of_all}
 use Rattle.sl_typing.specs.Order.{stands_beside, clash, clashes, some_clash, deeds}
 use Rattle.sl_typing.specs.Numbering.{Way, as_it_is, as_number, as_variable, number_in, handed, letter_ways, ways, parameter_way, first_way, other_ways}
 use Rattle.sl_typing.specs.Numbering.{variable, typed, operands}
-use Rattle.sl_model.specs.Typing.WellTypedNodes.{nodes_in}
 use Rattle.sl_model.specs.Typing.WellTypedOrder.{Variable, listed, is_still, bears, may_swap, may_all_swap, but_elements, changed_in}
 use Rattle.sl_well_typed.proofs.Parts.{arguments_kept}
 use Rattle.sl_typed_order.proofs.Sound.{Sound}
 use Rattle.sl_typed_order.proofs.Alias.{first_plain}
 use Rattle.sl_typed_order.proofs.Still.{converted_still}
-use Rattle.sl_typed_order.proofs.Swap.{beside_bears, is_plain_way, letter_is_plain, handed_does}
+use Rattle.sl_typed_order.proofs.Swap.{beside_bears, letter_is_plain, handed_does}
 use Rattle.sl_typed_order.proofs.Deeds.{expression_does}
+use Rattle.sl_typed_order.proofs.Kept.{is_plain_way}
 
 -- what is handed over is as still as what it is made from
 abbrev pub IsHanded : Scope → ℕ → Way → Expr → Type 0

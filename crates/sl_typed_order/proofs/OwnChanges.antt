@@ -1,58 +1,39 @@
 -- The variables that a call of the program's own changes.
-use Rattle.std.proofs.Common.{◌≡◌, ℕ, ◌+◌, ◌==◌, Bool, true, false, not, ◌&&◌, ◌||◌, cond, List, [], ◌∷◌, ◌++◌, map, Option, Some, None, reverse, refl, sym, subst}
+use Rattle.std.proofs.Common.{◌≡◌, ℕ, ◌+◌, ◌==◌, true, false, ◌&&◌, List, [], ◌∷◌, map, Option, Some, None, reverse, refl, sym, subst}
 use Rattle.std.proofs.Common.{ap, arith, ◌∙◌}
-use Rattle.std.specs.Prelude.{flat_map, codes, length, is_none, is_some, slice_get, if◌then◌else◌}
-use Rattle.std.specs.List.{list_all, list_any}
-use Rattle.std.specs.Str.{bytes_eq}
-use Rattle.std.proofs.lemmas.Bool.{and_parts, and_from, or_parts, not-false, eqb-true}
-use Rattle.sl_base.specs.declared.place.Place.{Place}
+use Rattle.std.specs.Prelude.{length, is_none, is_some, slice_get, if◌then◌else◌}
+use Rattle.std.proofs.lemmas.Bool.{and_parts, or_parts, not-false, eqb-true}
 use Rattle.sl_base.specs.declared.form.Form.{Form}
 use Rattle.sl_base.specs.declared.scalar.Scalar.{Scalar}
-use Rattle.sl_specs.specs.declared.call.Call.TheVariants as calls
-use Rattle.sl_specs.specs.declared.return_type.ReturnType.{ReturnType}
-use Rattle.sl_specs.specs.declared.return_type.ReturnType.TheVariants as r
-use Rattle.sl_specs.specs.Forms.{same_object}
-use Rattle.sl_specs.specs.Rows.{Row}
-use Rattle.sl_specs.specs.Table.{same_call}
 use Rattle.sl_syntax.specs.declared.operator.Access.TheVariants as a
-use Rattle.sl_syntax.specs.declared.operator.BinaryOperator.{BinaryOperator}
-use Rattle.sl_syntax.specs.declared.operator.BinaryOperator.TheVariants as b
-use Rattle.sl_syntax.specs.declared.operator.PrefixOperator.{PrefixOperator}
-use Rattle.sl_syntax.specs.declared.operator.PrefixOperator.TheVariants as p
-use Rattle.sl_syntax.specs.declared.operator.Selector.TheVariants as l
 use Rattle.sl_syntax.specs.declared.tree.identifier.Identifier.{Identifier}
-use Rattle.sl_syntax.specs.declared.typed.callee.Callee.TheVariants as callees
-use Rattle.sl_syntax.specs.declared.typed.head.Head.{Head}
 use Rattle.sl_syntax.specs.declared.typed.parameter.ParameterKind.{ParameterKind}
 use Rattle.sl_syntax.specs.declared.typed.parameter.ParameterKind.TheVariants as parameters
 use Rattle.sl_syntax.specs.Tree as s
 use Rattle.sl_syntax.specs.Tree.{Expr, Exprs}
-use Rattle.sl_syntax.specs.Typed as t
-use Rattle.sl_syntax.specs.Typed.{Function, Operands}
-use Rattle.sl_typing.specs.declared.expr_type.ExprType.{ExprType}
-use Rattle.sl_typing.specs.declared.expr_type.ExprType.TheVariants as types
+use Rattle.sl_syntax.specs.Typed.{Function}
 use Rattle.sl_typing.specs.declared.scope.FunctionHead.{FunctionHead}
 use Rattle.sl_typing.specs.declared.scope.Scope.{Scope}
 use Rattle.sl_typing.specs.declared.standing.Standing.{Standing}
 use Rattle.sl_typing.specs.declared.standing.Standing.TheVariants as standing
 use Rattle.sl_typing.specs.Types.{is_container_of}
-use Rattle.sl_typing.specs.Scopes.{sort_of, function_named, is_function_named, variable_named, type_of_name, number_of_name}
+use Rattle.sl_typing.specs.Scopes.{function_named, is_function_named, variable_named, type_of_name, number_of_name}
 use Rattle.sl_typing.specs.TypeOf.{size, type_of, types_of}
 use Rattle.sl_typing.specs.Looks.{is_plain, bare_name}
 use Rattle.sl_typing.specs.Sites.{site_count}
 use Rattle.sl_typing.specs.WrongType.{is_exactly, fits_parameter, fit_parameters, fits_call, wrong_type}
 use Rattle.sl_typing.specs.Rules.{takes_others, no_such_call}
 use Rattle.sl_typing.specs.Faults.{faults, faults_of_all}
-use Rattle.sl_typing.specs.Order.{Deeds, changing, changes_argument, handed_names, parameters_of}
+use Rattle.sl_typing.specs.Order.{changing, changes_argument, handed_names, parameters_of}
 use Rattle.sl_typing.specs.Numbering.{number_in, handed, parameter_way, number_of_function, typed, operands}
-use Rattle.sl_model.specs.Typing.WellTypedNodes.{Node, an_own_call}
+use Rattle.sl_model.specs.Typing.WellTypedNodes.{an_own_call}
 use Rattle.sl_model.specs.Typing.WellTypedOrder as model
 use Rattle.sl_model.specs.Typing.WellTypedOrder.{Variable, the_scalar, bound_in, handed_to, all_handed_to}
 use Rattle.sl_model.proofs.Tells.{AllOf, all_append}
 use Rattle.sl_well_typed.proofs.Parts.{call_kept, arguments_kept}
 use Rattle.sl_well_typed.proofs.Names.{all_reversed, found_among}
 use Rattle.sl_well_typed.proofs.OwnCalls.{is_function}
-use Rattle.sl_typed_order.proofs.Numbered.{AllNumbered, variable_meant}
+use Rattle.sl_typed_order.proofs.Numbered.{variable_meant}
 use Rattle.sl_typed_order.proofs.Sound.{IsThere, Sound}
 use Rattle.sl_typed_order.proofs.Alias.{Known, first_plain, map_both, both_bound, either_known, scalar_bound, container_bound}
 use Rattle.sl_typed_order.proofs.Covers.{Covers, covers_names}

@@ -1,18 +1,15 @@
 -- Calls of `begin`, `end`, `size` and `empty` are of rows that take nothing, and give no element.
-use Rattle.std.proofs.Common.{◌≡◌, ℕ, Bool, true, false, not, ◌&&◌, ◌||◌, List, [], ◌∷◌, Option, Some, None, refl, sym, subst, ap}
+use Rattle.std.proofs.Common.{◌≡◌, ℕ, Bool, true, false, not, ◌&&◌, ◌||◌, List, [], ◌∷◌, Option, Some, None, refl, sym, subst}
 use Rattle.std.specs.Prelude.{length, slice_get}
 use Rattle.std.specs.List.{list_all, list_any}
 use Rattle.std.specs.Str.{bytes_eq}
 use Rattle.std.proofs.lemmas.Bool.{and_parts}
 use Rattle.std.proofs.lemmas.Slice.Eq.{bytes_eq-Decides}
 use Rattle.sl_base.specs.declared.form.Form.{Form}
-use Rattle.sl_specs.specs.declared.call.Call.TheVariants as c
 use Rattle.sl_specs.specs.declared.letter.Letter.{Letter}
-use Rattle.sl_specs.specs.declared.return_type.ReturnType.{ReturnType}
-use Rattle.sl_specs.specs.declared.return_type.ReturnType.TheVariants as r
 use Rattle.sl_specs.specs.Rows.{Row}
 use Rattle.sl_specs.specs.Forms.{same_object}
-use Rattle.sl_specs.specs.Table.{table, same_call}
+use Rattle.sl_specs.specs.Table.{table}
 use Rattle.sl_specs.specs.Texts.{call_text}
 use Rattle.sl_typing.specs.declared.expr_type.ExprType.{ExprType}
 use Rattle.sl_typing.specs.Signatures.{row_at, is_algorithm}
@@ -22,7 +19,7 @@ use Rattle.sl_typing.specs.Order.{is_written_letter, is_quiet as is_quiet_name}
 use Rattle.sl_model.specs.Typing.WellTypedCalls.{is_advance}
 use Rattle.sl_model.specs.Typing.WellTypedOrder.{is_quiet_row}
 use Rattle.sl_model.proofs.Passing.{passes_at}
-use Rattle.sl_well_typed.proofs.Rows.{IsRow, found_row, gives_element}
+use Rattle.sl_well_typed.proofs.Rows.{found_row, gives_element}
 
 -- a row takes nothing
 abbrev pub takes_nothing : List Letter → Bool

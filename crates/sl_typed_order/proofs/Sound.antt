@@ -1,13 +1,11 @@
 -- What names mean at a place of a text: the variables of each sort are numbered in their order, and the functions are those of the typed text.
-use Rattle.std.proofs.Common.{◌≡◌, false, List, [], ◌∷◌, Option, Some, None, refl, subst, sym}
+use Rattle.std.proofs.Common.{◌≡◌, false, List, [], ◌∷◌, Option, Some, None, subst, sym}
 use Rattle.std.specs.Prelude.{slice_get}
 use Rattle.sl_base.specs.declared.place.Place.{Place}
 use Rattle.sl_syntax.specs.declared.operator.Access.TheVariants as a
-use Rattle.sl_syntax.specs.declared.tree.declaration.ContainerType.{ContainerType}
 use Rattle.sl_syntax.specs.declared.tree.element.Element.{Element}
 use Rattle.sl_syntax.specs.declared.tree.function.Param.{Param}
 use Rattle.sl_syntax.specs.declared.tree.identifier.Identifier.{Identifier}
-use Rattle.sl_syntax.specs.declared.typed.parameter.ParameterKind.{ParameterKind}
 use Rattle.sl_syntax.specs.Tree as s
 use Rattle.sl_syntax.specs.Tree.{Expr, Declaration, First}
 use Rattle.sl_syntax.specs.Typed.{Function}

@@ -1,17 +1,12 @@
 -- What each node of a statement that breaks no rule passes.
-use Rattle.std.proofs.Common.{◌≡◌, ℕ, ◌+◌, Bool, true, false, not, ◌&&◌, List, [], ◌∷◌, ◌++◌, length, map, Option, Some, None, refl, sym, subst, ◌∙◌, option_map, length-append}
+use Rattle.std.proofs.Common.{◌≡◌, ℕ, ◌+◌, Bool, true, false, List, [], ◌∷◌, ◌++◌, length, Option, Some, None, refl, subst, option_map, length-append}
 use Rattle.std.specs.Prelude.{flat_map, replicate, if◌then◌else◌}
 use Rattle.std.specs.List.{list_all, list_any}
 use Rattle.sl_base.specs.declared.place.Place.{Place}
-use Rattle.sl_base.specs.declared.scalar.Scalar.{Scalar}
 use Rattle.sl_base.specs.declared.scalar.Scalar.TheVariants as c
 use Rattle.sl_syntax.specs.declared.operator.Arithmetic.{Arithmetic}
 use Rattle.sl_syntax.specs.declared.operator.Assignment.{Assignment}
 use Rattle.sl_syntax.specs.declared.operator.Assignment.TheVariants as assignments
-use Rattle.sl_syntax.specs.declared.tree.declaration.ContainerType.{ContainerType}
-use Rattle.sl_syntax.specs.declared.tree.element.Element.{Element}
-use Rattle.sl_syntax.specs.declared.tree.identifier.Identifier.{Identifier}
-use Rattle.sl_syntax.specs.declared.typed.callee.Callee.TheVariants as callees
 use Rattle.sl_syntax.specs.declared.typed.parameter.ParameterKind.{ParameterKind}
 use Rattle.sl_syntax.specs.declared.typed.parameter.ParameterKind.TheVariants as parameters
 use Rattle.sl_syntax.specs.declared.typed.variable.VariableKind.{VariableKind}
@@ -22,32 +17,31 @@ use Rattle.sl_syntax.specs.Typed as t
 use Rattle.sl_syntax.specs.Typed.{Function, Operands}
 use Rattle.sl_typing.specs.declared.expr_type.ExprType.{ExprType}
 use Rattle.sl_typing.specs.declared.expr_type.ExprType.TheVariants as types
-use Rattle.sl_typing.specs.declared.fault.Fault.{Fault}
 use Rattle.sl_typing.specs.declared.rules.TheConstants as rule
 use Rattle.sl_typing.specs.declared.standing.Standing.TheVariants as standing
 use Rattle.sl_typing.specs.Types.{scalar_of, common, is_iterator}
 use Rattle.sl_typing.specs.Candidates.{Found, assignment_row}
-use Rattle.sl_typing.specs.Scopes.{type_of_name, number_of_name, label_of_name}
-use Rattle.sl_typing.specs.Contexts.{Context, enter, looping, started, started_loop}
-use Rattle.sl_typing.specs.TypeOf.{size, type_of, types_of}
-use Rattle.sl_typing.specs.Sites.{behind, sites_in, site_count, is_assignment_site, declares_container}
-use Rattle.sl_typing.specs.Faults.{broken, faults_of_all}
-use Rattle.sl_typing.specs.Flow.{behind_out, behind_left, behind_cond, behind_first, behind_test, behind_last, behind_declaration, behind_hidden, at_test, at_last}
+use Rattle.sl_typing.specs.Scopes.{label_of_name}
+use Rattle.sl_typing.specs.Contexts.{Context, enter, started, started_loop}
+use Rattle.sl_typing.specs.TypeOf.{size, type_of}
+use Rattle.sl_typing.specs.Sites.{behind, sites_in, site_count}
+use Rattle.sl_typing.specs.Faults.{broken}
+use Rattle.sl_typing.specs.Flow.{behind_left, behind_cond, behind_last, behind_declaration, at_test, at_last}
 use Rattle.sl_typing.specs.Flow.{in_for, in_range, in_while, after, after_item, after_items}
-use Rattle.sl_typing.specs.StatementFaults.{expr_faults, outs_faults, wrong_out, effect_faults, cond_faults, wrong_cond, value_faults, wrong_value, element_faults}
-use Rattle.sl_typing.specs.StatementFaults.{initializer_faults, declaration_faults, twice_faults, limit_faults, first_faults, test_faults, last_faults, wrong_result}
-use Rattle.sl_typing.specs.StatementFaults.{wrong_return, site_faults, statement_faults, declaration_place, stmt_faults, item_faults, items_faults}
-use Rattle.sl_typing.specs.Numbering.{Way, as_number, number_in, left_of, converted, handed, first_way, other_ways, ways, told, head, one, letters_of, label_in, typed, operands}
-use Rattle.sl_typing.specs.StatementNumbering.{typed_expr, typed_out, typed_outs, assigned_container, set, move_operator, updated, assigned, assignment_number}
-use Rattle.sl_typing.specs.StatementNumbering.{typed_effect, typed_cond, making_row, told_in, operands_in, number_of_row, declared_auto, bound, typed_declaration}
+use Rattle.sl_typing.specs.StatementFaults.{expr_faults, outs_faults, wrong_out, effect_faults, cond_faults, value_faults, element_faults}
+use Rattle.sl_typing.specs.StatementFaults.{initializer_faults, declaration_faults, first_faults, test_faults, last_faults}
+use Rattle.sl_typing.specs.StatementFaults.{statement_faults, declaration_place, stmt_faults, item_faults, items_faults}
+use Rattle.sl_typing.specs.Numbering.{Way, as_number, number_in, left_of, converted, handed, first_way, other_ways, ways, told, head, one, letters_of, label_in, operands}
+use Rattle.sl_typing.specs.StatementNumbering.{typed_expr, typed_outs, assigned_container, set, updated, assigned, assignment_number}
+use Rattle.sl_typing.specs.StatementNumbering.{typed_effect, typed_cond, making_row, operands_in, declared_auto, bound, typed_declaration}
 use Rattle.sl_typing.specs.StatementNumbering.{typed_first, typed_test, returned, typed_value, taken_as, brace_number, typed_stmt, typed_item, typed_items}
-use Rattle.sl_model.specs.Typing.WellTypedNodes.{Node, a_call, a_loop, a_range, a_variable, a_brace, nodes_in, nodes_in_left, nodes_in_operands, nodes_in_value}
+use Rattle.sl_model.specs.Typing.WellTypedNodes.{Node, a_call, a_loop, a_range, a_variable, nodes_in, nodes_in_left, nodes_in_operands, nodes_in_value}
 use Rattle.sl_model.specs.Typing.WellTypedNodes.{nodes_in_cond, nodes_in_printed, nodes_in_effect, nodes_in_last, nodes_in_declaration, nodes_in_first}
 use Rattle.sl_model.specs.Typing.WellTypedNodes.{element_variable, has_container, nodes_in_stmt, nodes_in_stmts}
 use Rattle.sl_number_limits.proofs.PartFaults.{block_items, choice_condition, choice_body, choice_else_condition, choice_else_body, else_body}
 use Rattle.sl_number_limits.proofs.PartFaults.{while_condition, while_body, for_first, for_test, for_last, for_body, range_body, given_value, done_effect}
 use Rattle.sl_number_limits.proofs.ValueFaults.{scalar_value, auto_value, reference_value, container_value, left_side, right_side, first_element, other_elements}
-use Rattle.sl_well_typed.proofs.Parts.{none_in_both, none_in_three}
+use Rattle.sl_well_typed.proofs.Parts.{none_in_both}
 use Rattle.sl_well_typed.proofs.Behind.{cond_scope, test_scope, last_scope, after_scope}
 use Rattle.sl_typed_order.proofs.Sound.{Sound, same_sound, enter_sound, looping_sound, declaration_sound, first_sound, range_sound}
 use Rattle.sl_typed_order.proofs.Kept.{IsKept}

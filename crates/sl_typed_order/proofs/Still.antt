@@ -1,30 +1,21 @@
 -- What is still by names is still by the variables that the names cover.
-use Rattle.std.proofs.Common.{◌≡◌, ℕ, ◌+◌, Bool, true, false, not, ◌&&◌, ◌||◌, List, [], ◌∷◌, ◌++◌, map, Option, Some, None, refl, sym, subst, ap, ◌∙◌}
-use Rattle.std.specs.Prelude.{if◌then◌else◌, codes, length, is_none}
-use Rattle.std.specs.List.{list_all, list_any}
+use Rattle.std.proofs.Common.{◌≡◌, ℕ, ◌+◌, Bool, true, false, not, ◌&&◌, List, [], Option, Some, None, refl, sym, subst}
+use Rattle.std.specs.Prelude.{if◌then◌else◌, codes, is_none}
 use Rattle.std.specs.Str.{bytes_eq}
 use Rattle.std.proofs.lemmas.Bool.{and_parts, and_from, or_parts, not-false}
 use Rattle.sl_base.specs.declared.place.Place.{Place}
 use Rattle.sl_base.specs.declared.form.Form.{Form}
 use Rattle.sl_base.specs.declared.scalar.Scalar.{Scalar}
 use Rattle.sl_base.specs.declared.scalar.Scalar.TheVariants as c
-use Rattle.sl_specs.specs.declared.letter.Letter.{Letter}
-use Rattle.sl_specs.specs.declared.letter.Letter.TheVariants as l
 use Rattle.sl_specs.specs.declared.return_type.ReturnType.{ReturnType}
 use Rattle.sl_specs.specs.declared.return_type.ReturnType.TheVariants as r
-use Rattle.sl_specs.specs.Rows.{Row}
-use Rattle.sl_specs.specs.Table.{table, same_call}
-use Rattle.sl_specs.specs.Texts.{call_text}
-use Rattle.sl_syntax.specs.declared.operator.Access.{Access}
 use Rattle.sl_syntax.specs.declared.operator.Arithmetic.{Arithmetic}
 use Rattle.sl_syntax.specs.declared.operator.BinaryOperator.{BinaryOperator}
 use Rattle.sl_syntax.specs.declared.operator.BinaryOperator.TheVariants as b
-use Rattle.sl_syntax.specs.declared.operator.PostfixOperator.{PostfixOperator}
 use Rattle.sl_syntax.specs.declared.operator.PostfixOperator.TheVariants as q
 use Rattle.sl_syntax.specs.declared.operator.PrefixOperator.{PrefixOperator}
 use Rattle.sl_syntax.specs.declared.operator.PrefixOperator.TheVariants as p
 use Rattle.sl_syntax.specs.declared.tree.identifier.Identifier.{Identifier}
-use Rattle.sl_syntax.specs.declared.typed.callee.Callee.TheVariants as callees
 use Rattle.sl_syntax.specs.declared.typed.head.Head.{Head}
 use Rattle.sl_syntax.specs.declared.typed.step.Fix.{Fix}
 use Rattle.sl_syntax.specs.declared.typed.step.Fix.TheVariants as fixes
@@ -39,27 +30,24 @@ use Rattle.sl_typing.specs.declared.expr_type.ExprType.TheVariants as types
 use Rattle.sl_typing.specs.declared.scope.Scope.{Scope}
 use Rattle.sl_typing.specs.declared.standing.Standing.TheVariants as standing
 use Rattle.sl_typing.specs.Types.{is_const, same_scalar, scalar_of, common, value_type, is_number, is_iterator, is_element, is_int_iterator}
-use Rattle.sl_typing.specs.Signatures.{result_type, row_at, is_algorithm}
-use Rattle.sl_typing.specs.Arguments.{takes_count, letters_take}
-use Rattle.sl_typing.specs.Candidates.{Found, is_candidate, is_called, member_row}
+use Rattle.sl_typing.specs.Signatures.{result_type}
+use Rattle.sl_typing.specs.Candidates.{Found, member_row}
 use Rattle.sl_typing.specs.Scopes.{sort_of, is_among, type_of_name, number_of_name}
-use Rattle.sl_typing.specs.TypeOf.{size, member_type, element_at, arithmetic_type, type_of_use, type_of, types_of}
+use Rattle.sl_typing.specs.TypeOf.{member_type, element_at, arithmetic_type, type_of_use, type_of, types_of}
 use Rattle.sl_typing.specs.Looks.{is_left_side, is_plain, bare_name}
-use Rattle.sl_typing.specs.Sites.{site_count, site_number, inside}
-use Rattle.sl_typing.specs.WrongType.{is_entry, is_before_part, can_step, wrong_prefix, fits_binary, is_int_reference, second_may_be_element, fits_member, is_iterator_pair, wrong_type}
-use Rattle.sl_typing.specs.Rules.{is_unknown_variable}
-use Rattle.sl_typing.specs.Faults.{faults, faults_of_all}
+use Rattle.sl_typing.specs.Sites.{site_count, inside}
+use Rattle.sl_typing.specs.WrongType.{is_entry, can_step, is_int_reference, second_may_be_element, fits_member, is_iterator_pair, wrong_type}
+use Rattle.sl_typing.specs.Faults.{faults}
 use Rattle.sl_typing.specs.Order as order
 use Rattle.sl_typing.specs.Order.{is_still as is_still_by_names}
-use Rattle.sl_typing.specs.Numbering.{Way, row_call, converted, left_of, stepped, negated, prefixed, postfixed, calculated, joined, called_row, letters_of, ways, row_of_member}
-use Rattle.sl_typing.specs.Numbering.{number_in, told, told_all, variable, typed, operands}
-use Rattle.sl_model.specs.Typing.WellTypedOrder.{Variable, is_among as is_variable_among, is_quiet, is_quiet_row, is_still}
-use Rattle.sl_well_typed.proofs.Parts.{Keeps, name_kept, parentheses_kept, prefix_kept, binary_kept, postfix_kept, member_call_kept}
+use Rattle.sl_typing.specs.Numbering.{Way, row_call, converted, stepped, calculated, joined, called_row, letters_of, ways, row_of_member}
+use Rattle.sl_typing.specs.Numbering.{number_in, variable, typed, operands}
+use Rattle.sl_model.specs.Typing.WellTypedOrder.{Variable, is_among as is_variable_among, is_quiet, is_still}
+use Rattle.sl_well_typed.proofs.Parts.{name_kept, parentheses_kept, prefix_kept, binary_kept, postfix_kept, member_call_kept}
 use Rattle.sl_well_typed.proofs.Rows.{gives_element}
 use Rattle.sl_typed_order.proofs.Numbered.{variable_of_sort, variable_meant}
-use Rattle.sl_typed_order.proofs.Alias.{Known}
 use Rattle.sl_typed_order.proofs.Covers.{is_reference_type, Covers}
-use Rattle.sl_typed_order.proofs.QuietRows.{IsQuietCall, quiet_call}
+use Rattle.sl_typed_order.proofs.QuietRows.{quiet_call}
 
 -- what isn't so
 pub unnot : (b : Bool) → not b ≡ true → b ≡ false

@@ -1,14 +1,8 @@
 -- What is no name is typed as no variable.
-use Rattle.std.proofs.Common.{◌≡◌, ℕ, ◌+◌, ◌==◌, Bool, true, false, not, ◌&&◌, ◌||◌, cond, List, [], ◌∷◌, ◌++◌, length, map, Option, Some, None, refl, sym, subst, ap}
-use Rattle.std.proofs.Common.{arith, ◌∙◌}
-use Rattle.std.specs.Prelude.{flat_map, is_none, is_some, if◌then◌else◌, codes}
-use Rattle.std.specs.List.{list_any}
+use Rattle.std.proofs.Common.{◌≡◌, ℕ, ◌+◌, Bool, true, false, ◌&&◌, List, [], Option, Some, None, refl}
+use Rattle.std.specs.Prelude.{if◌then◌else◌, codes}
 use Rattle.std.specs.Str.{bytes_eq}
-use Rattle.std.proofs.lemmas.Bool.{and_parts, and_from, or_parts, not-false, false_from_ne_true, eqb-true}
-use Rattle.std.proofs.lemmas.Slice.Eq.{bytes_eq-Decides}
 use Rattle.sl_base.specs.declared.place.Place.{Place}
-use Rattle.sl_base.specs.declared.form.Form.{Form}
-use Rattle.sl_base.specs.declared.scalar.Scalar.{Scalar}
 use Rattle.sl_specs.specs.declared.return_type.ReturnType.{ReturnType}
 use Rattle.sl_specs.specs.declared.return_type.ReturnType.TheVariants as r
 use Rattle.sl_syntax.specs.declared.operator.Arithmetic.{Arithmetic}
@@ -20,10 +14,7 @@ use Rattle.sl_syntax.specs.declared.operator.PrefixOperator.{PrefixOperator}
 use Rattle.sl_syntax.specs.declared.operator.PrefixOperator.TheVariants as p
 use Rattle.sl_syntax.specs.declared.operator.Selector.{Selector}
 use Rattle.sl_syntax.specs.declared.operator.Selector.TheVariants as l
-use Rattle.sl_syntax.specs.declared.tree.identifier.Identifier.{Identifier}
 use Rattle.sl_syntax.specs.declared.typed.head.Head.{Head}
-use Rattle.sl_syntax.specs.declared.typed.parameter.ParameterKind.{ParameterKind}
-use Rattle.sl_syntax.specs.declared.typed.parameter.ParameterKind.TheVariants as parameters
 use Rattle.sl_syntax.specs.declared.typed.step.Fix.{Fix}
 use Rattle.sl_syntax.specs.declared.typed.step.Step.{Step}
 use Rattle.sl_syntax.specs.Tree as s
@@ -32,30 +23,19 @@ use Rattle.sl_syntax.specs.Typed as t
 use Rattle.sl_syntax.specs.Typed.{Operands}
 use Rattle.sl_typing.specs.declared.expr_type.ExprType.{ExprType}
 use Rattle.sl_typing.specs.declared.expr_type.ExprType.TheVariants as types
-use Rattle.sl_typing.specs.declared.scope.FunctionHead.{FunctionHead}
 use Rattle.sl_typing.specs.declared.scope.Scope.{Scope}
-use Rattle.sl_typing.specs.declared.standing.Standing.{Standing}
 use Rattle.sl_typing.specs.declared.standing.Standing.TheVariants as standing
-use Rattle.sl_typing.specs.Types.{same_scalar, scalar_of, common, is_number, is_iterator, is_container, is_container_of, goes_into}
+use Rattle.sl_typing.specs.Types.{is_iterator}
 use Rattle.sl_typing.specs.Candidates.{Found, algorithm_row}
-use Rattle.sl_typing.specs.Scopes.{sort_of, variable_named, function_named, is_among, type_of_name, number_of_name, label_of_name}
-use Rattle.sl_typing.specs.TypeOf.{size, appends, is_first, is_back_inserter, type_of_use, type_of, types_of}
-use Rattle.sl_typing.specs.Looks.{is_plain, bare_name}
-use Rattle.sl_typing.specs.Sites.{site_count, site_number, inside}
-use Rattle.sl_typing.specs.WrongType.{is_exactly, fits_parameter, fit_parameters, fits_call, wrong_type}
-use Rattle.sl_typing.specs.Rules.{is_unknown_variable, is_unknown_function, takes_others, no_such_call, is_reference, bound_names, some_twice, call_aliases}
-use Rattle.sl_typing.specs.Rules.{is_alias, is_as_output, is_lone_appender}
-use Rattle.sl_typing.specs.Faults.{standing_before, faults, faults_of_all}
-use Rattle.sl_typing.specs.Order.{parameters_of}
-use Rattle.sl_typing.specs.Numbering.{Way, no_expr, number_in, converted, handed, ways, parameter_way, told, told_all, first_operand, other_operands, stepped, prefixed}
-use Rattle.sl_typing.specs.Numbering.{postfixed, calculated, joined, part_of, selected, row_call, called_row, called_algorithm, letters_of, row_of_subscript}
-use Rattle.sl_typing.specs.Numbering.{row_of_member, number_of_function, label_in, variable, typed, operands}
-use Rattle.sl_model.specs.Typing.WellTypedNodes.{an_own_call}
-use Rattle.sl_model.specs.Typing.WellTypedOrder.{Variable, the_scalar, same_variable, is_among as is_variable_among, are_apart, bound_in, listed, binds_apart}
-use Rattle.sl_model.proofs.Tells.{AllOf, all_append}
-use Rattle.sl_well_typed.proofs.Parts.{Keeps, name_kept, call_kept, library_call_kept, parentheses_kept, arguments_kept}
-use Rattle.sl_well_typed.proofs.OwnCalls.{is_function}
-use Rattle.sl_typed_order.proofs.Numbered.{AllNumbered, variable_of_sort, variable_meant, one_name}
+use Rattle.sl_typing.specs.TypeOf.{appends, is_first, is_back_inserter, type_of, types_of}
+use Rattle.sl_typing.specs.Looks.{bare_name}
+use Rattle.sl_typing.specs.Sites.{site_count}
+use Rattle.sl_typing.specs.Rules.{is_lone_appender}
+use Rattle.sl_typing.specs.Faults.{faults}
+use Rattle.sl_typing.specs.Numbering.{stepped, prefixed}
+use Rattle.sl_typing.specs.Numbering.{postfixed, calculated, joined, part_of, selected, row_call, called_row, called_algorithm, row_of_subscript}
+use Rattle.sl_typing.specs.Numbering.{row_of_member, typed, operands}
+use Rattle.sl_well_typed.proofs.Parts.{library_call_kept, parentheses_kept}
 
 -- a variable by itself
 abbrev pub is_variable : t.Expr → Bool

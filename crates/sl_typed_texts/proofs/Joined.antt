@@ -5,7 +5,7 @@ use Rattle.sl_syntax.specs.Tree.{Program}
 use Rattle.sl_syntax.specs.Typed as t
 use Rattle.sl_lexer.proofs.TokenOrder.{tokens-ascend}
 use Rattle.sl_model.specs.Reports.Refusals.{IsTyped}
-use Rattle.sl_model.specs.Typing.WellTyped.{WellTyped, has_order}
+use Rattle.sl_model.specs.Typing.WellTyped.{WellTyped}
 use Rattle.sl_well_typed.specs.Small.{has_small_literals}
 use Rattle.sl_well_typed.proofs.Few.{typed_has_few}
 use Rattle.sl_well_typed.proofs.Functions.{typed_has_types}
@@ -16,6 +16,7 @@ use Rattle.sl_one_asker.proofs.OneAsker.{typed_has_one_asker}
 use Rattle.sl_one_asker.proofs.SmallLiterals.{program_has_small_literals}
 use Rattle.sl_one_asker.proofs.TokensAt.{ascending}
 use Rattle.sl_typed_order.proofs.NoAlias.{typed_has_no_alias}
+use Rattle.sl_typed_order.proofs.Ordered.{typed_has_order}
 use Rattle.sl_typed_numbers.proofs.Names.{names_stand}
 use Rattle.sl_typed_numbers.proofs.NumberedStatements.{numbers_stand}
 use Rattle.sl_typed_numbers.proofs.Sites.{sites_stand}
@@ -26,17 +27,16 @@ literals_are_small : (text : List ℕ) (tokens : List Token) (p : Program) (u : 
 literals_are_small text tokens p u h =
     program_has_small_literals p tokens h.parsed.placed (text_has_small_numbers text tokens h.parsed.cut)
 
--- so it is well typed, where its order of effects is told
-pub typed_is_well_typed : (text : List ℕ) (tokens : List Token) (p : Program) (u : t.Typed) → IsTyped text tokens p u → has_order u ≡ true
-    → WellTyped u
-typed_is_well_typed text tokens p u h order =
+-- so it is well typed
+pub typed_is_well_typed : (text : List ℕ) (tokens : List Token) (p : Program) (u : t.Typed) → IsTyped text tokens p u → WellTyped u
+typed_is_well_typed text tokens p u h =
     let typed = h.typed_so in
     record {
       few = typed_has_few p u typed;
       main = typed_has_main p u typed;
       types = typed_has_types p u typed (literals_are_small text tokens p u h);
       no_alias = typed_has_no_alias p u typed;
-      order = order;
+      order = typed_has_order p u typed;
       sites = sites_stand p u typed;
       numbers = numbers_stand p u typed;
       names = names_stand p u typed;

@@ -7,7 +7,7 @@ pub returns-clause-well_typed : goal.returns-clause-well_typed
 returns-clause-well_typed c = typed_is_well_typed
 
 pub returns-clause-scoped : goal.returns-clause-scoped
-returns-clause-scoped c = λ text tokens p u typed order. well-typed-scoped u (typed_is_well_typed text tokens p u typed order)
+returns-clause-scoped c = λ text tokens p u typed. well-typed-scoped u (typed_is_well_typed text tokens p u typed)
 
 pub returns-clause-meaning : goal.returns-clause-meaning
-returns-clause-meaning c = λ text tokens p u typed order. run-meant u (typed_is_well_typed text tokens p u typed order)
+returns-clause-meaning c = λ text tokens p u typed. run-meant u (typed_is_well_typed text tokens p u typed)
