@@ -12,7 +12,9 @@ use sl_model::{
     well_typed_texts_have_meaning,
 };
 use sl_specs::{numbers_are_places, rows_differ};
-use sl_tool::{each_text_is_reported, each_text_is_scoped, one_refusal};
+use sl_tool::{
+    each_text_is_reported, each_text_is_scoped, one_refusal, one_typing, typed_or_refused,
+};
 use sl_warnings::{covers_more, stays_ascending, tells_its_sites};
 
 #[test]
@@ -53,4 +55,6 @@ fn laws() {
     each_text_is_reported();
     each_text_is_scoped();
     one_refusal();
+    one_typing();
+    typed_or_refused();
 }

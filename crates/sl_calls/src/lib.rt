@@ -29,6 +29,8 @@ mod calls_of_syntax;
 #[cfg(test)]
 mod calls_of_tool;
 #[cfg(test)]
+mod calls_of_types;
+#[cfg(test)]
 mod calls_of_warnings;
 #[cfg(test)]
 mod cases;

@@ -41,3 +41,4 @@ pub mod AnswerLaws
 pub mod OutcomeLaws
 pub mod OneTextLaws
 pub mod PhaseLaws
+pub mod EachText

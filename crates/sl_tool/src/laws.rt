@@ -1,11 +1,15 @@
 //! Laws of answers that a reviewer would ask for.
-ghost use Rattle.std.specs.Prelude.{◌≡◌, ◌≤◌, List, ℕ, length};
+ghost use Rattle.std.specs.Prelude.{◌≡◌, ◌≤◌, ◌⊎◌, List, ℕ, length};
 ghost use Rattle.sl_base.specs.declared.limits.TheConstants.{TEXT_BYTES};
+ghost use Rattle.sl_base.specs.declared.token.Token.{Token as TokenValue};
 ghost use Rattle.sl_model.specs.Reports.Covers.{Warning};
+ghost use Rattle.sl_model.specs.Reports.Refusals.{IsTyped, Leaves};
 ghost use Rattle.sl_model.specs.Typing.Scoped.{IsScoped};
 ghost use Rattle.sl_model.specs.Typing.Shapes.{lib_makes, lib_shape};
 ghost use Rattle.sl_model.specs.Reports.Texts.{report_text};
 ghost use Rattle.sl_syntax.specs.SubsetView.{typed_of};
+ghost use Rattle.sl_syntax.specs.Tree.{Program};
+ghost use Rattle.sl_syntax.specs.Typed as texts;
 ghost use Rattle.sl_syntax.specs.declared.subset.Text.{Text};
 ghost use Rattle.sl_tool.specs.Answers.{AnswerTo, IsReport, status_of};
 ghost use Rattle.sl_tool.specs.Subset.{IsBuilt, IsOfText};
@@ -28,4 +32,20 @@ pub fn each_text_is_reported()
 /// In a text of the subset each variable that is used is in scope.
 pub fn each_text_is_scoped()
     ensures { (p : Text) → IsOfText p → IsScoped lib_shape lib_makes (typed_of p) }
+{}
+
+/// A text has one line at most that refuses it, or one typed text at most, and never both.
+pub fn one_typing()
+    ensures one_line { (file text line other : List ℕ) → Leaves file text line → Leaves file text other → line ≡ other }
+    ensures one_typed { (text : List ℕ) (tokens others : List TokenValue) (p q : Program) (u v : texts.Typed) →
+        IsTyped text tokens p u → IsTyped text others q v → u ≡ v }
+    ensures never_both { (file text line : List ℕ) (tokens : List TokenValue) (p : Program) (u : texts.Typed) →
+        IsTyped text tokens p u → Leaves file text line → ⊥ }
+{}
+
+/// Each text, whatever its bytes are, has a typed text or a line that refuses it.
+pub fn typed_or_refused()
+    ensures { (file text : List ℕ) →
+        ((tokens : List TokenValue) × (p : Program) × (u : texts.Typed) × IsTyped text tokens p u) ⊎
+        ((line : List ℕ) × Leaves file text line) }
 {}

@@ -12,7 +12,9 @@ mod reporting;
 mod status;
 mod tool;
 
-pub use laws::{each_text_is_reported, each_text_is_scoped, one_refusal};
+pub use laws::{
+    each_text_is_reported, each_text_is_scoped, one_refusal, one_typing, typed_or_refused,
+};
 pub use phases::stop::Stop;
 pub use phases::{Parsed, parsed_text, typed_text};
 pub use status::Status;
