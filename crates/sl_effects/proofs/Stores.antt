@@ -1,0 +1,92 @@
+-- What a store has of a container: what the memory has that it shows, and what a change leaves.
+use Rattle.std.proofs.Common.{◌≡◌, ℕ, ◌+◌, ◌-◌, ◌<◌, ◌≤◌, ◌++◌, List, [], Option, Some, None, length, map, take, drop, ap, sym, ◌∙◌, arith, ℤ, subst, length-append}
+use Rattle.std.specs.List.{slice_get, slice_set}
+use Rattle.std.proofs.Math.ListN.{length-set}
+use Rattle.std.proofs.lemmas.List.{length-map, length-take-le, length-drop}
+use Rattle.std.proofs.lemmas.Simd.{map-map}
+use Rattle.sl_base.specs.declared.form.Form.TheVariants.{Vector}
+use Rattle.sl_model.specs.Memory.Containers.{Cell, Cont, Memory, cont_at, size, keys}
+use Rattle.sl_model.specs.Runs.State.{Pointer}
+use Rattle.sl_model.specs.LibraryCalls.Values.{Value}
+use Rattle.sl_model.proofs.Getting.{get_set_same}
+use Rattle.sl_slots.specs.declared.edit.Edit.{Edit}
+use Rattle.sl_slots.specs.declared.container.Element.{Element}
+use Rattle.sl_slots.specs.declared.container.Container.{Container}
+use Rattle.sl_slots.specs.declared.rearrangement.Rearrangement.{Rearrangement}
+use Rattle.sl_slots.specs.declared.source.Source.{Source}
+use Rattle.sl_slots.specs.declared.store.Store.{Store}
+use Rattle.sl_slots.specs.Rearranging.{element_from}
+use Rattle.sl_slots.specs.Shown.{Plain, plain, contents, element_of, Holds}
+use Rattle.sl_slots.specs.Stored.{contents_at, elements_at, edited, Edited, rearranged, Rearranged}
+use Rattle.sl_slots.proofs.ReadingShows.{contents_shown, listed, contents-listed}
+use Rattle.sl_effects.specs.Means.Keys.{keys_of}
+
+-- ## What it shows
+
+module _ (st : Store) (m : Memory) (ps : List Pointer) (vs : List Value) (h : Holds st m ps vs) (j : ℕ) (low : j < length st.containers.items) where
+  -- a container of the store is one of the memory
+  pub shown_there : slice_get m.conts j ≡ Some (cont_at m j)
+  shown_there = (contents_shown st m ps vs h j low).0
+
+  -- it has as many elements
+  pub shown_size : length (elements_at st j) ≡ size (cont_at m j)
+  shown_size = ap (λ (x : Plain). length x.elements) (contents_shown st m ps vs h j low).1 ∙ length-map (cont_at m j).cells element_of
+
+  -- and the same keys
+  pub shown_keys : keys_of (elements_at st j) ≡ keys (cont_at m j)
+  shown_keys = ap (λ (x : Plain). keys_of x.elements) (contents_shown st m ps vs h j low).1
+      ∙ map-map (λ (x : Element). x.key) element_of (cont_at m j).cells
+
+-- ## What a change leaves
+
+-- a container was changed
+abbrev IsSet : Store → Store → ℕ → Plain → Type 0
+IsSet old new j p = map contents new.containers.items ≡ slice_set (map contents old.containers.items) j p
+
+-- no container came or ended
+many_set : (old new : Store) (j : ℕ) (p : Plain) → IsSet old new j p → length new.containers.items ≡ length old.containers.items
+many_set old new j p e = sym (length-map new.containers.items contents)
+    ∙ (ap (λ (l : List Plain). length l) e
+    ∙ (length-set (map contents old.containers.items) j p ∙ length-map old.containers.items contents))
+
+-- it is what it was changed to
+contents_set : (old new : Store) (j : ℕ) (p : Plain) → IsSet old new j p → j < length old.containers.items → contents_at new j ≡ p
+contents_set old new j p e low =
+    let l : length (map contents old.containers.items) ≡ length old.containers.items = length-map old.containers.items contents in
+    contents-listed new j
+    ∙ (ap (λ (l : List Plain). listed l j) e
+    ∙ ap (λ (o : Option Plain). elim o as (λ _. Plain) [ None ↦ record { form = Vector; elements = []; room = 0 } | Some q ↦ q ])
+    (get_set_same (map contents old.containers.items) j p (omega arith)))
+
+-- an edit keeps the number of containers
+pub many_edited : (old new : Store) (j : ℕ) (e : Edit) (come : List Element) (site : ℕ) → Edited j e come site old new
+    → length new.containers.items ≡ length old.containers.items
+many_edited old new j e come site is = many_set old new j (edited e come (contents_at old j)) is.containers
+
+-- as many elements more as come, where none goes
+pub size_edited : (old new : Store) (j : ℕ) (e : Edit) (come : List Element) (site : ℕ) → Edited j e come site old new
+    → j < length old.containers.items → e.gone ≡ 0 → e.from ≤ length (elements_at old j)
+    → length (elements_at new j) ≡ length (elements_at old j) + length come
+size_edited old new j e come site is low none within =
+    let es : List Element = elements_at old j in
+    let a : length (take e.from es ++ (come ++ drop e.gone (drop e.from es))) ≡ length (take e.from es) + length (come ++ drop e.gone (drop e.from es)) =
+    length-append (take e.from es) (come ++ drop e.gone (drop e.from es)) in
+    let b : length (come ++ drop e.gone (drop e.from es)) ≡ length come + length (drop e.gone (drop e.from es)) =
+    length-append come (drop e.gone (drop e.from es)) in
+    let c : length (take e.from es) ≡ e.from = length-take-le e.from es within in
+    let d : length (drop e.gone (drop e.from es)) ≡ length (drop e.from es) - e.gone = length-drop e.gone (drop e.from es) in
+    let f : length (drop e.from es) ≡ length es - e.from = length-drop e.from es in
+    let g : length (elements_at new j) ≡ length (take e.from es ++ (come ++ drop e.gone (drop e.from es))) =
+    ap (λ (x : Plain). length x.elements) (contents_set old new j (edited e come (contents_at old j)) is.containers low) in
+    omega arith
+
+-- so does a container that is put together anew
+pub many_rearranged : (old new : Store) (by : Rearrangement) → Rearranged by old new → length new.containers.items ≡ length old.containers.items
+many_rearranged old new by is = many_set old new by.container (rearranged by (contents_at old by.container)) is.containers
+
+-- it has an element for each source
+pub size_rearranged : (old new : Store) (by : Rearrangement) → Rearranged by old new → by.container < length old.containers.items
+    → length (elements_at new by.container) ≡ length by.sources.items
+size_rearranged old new by is low =
+    ap (λ (x : Plain). length x.elements) (contents_set old new by.container (rearranged by (contents_at old by.container)) is.containers low)
+    ∙ length-map by.sources.items (element_from (elements_at old by.container) (elements_at old by.container))
