@@ -5,8 +5,8 @@ mod KeyLaws
 -- ## What stores have, before and after a change
 mod Stores
 -- ## What is carried out
-mod Appending
-mod Adding
-mod Hashing
-mod Inserting
-mod Making
+mod AppendLaws
+mod AddLaws
+mod HashLaws
+mod InsertLaws
+mod MakeLaws

@@ -18,14 +18,14 @@ left_in picks = drop picks.taken picks.numbers.items
 -- The store shows the memory, in which variables and operands hold these, and the picks are those that are left.
 pub record Carries (st : Store) (picks : Picks) (left : Left) (ps : List Pointer) (vs : List Value) : Type 0 where
   pub holds : Holds st left.memory ps vs
-  pub picks : left_in picks ≡ left.picks
+  pub schedule : left_in picks ≡ left.picks
 
 -- A call on a container, at a site, meets the memory that the store shows and the picks that are left.
 pub record Meets (st : Store) (picks : Picks) (object site : ℕ) (s : Situation) (ps : List Pointer) (vs : List Value) : Type 0 where
   pub holds : Holds st s.memory ps vs
-  pub picks : left_in picks ≡ s.picks
-  pub object : s.object ≡ object
-  pub site : s.site ≡ site
+  pub schedule : left_in picks ≡ s.picks
+  pub on : s.object ≡ object
+  pub at : s.site ≡ site
 
 -- these keys and values are those of elements, and no key is converted
 pub record AreKeyed (xs : List (ℤ × ℤ)) (es : List Element) : Type 0 where

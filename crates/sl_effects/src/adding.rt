@@ -34,5 +34,6 @@ pub fn add_at(
         IsKeyEdit edit.now (cont_at m container) x.0 picks → Holds store.old m ps vs →
         Holds store.new (after (key_change edit.now.class (cont_at m container) x picks) m container (cont_at m container) site) ps vs) }
 {
-    store.edit(container, edit, &[element], site)
+    store.edit(container, edit, &[element], site)?;
+    Ok(())
 }

@@ -69,7 +69,8 @@ fn append(
         key: number,
         value: 0,
     };
-    store.edit(container, &edit, &[element], site)
+    store.edit(container, &edit, &[element], site)?;
+    Ok(())
 }
 
 // The edit by which an element comes at the end of a sequence.

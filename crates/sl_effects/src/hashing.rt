@@ -42,10 +42,11 @@ pub fn insert_hashed(
         Carries store.new picks.new (added class site container (cont_at left.memory container) x left) ps vs) }
 {
     if lacks_room(store, container, 1) {
-        insert_growing(store, alloc, picks, class, container, element, site)
-    } else {
-        insert_fitting(store, picks, class, container, element, site)
+        insert_growing(store, alloc, picks, class, container, element, site)?;
+        return Ok(());
     }
+    insert_fitting(store, picks, class, container, element, site)?;
+    Ok(())
 }
 
 // A new key comes into a hash form that has room.
@@ -73,7 +74,8 @@ fn insert_fitting(
         gone: 0,
         room: store.room(container),
     };
-    add_at(store, container, &edit, element, site)
+    add_at(store, container, &edit, element, site)?;
+    Ok(())
 }
 
 // A new key comes into a hash form that is full: it grows, and all are put in again.
@@ -111,7 +113,8 @@ fn insert_growing(
             all: growth_invalidates(class),
             site,
         },
-    )
+    )?;
+    Ok(())
 }
 
 // Elements in an order, and a new one at a place.

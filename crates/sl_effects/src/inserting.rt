@@ -73,7 +73,8 @@ fn insert_key(
     if known_place(store, container, element.key).is_some() {
         return Ok(());
     }
-    insert_new(store, alloc, picks, class, container, element, site)
+    insert_new(store, alloc, picks, class, container, element, site)?;
+    Ok(())
 }
 
 // A new key comes into a container.
@@ -96,10 +97,11 @@ fn insert_new(
         Carries store.new picks.new (added class site container (cont_at left.memory container) x left) ps vs) }
 {
     if is_hashed(store.form(container)) {
-        insert_hashed(store, alloc, picks, class, container, element, site)
-    } else {
-        insert_ordered(store, class, container, element, site)
+        insert_hashed(store, alloc, picks, class, container, element, site)?;
+        return Ok(());
     }
+    insert_ordered(store, class, container, element, site)?;
+    Ok(())
 }
 
 // A new key comes into a set or map, to its place in the order of keys. It takes no pick.
@@ -126,5 +128,6 @@ fn insert_ordered(
         gone: 0,
         room: store.room(container),
     };
-    add_at(store, container, &edit, element, site)
+    add_at(store, container, &edit, element, site)?;
+    Ok(())
 }

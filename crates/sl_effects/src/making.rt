@@ -36,7 +36,8 @@ pub fn make(
     ensures kept { OnErr result (Stays store.old store.new) }
 {
     picks.skip(taken);
-    store.make(form, room, elements)
+    store.make(form, room, elements)?;
+    Ok(())
 }
 
 /// Makes a container, as the last, into which these elements are put one by one, at a site; the call took so many picks
@@ -62,5 +63,6 @@ pub fn make_by_keys(
     let container = store.containers.len();
     picks.skip(taken);
     store.make(form, room, Vec::new(alloc))?;
-    insert_all(store, alloc, picks, class, container, elements, site)
+    insert_all(store, alloc, picks, class, container, elements, site)?;
+    Ok(())
 }

@@ -42,7 +42,8 @@ pub fn carry_edit(
         Carries store.new picks.new (does form edit.now.class s (edits taken e)) ps vs) }
 {
     picks.skip(taken);
-    store.edit(container, edit, come, site)
+    store.edit(container, edit, come, site)?;
+    Ok(())
 }
 
 /// Puts a container together anew; the call took so many picks. In the memory it is the effect of each change that has the
@@ -63,7 +64,8 @@ pub fn carry_change(
         Carries store.new picks.new (does form class s (changes taken by.container ch)) ps vs) }
 {
     picks.skip(taken);
-    store.rearrange(alloc, by)
+    store.rearrange(alloc, by)?;
+    Ok(())
 }
 
 /// Two containers, the first of which is the object, exchange elements; no pick is taken. In the memory it is the effect of
@@ -81,5 +83,6 @@ pub fn carry_trade(store: &mut Store, alloc: Global, by: Trade) -> Result<(), Al
         IsFine class s (trades by.second.container ch dh) → Meets store.old picks by.first.container by.site s ps vs →
         Carries store.new picks (does form class s (trades by.second.container ch dh)) ps vs) }
 {
-    store.trade(alloc, by)
+    store.trade(alloc, by)?;
+    Ok(())
 }

@@ -115,7 +115,7 @@ put_sources p x order = sym (
   ∙ ap (λ (l : List SourceCode). take p (map (λ (k : ℕ). Old k) order) ++ (New (new_element x) ∷ l)) (sym (drop-map source_code p olds) ∙ ap (drop p) codes))
 )
   where
-    abbrev olds : List Source
+    olds : List Source
     olds = map (λ (k : ℕ). old k) order
 
     codes : map source_code (map (λ (k : ℕ). old k) order) ≡ map (λ (k : ℕ). Old k) order
@@ -169,5 +169,5 @@ pub growth_carries : (old_store new_store : Store) (before later : Picks) (class
 growth_carries old_store new_store before later class by left ps vs x shows is taken few h = record {
   holds = shows left.memory ps vs (key_change class (cont_at left.memory by.container) x left.picks) is
       (key_change-fair class (cont_at left.memory by.container) x left.picks few) h.holds;
-  picks = taken;
+  schedule = taken;
 }

@@ -18,7 +18,7 @@ use Rattle.sl_slots.specs.declared.store.Store.{Store}
 use Rattle.sl_slots.specs.Shown.{Holds, new_element}
 use Rattle.sl_slots.specs.Stored.{elements_at}
 use Rattle.sl_effects.specs.Means.Keys.{IsKeyEdit}
-use Rattle.sl_effects.proofs.Appending.{EditShows}
+use Rattle.sl_effects.proofs.AppendLaws.{EditShows}
 use Rattle.sl_effects.proofs.Stores.{shown_size}
 use Rattle.sl_effects.proofs.Turns.{take_numbers, drop_numbers}
 
@@ -67,7 +67,7 @@ add_shows old_store new_store j site code element shows there within none m ps v
       room = sym edit.room;
     }) (subst (λ (ch : Change). CountsFair c ch) (sym same) (key_change-fair code.class c x picks few)) h)
   where
-    abbrev c : Cont
+    c : Cont
     c = cont_at m j
 
     low : key_place c x.0 picks ≤ size c

@@ -68,10 +68,10 @@ append_carries old new before later j site code element left ps vs x shows at_en
         come_in = ap (λ (y : Element). y ∷ []) is;
         room = sym at_end.room;
       }) (end_fair code.class c x left.picks few) h.holds);
-  picks = taken;
+  schedule = taken;
 }
   where
-    abbrev c : Cont
+    c : Cont
     c = cont_at left.memory j
 
 -- one element more is there
