@@ -1,4 +1,5 @@
-use Rattle.std.proofs.Common.{◌≡◌, ℕ, ℤ, List, length, ◌+◌, ◌≤◌, arith, ap, sym, ◌∙◌, refl, map, subst}
+use Rattle.std.proofs.Common.{◌≡◌, FitsSigned, get_or, w32, rules, ℕ, ℤ, pos, List, length, ◌+◌, ◌≤◌, arith, ap, sym, ◌∙◌, refl, map, subst}
+use Rattle.std.proofs.lemmas.Int.{to_z-of_z}
 use Rattle.std.proofs.lemmas.List.{length-map}
 use Rattle.sl_base.specs.declared.scalar.Scalar.TheVariants.{Int}
 use Rattle.sl_model.specs.Numbers.{converted}
@@ -41,7 +42,8 @@ loop-number-preserved c = record {
   many = c.in_ok-append.ensures.many ∙ c.loop-number.invariant.many;
   long = let a = c.in_ok-append.ensures.size in let b = c.loop-number.invariant.long in omega arith;
   runs = λ left ps vs xs all few h.
+      let fits : FitsSigned w32 (get_or c.args.numbers.now c.loop-number.number-index (pos 0)) = search rules in
       append_next c.args.site c.args.container xs c.args.numbers.now left c.loop-number.number-index c.loop-number.store c.append.new.store
-      c.loop-number.picks c.append.new.picks _ _ ps vs c.in_ok-append.ensures.shows all c.loop-number-test.true ?
+      c.loop-number.picks c.append.new.picks _ (pos 0) ps vs c.in_ok-append.ensures.shows all c.loop-number-test.true (to_z-of_z w32 _ fits)
       (let a = c.loop-number.invariant.many in let d = c.requires.there in omega arith) (c.loop-number.invariant.runs left ps vs xs all few h);
 }
