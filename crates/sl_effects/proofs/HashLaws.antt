@@ -2,7 +2,8 @@
 use Rattle.std.proofs.Common.{◌≡◌, ℕ, ◌+◌, ◌-◌, ◌<◌, ◌≤◌, Bool, true, false, List, [], ◌∷◌, ◌++◌, length, take, drop, map, refl, ap, sym, ◌∙◌, arith, ℤ, subst}
 use Rattle.std.proofs.Common.{if◌then◌else◌}
 use Rattle.std.specs.List.{insert}
-use Rattle.std.proofs.lemmas.List.{take-map, drop-map, map-append, drop-drop}
+use Rattle.std.proofs.lemmas.List.{take-map, drop-map, map-append, drop-drop, length-map}
+use Rattle.std.proofs.lemmas.List.Edits.{length-insert}
 use Rattle.std.proofs.lemmas.Simd.{map-map}
 use Rattle.sl_base.specs.declared.limits.TheConstants.{ELEMENTS}
 use Rattle.sl_specs.specs.declared.class.Class.{Class}
@@ -15,6 +16,7 @@ use Rattle.sl_model.specs.Memory.Schedule.{pick, pick_at, after_picks, put_at, h
 use Rattle.sl_model.specs.Runs.State.{Pointer}
 use Rattle.sl_model.specs.LibraryCalls.Values.{Value}
 use Rattle.sl_model.specs.LibraryCalls.Effects.{Left, is_full, grown_room, ordered_place, key_picks, key_room, key_place, key_order, key_edit, key_change}
+use Rattle.sl_model.proofs.Counts.{length-scattered, length-numbers}
 use Rattle.sl_model.proofs.FairRearrangements.{key_change-fair}
 use Rattle.sl_model.proofs.Places.{CountsFair}
 use Rattle.sl_slots.specs.declared.container.Element.{Element}
@@ -120,6 +122,16 @@ put_sources p x order = sym (
 
     codes : map source_code (map (λ (k : ℕ). old k) order) ≡ map (λ (k : ℕ). Old k) order
     codes = map-map source_code (λ (k : ℕ). old k) order
+
+-- how many there are
+pub sources_long : (order picks : List ℕ) (place n : ℕ) (e : Element) (sources : List SourceCode) → order ≡ scattered picks (numbers 0 n) → place ≤ n
+    → sources ≡ insert (map (λ (k : ℕ). Old k) order) place (New e) → length sources ≡ n + 1
+sources_long order picks place n e sources is low all =
+    let a : length order ≡ n = ap (λ (l : List ℕ). length l) is ∙ (length-scattered picks (numbers 0 n) ∙ length-numbers 0 n) in
+    let b : length (map (λ (k : ℕ). Old k) order) ≡ length order = length-map order (λ (k : ℕ). Old k) in
+    let d : length (insert (map (λ (k : ℕ). Old k) order) place (New e)) ≡ length (map (λ (k : ℕ). Old k) order) + 1 =
+    length-insert (map (λ (k : ℕ). Old k) order) place (New e) (omega arith) in
+    ap (λ (l : List SourceCode). length l) all ∙ (d ∙ (omega arith))
 
 -- a class of rows that put keys in, where a hash form grows
 growth_kills : (class : Class) (c : Cont) (x : ℤ × ℤ) (picks : List ℕ) (k : ℕ) → is_key_class class ≡ true → is_full c 1 ≡ true

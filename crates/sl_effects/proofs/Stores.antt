@@ -1,5 +1,5 @@
 -- What a store has of a container: what the memory has that it shows, and what a change leaves.
-use Rattle.std.proofs.Common.{◌≡◌, ℕ, ◌+◌, ◌-◌, ◌<◌, ◌≤◌, ◌++◌, List, [], Option, Some, None, length, map, take, drop, ap, sym, ◌∙◌, arith, ℤ, subst, length-append}
+use Rattle.std.proofs.Common.{◌≡◌, ℕ, ◌+◌, ◌-◌, ◌<◌, ◌≤◌, ◌++◌, List, [], Option, Some, None, length, map, take, drop, get_or, ap, sym, ◌∙◌, arith, ℤ, subst, length-append}
 use Rattle.std.specs.List.{slice_get, slice_set}
 use Rattle.std.proofs.Math.ListN.{length-set}
 use Rattle.std.proofs.lemmas.List.{length-map, length-take-le, length-drop}
@@ -18,7 +18,7 @@ use Rattle.sl_slots.specs.declared.store.Store.{Store}
 use Rattle.sl_slots.specs.Rearranging.{element_from}
 use Rattle.sl_slots.specs.Shown.{Plain, plain, contents, element_of, Holds}
 use Rattle.sl_slots.specs.Stored.{contents_at, elements_at, edited, Edited, rearranged, Rearranged}
-use Rattle.sl_slots.proofs.ReadingShows.{contents_shown, listed, contents-listed}
+use Rattle.sl_slots.proofs.ReadingShows.{contents_shown, listed, contents-listed, read_there, elements-there}
 use Rattle.sl_effects.specs.Means.Keys.{keys_of}
 
 -- ## What it shows
@@ -28,6 +28,10 @@ module _ (st : Store) (m : Memory) (ps : List Pointer) (vs : List Value) (h : Ho
   pub shown_there : slice_get m.conts j ≡ Some (cont_at m j)
   shown_there = (contents_shown st m ps vs h j low).0
 
+  -- it has the same form
+  pub shown_form : (contents_at st j).form ≡ (cont_at m j).form
+  shown_form = ap (λ (x : Plain). x.form) (contents_shown st m ps vs h j low).1
+
   -- it has as many elements
   pub shown_size : length (elements_at st j) ≡ size (cont_at m j)
   shown_size = ap (λ (x : Plain). length x.elements) (contents_shown st m ps vs h j low).1 ∙ length-map (cont_at m j).cells element_of
@@ -36,6 +40,11 @@ module _ (st : Store) (m : Memory) (ps : List Pointer) (vs : List Value) (h : Ho
   pub shown_keys : keys_of (elements_at st j) ≡ keys (cont_at m j)
   shown_keys = ap (λ (x : Plain). keys_of x.elements) (contents_shown st m ps vs h j low).1
       ∙ map-map (λ (x : Element). x.key) element_of (cont_at m j).cells
+
+-- the elements that are read of a container
+pub read_elements : (st : Store) (j : ℕ) (c : Container) (es : List Element) → j < length st.containers.items
+    → c ≡ get_or st.containers.items j c → es ≡ c.elements.items → es ≡ elements_at st j
+read_elements st j c es low read is = is ∙ sym (elements-there st j c (read_there st.containers.items j c low read))
 
 -- ## What a change leaves
 
