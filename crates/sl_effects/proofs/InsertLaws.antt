@@ -1,6 +1,7 @@
 -- Keys that come one by one: which are kept out, where the others go, and what all of them leave.
 use Rattle.std.proofs.Common.{◌≡◌, ℕ, suc, ◌+◌, ◌<◌, ◌≤◌, Bool, true, false, List, [], ◌∷◌, Option, Some, None, length, map, drop, get_or, refl, ap, sym, ◌∙◌}
 use Rattle.std.proofs.Common.{arith, ℤ, pos, subst, if◌then◌else◌}
+use Rattle.std.specs.Option.{is_some}
 use Rattle.std.proofs.lemmas.List.{at_drop_more, length-map, get_or-map, drop_all}
 use Rattle.sl_base.specs.declared.limits.TheConstants.{ELEMENTS}
 use Rattle.sl_specs.specs.declared.class.Class.{Class}
@@ -59,6 +60,17 @@ inserted_new class site j c x left e = ap (λ (o : Option ℕ). elim o as (λ _.
 pub inserted_known : (class : Class) (site j : ℕ) (c : Cont) (x : ℤ × ℤ) (left : Left) (k : ℕ) → known_key c x.0 ≡ Some k
     → insert_key class site j c x left ≡ left
 inserted_known class site j c x left k e = ap (λ (o : Option ℕ). elim o as (λ _. Left) [ None ↦ added class site j c x left | Some k ↦ left ]) e
+
+-- what was found keeps it out
+pub keeps_out : (class : Class) (site j : ℕ) (c : Cont) (x : ℤ × ℤ) (left : Left) (r : Option ℕ) → r ≡ known_key c x.0 → is_some r ≡ true
+    → insert_key class site j c x left ≡ left
+keeps_out class site j c x left None e found = absurd (cc)
+keeps_out class site j c x left (Some k) e found = inserted_known class site j c x left k (sym e)
+
+-- nothing was found
+pub comes_in : (c : Cont) (k : ℤ) (r : Option ℕ) → r ≡ known_key c k → is_some r ≡ false → known_key c k ≡ None
+comes_in c k None e found = sym e
+comes_in c k (Some i) e found = absurd (cc)
 
 -- a new key is one element more
 pub room_for_one : (class : Class) (c : Cont) (x : ℤ × ℤ) (ks : List ℤ) → known_key c x.0 ≡ None → size c + new_keys c (x.0 ∷ ks) ≤ ELEMENTS
