@@ -1,7 +1,9 @@
 -- A container into which keys are put when it is made.
-use Rattle.std.proofs.Common.{◌≡◌, ℕ, suc, ◌+◌, ◌<◌, ◌≤◌, Bool, true, false, List, [], ◌∷◌, ◌++◌, Some, length, map, refl, ap, sym, ◌∙◌, arith, ℤ, if◌then◌else◌}
+use Rattle.std.proofs.Common.{◌≡◌, ℕ, suc, ◌+◌, ◌<◌, ◌≤◌, Bool, true, false, List, [], ◌∷◌, ◌++◌, Option, Some, None, length, map, refl, ap, sym, ◌∙◌, arith, ℤ, if◌then◌else◌}
+use Rattle.std.specs.List.{slice_get}
 use Rattle.std.proofs.lemmas.List.{length-map, length_push}
 use Rattle.sl_base.specs.declared.form.Form.{Form}
+use Rattle.sl_base.specs.declared.form.Form.TheVariants.{Vector}
 use Rattle.sl_base.specs.declared.limits.TheConstants.{ELEMENTS}
 use Rattle.sl_base.specs.declared.scalar.Scalar.TheVariants as t
 use Rattle.sl_specs.specs.declared.class.Class.{Class}
@@ -13,15 +15,19 @@ use Rattle.sl_model.specs.Memory.Schedule.{after_picks}
 use Rattle.sl_model.specs.Runs.State.{Pointer}
 use Rattle.sl_model.specs.LibraryCalls.Values.{Value}
 use Rattle.sl_model.specs.LibraryCalls.Situation.{Situation, own}
-use Rattle.sl_model.specs.LibraryCalls.Actions.{inserts}
+use Rattle.sl_model.specs.LibraryCalls.Actions.{inserts, makes_by_keys}
+use Rattle.sl_model.specs.LibraryCalls.Effects.{does}
 use Rattle.sl_model.specs.LibraryCalls.KeyActions.{count_new, new_keys}
 use Rattle.sl_model.proofs.After.{cont_of_there}
 use Rattle.sl_model.proofs.FineEffects.{IsThere, IsFine, keys_in}
+use Rattle.sl_model.proofs.Getting.{get_behind}
 use Rattle.sl_model.proofs.Making.{fresh_cont, made-there, fresh-size}
 use Rattle.sl_slots.specs.declared.container.Element.{Element}
 use Rattle.sl_slots.specs.declared.store.Store.{Store}
 use Rattle.sl_slots.specs.Shown.{Plain, plain, contents, Holds}
 use Rattle.sl_slots.specs.Stored.{Made, contents_at, elements_at}
+use Rattle.sl_effects.specs.declared.picks.Picks.{Picks}
+use Rattle.sl_effects.specs.Carried.{left_in, AreKeyed, Carries, Meets}
 use Rattle.sl_slots.proofs.ReadingShows.{listed, contents-listed}
 
 -- ## How many keys come
@@ -59,7 +65,7 @@ fine_made form room n class s xs last few = (there, few')
         ∙ cont_of_there (made form room [] s.memory) (length s.memory.conts) (fresh_cont form room [] s.memory) (made-there form room [] s.memory)
 
     there : IsThere (made form room [] s.memory) s.object
-    there = let e = made-there form room [] s.memory in cc
+    there = ap (slice_get (made form room [] s.memory).conts) last ∙ (made-there form room [] s.memory ∙ ap (λ (c : Cont). Some c) (sym is))
 
     few' : size (cont_at (made form room [] s.memory) s.object) + new_keys (cont_at (made form room [] s.memory) s.object) (keys_in xs) ≤ ELEMENTS
     few' =
@@ -82,10 +88,35 @@ many_made old new form room es is = sym (length-map new.containers.items content
     ∙ (length_push (map contents old.containers.items) (record { form = form; elements = es; room = room })
     ∙ ap (λ (n : ℕ). n + 1) (length-map old.containers.items contents)))
 
+-- the last of these
+last_listed : (l : List Plain) (p : Plain) (n : ℕ) → n ≡ length l + 0 → listed (l ++ p ∷ []) n ≡ p
+last_listed l p n e = ap (listed (l ++ p ∷ [])) e
+    ∙ ap (λ (o : Option Plain). elim o as (λ _. Plain) [ None ↦ record { form = Vector; elements = []; room = 0 } | Some q ↦ q ]) (get_behind l (p ∷ []) 0)
+
 -- the elements of the last one
 pub elements_made : (old new : Store) (form : Form) (room : ℕ) (es : List Element) → Made form room es old new
     → elements_at new (length old.containers.items) ≡ es
 elements_made old new form room es is =
+    let n : length (map contents old.containers.items) ≡ length old.containers.items = length-map old.containers.items contents in
     ap (λ (p : Plain). p.elements)
     (contents-listed new (length old.containers.items)
-    ∙ (ap (λ (l : List Plain). listed l (length old.containers.items)) is.containers ∙ ?))
+    ∙ (ap (λ (l : List Plain). listed l (length old.containers.items)) is.containers
+    ∙ last_listed (map contents old.containers.items) (record { form = form; elements = es; room = room }) (length old.containers.items) (omega arith)))
+
+-- ## What is put into it
+
+-- what the insertions show of a call on the container that was made
+pub made_carries : (st : Store) (made_store new : Store) (before taken later : Picks) (form : Form) (class : Class) (room n container site : ℕ)
+    (s : Situation) (ps : List Pointer) (vs : List Value) (xs : List (ℤ × ℤ)) (es : List Element)
+    → ((s : Situation) → AreKeyed xs es → IsFine class s (inserts xs) → Meets made_store taken container site s ps vs
+    → Carries new later (does form class s (inserts xs)) ps vs)
+    → Holds made_store (made form room [] s.memory) ps vs → left_in taken ≡ after_picks n (left_in before) → container ≡ length st.containers.items
+    → AreKeyed xs es → IsFine class s (makes_by_keys n room xs) → Meets st before s.object site s ps vs
+    → Carries new later (does form class s (makes_by_keys n room xs)) ps vs
+made_carries st made_store new before taken later form class room n container site s ps vs xs es shows holds skipped last keyed fine h =
+    shows (made_empty form room n s) keyed (fine_made form room n class s xs fine.0 fine.1) (record {
+      holds = holds;
+      schedule = skipped ∙ ap (after_picks n) h.schedule;
+      on = fine.0 ∙ sym (last ∙ many_shown st s.memory ps vs h.holds);
+      at = h.at;
+    })

@@ -9,4 +9,5 @@ returns c = record {
     holds = c.in_ok-make.ensures.shows s.memory ps vs xs is few h.holds;
     schedule = c.skip.ensures ∙ ap (drop c.args.taken) h.schedule;
   };
+  kept = tt;
 }

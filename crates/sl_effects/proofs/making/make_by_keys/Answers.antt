@@ -1,7 +1,32 @@
+use Rattle.std.proofs.Common.{◌≡◌, ℕ, ◌+◌, ◌≤◌, List, [], length, ap, sym, ◌∙◌, refl, subst, arith}
+use Rattle.sl_slots.specs.declared.container.Element.{Element}
+use Rattle.sl_slots.specs.declared.store.Store.{Store}
+use Rattle.sl_slots.specs.Shown.{Holds}
+use Rattle.sl_slots.specs.Stored.{Made, elements_at}
+use Rattle.sl_model.specs.Memory.Containers.{made}
+use Rattle.sl_effects.proofs.MakeLaws.{many_made, elements_made, made_carries}
 use Rattle.sl_effects.proofs.making.make_by_keys.Goals as goal
 
-pub returns : goal.returns
-returns c = let a = c.len-container.ensures in let b = c.in_ok-make.ensures in let d = c.new.ensures in ?
-
 pub insert_all-requires : goal.insert_all-requires
-insert_all-requires c = ?
+insert_all-requires c =
+    let old = c.args.store.now in
+    let last : c.len-container.result ≡ length old.containers.items = c.len-container.ensures ∙ old.containers.ok.0 in
+    let more : length c.make.new.self.containers.items ≡ length old.containers.items + 1 =
+    many_made old c.make.new.self c.args.form c.args.room c.new.result.items c.in_ok-make.ensures.made in
+    let none : length (elements_at c.make.new.self c.len-container.result) ≡ 0 =
+    ap (λ (j : ℕ). length (elements_at c.make.new.self j)) last
+    ∙ ap (λ (l : List Element). length l)
+    (elements_made old c.make.new.self c.args.form c.args.room c.new.result.items c.in_ok-make.ensures.made ∙ c.new.ensures.items) in
+    let r = c.requires in record { there = omega arith; few = omega arith }
+
+pub returns : goal.returns
+returns c =
+    let old = c.args.store.now in
+    let last : c.len-container.result ≡ length old.containers.items = c.len-container.ensures ∙ old.containers.ok.0 in record {
+      many = c.in_ok-insert_all.ensures.many ∙ many_made old c.make.new.self c.args.form c.args.room c.new.result.items c.in_ok-make.ensures.made;
+      shows = λ s ps vs xs class keyed fine h.
+          made_carries old c.make.new.self c.insert_all.new.store c.args.picks.now _ c.insert_all.new.picks c.args.form c.args.class
+          c.args.room c.args.taken c.len-container.result c.args.site s ps vs xs c.args.elements.now
+          (λ t keyed' fine' meets. c.in_ok-insert_all.ensures.shows c.args.form t ps vs xs class keyed' fine' meets)
+          (c.in_ok-make.ensures.shows s.memory ps vs [] (sym c.new.ensures.items) (omega arith) h.holds) c.skip.ensures last keyed fine h;
+    }
