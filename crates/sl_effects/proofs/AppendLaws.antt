@@ -1,6 +1,6 @@
 -- Numbers that come one by one at the end of a sequence.
-use Rattle.std.proofs.Common.{◌≡◌, ℕ, suc, ◌+◌, ◌-◌, ◌<◌, ◌≤◌, List, [], ◌∷◌, length, map, drop, get_or, refl, ap, sym, ◌∙◌, arith, ℤ, pos, subst}
-use Rattle.std.proofs.lemmas.List.{at_drop_more, length-map, length-drop, get_or-map, drop_all}
+use Rattle.std.proofs.Common.{◌≡◌, ℕ, suc, ◌+◌, ◌-◌, ◌<◌, ◌≤◌, List, [], ◌∷◌, length, map, drop, get_or, refl, ap, sym, ◌∙◌, arith, ℤ, subst}
+use Rattle.std.proofs.lemmas.List.{at_drop_more, length-map, get_or-map, drop_all}
 use Rattle.sl_base.specs.declared.limits.TheConstants.{ELEMENTS}
 use Rattle.sl_base.specs.declared.scalar.Scalar.TheVariants as t
 use Rattle.sl_specs.specs.declared.class.Class.{Class}

@@ -1,5 +1,5 @@
 -- New keys in hash forms: which picks they take, and where they go.
-use Rattle.std.proofs.Common.{◌≡◌, ℕ, ◌+◌, ◌-◌, ◌<◌, ◌≤◌, Bool, true, false, List, [], ◌∷◌, ◌++◌, length, take, drop, map, refl, ap, sym, ◌∙◌, arith, ℤ, subst}
+use Rattle.std.proofs.Common.{◌≡◌, ℕ, ◌+◌, ◌-◌, ◌≤◌, Bool, true, false, List, ◌∷◌, ◌++◌, length, take, drop, map, refl, ap, sym, ◌∙◌, arith, ℤ}
 use Rattle.std.proofs.Common.{if◌then◌else◌}
 use Rattle.std.specs.List.{insert}
 use Rattle.std.proofs.lemmas.List.{take-map, drop-map, map-append, drop-drop, length-map}
@@ -28,7 +28,7 @@ use Rattle.sl_slots.specs.Rearranging.{IsRearranged, source_code}
 use Rattle.sl_slots.specs.Shown.{Holds, new_element}
 use Rattle.sl_effects.specs.declared.picks.Picks.{Picks}
 use Rattle.sl_effects.specs.Carried.{left_in, Carries, is_key_class}
-use Rattle.sl_effects.specs.Means.Keys.{added, grows_over, IsKeyEdit}
+use Rattle.sl_effects.specs.Means.Keys.{added, grows_over}
 
 -- ## What a new key takes, by whether the form is a hash form and whether it is full
 
@@ -112,10 +112,10 @@ module _ (c : Cont) (picks : List ℕ) where
 put_sources : (p : ℕ) (x : ℤ × ℤ) (order : List ℕ)
     → insert (map (λ (k : ℕ). Old k) order) p (New (new_element x)) ≡ map source_code (put_at p (new x.0 x.1) (map (λ (k : ℕ). old k) order))
 put_sources p x order = sym (
-  map-append source_code (take p olds) (new x.0 x.1 ∷ drop p olds)
-  ∙ (ap (λ (l : List SourceCode). l ++ (New (new_element x) ∷ map source_code (drop p olds))) (sym (take-map source_code p olds) ∙ ap (take p) codes)
-  ∙ ap (λ (l : List SourceCode). take p (map (λ (k : ℕ). Old k) order) ++ (New (new_element x) ∷ l)) (sym (drop-map source_code p olds) ∙ ap (drop p) codes))
-)
+    map-append source_code (take p olds) (new x.0 x.1 ∷ drop p olds)
+    ∙ (ap (λ (l : List SourceCode). l ++ (New (new_element x) ∷ map source_code (drop p olds))) (sym (take-map source_code p olds) ∙ ap (take p) codes)
+    ∙ ap (λ (l : List SourceCode). take p (map (λ (k : ℕ). Old k) order) ++ (New (new_element x) ∷ l)) (sym (drop-map source_code p olds) ∙ ap (drop p) codes))
+    )
   where
     olds : List Source
     olds = map (λ (k : ℕ). old k) order

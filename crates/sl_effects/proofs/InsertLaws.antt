@@ -1,11 +1,11 @@
 -- Keys that come one by one: which are kept out, where the others go, and what all of them leave.
-use Rattle.std.proofs.Common.{◌≡◌, ℕ, suc, ◌+◌, ◌<◌, ◌≤◌, Bool, true, false, List, [], ◌∷◌, Option, Some, None, length, map, drop, get_or, refl, ap, sym, ◌∙◌}
+use Rattle.std.proofs.Common.{◌≡◌, ℕ, ◌+◌, ◌<◌, ◌≤◌, Bool, true, false, List, [], ◌∷◌, Option, Some, None, length, map, drop, get_or, refl, ap, sym, ◌∙◌}
 use Rattle.std.proofs.Common.{arith, ℤ, pos, subst, if◌then◌else◌}
 use Rattle.std.specs.Option.{is_some}
 use Rattle.std.proofs.lemmas.List.{at_drop_more, length-map, get_or-map, drop_all}
 use Rattle.sl_base.specs.declared.limits.TheConstants.{ELEMENTS}
 use Rattle.sl_specs.specs.declared.class.Class.{Class}
-use Rattle.sl_model.specs.Memory.Containers.{Cont, Memory, cont_at, size, keys}
+use Rattle.sl_model.specs.Memory.Containers.{Cont, cont_at, size, keys}
 use Rattle.sl_model.specs.Memory.Edits.{Change, after, changed}
 use Rattle.sl_model.specs.Memory.Forms.{holds_equal_keys}
 use Rattle.sl_model.specs.Memory.Orders.{how_many, index_of_key}

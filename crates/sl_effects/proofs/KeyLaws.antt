@@ -1,5 +1,5 @@
 -- The key that a scan of elements is looking for, and how many keys go before it.
-use Rattle.std.proofs.Common.{◌≡◌, ℕ, suc, ◌+◌, ◌<◌, Bool, true, false, List, ◌∷◌, ◌++◌, Option, Some, length, map, take, drop, get_or, refl, ap, sym, ◌∙◌, arith, ℤ, subst}
+use Rattle.std.proofs.Common.{◌≡◌, ℕ, ◌+◌, ◌<◌, Bool, true, false, List, Some, length, take, drop, get_or, ap, sym, ◌∙◌, arith, ℤ}
 use Rattle.std.proofs.Common.{if◌then◌else◌}
 use Rattle.std.proofs.lemmas.List.{at_drop_more, length-map, get_or-map}
 use Rattle.std.proofs.lemmas.List.Filters.{length-filter_more}

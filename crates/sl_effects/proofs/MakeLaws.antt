@@ -1,5 +1,5 @@
 -- A container into which keys are put when it is made.
-use Rattle.std.proofs.Common.{◌≡◌, ℕ, suc, ◌+◌, ◌<◌, ◌≤◌, Bool, true, false, List, [], ◌∷◌, ◌++◌, Option, Some, None, length, map, refl, ap, sym, ◌∙◌, arith, ℤ, if◌then◌else◌}
+use Rattle.std.proofs.Common.{◌≡◌, ℕ, suc, ◌+◌, ◌≤◌, Bool, true, false, List, [], ◌∷◌, ◌++◌, Option, Some, None, length, map, ap, sym, ◌∙◌, arith, ℤ, if◌then◌else◌}
 use Rattle.std.specs.List.{slice_get}
 use Rattle.std.proofs.lemmas.List.{length-map, length_push}
 use Rattle.sl_base.specs.declared.form.Form.{Form}
@@ -14,7 +14,7 @@ use Rattle.sl_model.specs.Memory.Orders.{has}
 use Rattle.sl_model.specs.Memory.Schedule.{after_picks}
 use Rattle.sl_model.specs.Runs.State.{Pointer}
 use Rattle.sl_model.specs.LibraryCalls.Values.{Value}
-use Rattle.sl_model.specs.LibraryCalls.Situation.{Situation, own}
+use Rattle.sl_model.specs.LibraryCalls.Situation.{Situation}
 use Rattle.sl_model.specs.LibraryCalls.Actions.{inserts, makes_by_keys}
 use Rattle.sl_model.specs.LibraryCalls.Effects.{does}
 use Rattle.sl_model.specs.LibraryCalls.KeyActions.{count_new, new_keys}
@@ -25,7 +25,7 @@ use Rattle.sl_model.proofs.Making.{fresh_cont, made-there, fresh-size}
 use Rattle.sl_slots.specs.declared.container.Element.{Element}
 use Rattle.sl_slots.specs.declared.store.Store.{Store}
 use Rattle.sl_slots.specs.Shown.{Plain, plain, contents, Holds}
-use Rattle.sl_slots.specs.Stored.{Made, contents_at, elements_at}
+use Rattle.sl_slots.specs.Stored.{Made, elements_at}
 use Rattle.sl_effects.specs.declared.picks.Picks.{Picks}
 use Rattle.sl_effects.specs.Carried.{left_in, AreKeyed, Carries, Meets}
 use Rattle.sl_slots.proofs.ReadingShows.{listed, contents-listed}

@@ -1,5 +1,5 @@
 -- Elements that are put into a hash order one by one.
-use Rattle.std.proofs.Common.{◌≡◌, ℕ, suc, ◌+◌, ◌-◌, ◌<◌, List, ◌∷◌, length, drop, refl, ap, sym, ◌∙◌, arith}
+use Rattle.std.proofs.Common.{◌≡◌, ℕ, suc, ◌+◌, ◌-◌, ◌<◌, List, ◌∷◌, length, drop, ap, sym, ◌∙◌, arith}
 use Rattle.std.specs.List.{insert}
 use Rattle.sl_model.specs.Memory.Edits.{numbers}
 use Rattle.sl_model.specs.Memory.Schedule.{pick, put_at, put_all, hash_place}

@@ -1,11 +1,11 @@
 -- What a store has of a container: what the memory has that it shows, and what a change leaves.
-use Rattle.std.proofs.Common.{◌≡◌, ℕ, ◌+◌, ◌-◌, ◌<◌, ◌≤◌, ◌++◌, List, [], Option, Some, None, length, map, take, drop, get_or, ap, sym, ◌∙◌, arith, ℤ, subst, length-append}
+use Rattle.std.proofs.Common.{◌≡◌, ℕ, ◌+◌, ◌-◌, ◌<◌, ◌≤◌, ◌++◌, List, [], Option, Some, None, length, map, take, drop, get_or, ap, sym, ◌∙◌, arith, length-append}
 use Rattle.std.specs.List.{slice_get, slice_set}
 use Rattle.std.proofs.Math.ListN.{length-set}
 use Rattle.std.proofs.lemmas.List.{length-map, length-take-le, length-drop}
 use Rattle.std.proofs.lemmas.Simd.{map-map}
 use Rattle.sl_base.specs.declared.form.Form.TheVariants.{Vector}
-use Rattle.sl_model.specs.Memory.Containers.{Cell, Cont, Memory, cont_at, size, keys}
+use Rattle.sl_model.specs.Memory.Containers.{Memory, cont_at, size, keys}
 use Rattle.sl_model.specs.Runs.State.{Pointer}
 use Rattle.sl_model.specs.LibraryCalls.Values.{Value}
 use Rattle.sl_model.proofs.Getting.{get_set_same}
@@ -13,10 +13,9 @@ use Rattle.sl_slots.specs.declared.edit.Edit.{Edit}
 use Rattle.sl_slots.specs.declared.container.Element.{Element}
 use Rattle.sl_slots.specs.declared.container.Container.{Container}
 use Rattle.sl_slots.specs.declared.rearrangement.Rearrangement.{Rearrangement}
-use Rattle.sl_slots.specs.declared.source.Source.{Source}
 use Rattle.sl_slots.specs.declared.store.Store.{Store}
 use Rattle.sl_slots.specs.Rearranging.{element_from}
-use Rattle.sl_slots.specs.Shown.{Plain, plain, contents, element_of, Holds}
+use Rattle.sl_slots.specs.Shown.{Plain, contents, element_of, Holds}
 use Rattle.sl_slots.specs.Stored.{contents_at, elements_at, edited, Edited, rearranged, Rearranged}
 use Rattle.sl_slots.proofs.ReadingShows.{contents_shown, listed, contents-listed, read_there, elements-there}
 use Rattle.sl_effects.specs.Means.Keys.{keys_of}

@@ -1,5 +1,5 @@
 -- Numbers in turn that are cut in two.
-use Rattle.std.proofs.Common.{◌≡◌, ℕ, zero, suc, ◌+◌, ◌-◌, ◌≤◌, ◌∷◌, take, drop, refl, ap, ◌∙◌, arith, map, List}
+use Rattle.std.proofs.Common.{◌≡◌, ℕ, zero, suc, ◌+◌, ◌-◌, ◌≤◌, ◌∷◌, take, drop, refl, ap, ◌∙◌, arith, List}
 use Rattle.sl_model.specs.Memory.Edits.{numbers}
 
 -- the first p of them

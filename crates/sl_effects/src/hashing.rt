@@ -118,7 +118,12 @@ fn insert_growing(
 }
 
 // Elements in an order, and a new one at a place.
-fn sources_with(alloc: Global, order: &[usize], place: usize, element: Element) -> Result<Vec<Source>, AllocError>
+fn sources_with(
+    alloc: Global,
+    order: &[usize],
+    place: usize,
+    element: Element,
+) -> Result<Vec<Source>, AllocError>
     requires { place ≤ length order.now }
     ensures { IfOk result (λ made. made.items ≡ insert (map (λ (k : ℕ). Old k) order.now) place (New element)) }
 {

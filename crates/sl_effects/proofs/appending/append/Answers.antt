@@ -1,9 +1,6 @@
-use Rattle.std.proofs.Common.{◌≡◌, ℤ, pos, ap, sym, ◌∙◌, w32, ℕ, ◌+◌, List, length, arith}
+use Rattle.std.proofs.Common.{ℤ, pos, ap, sym, ◌∙◌, w32, arith}
 use Rattle.std.proofs.lemmas.Int.{to_z-of_z}
 use Rattle.sl_slots.specs.declared.container.Element.{Element}
-use Rattle.sl_slots.specs.Shown.{new_element}
-use Rattle.sl_slots.specs.Stored.{elements_at}
-use Rattle.sl_model.specs.LibraryCalls.Situation.{item}
 use Rattle.sl_effects.proofs.AppendLaws.{append_carries}
 use Rattle.sl_effects.proofs.Stores.{many_edited, size_edited}
 use Rattle.sl_effects.proofs.appending.append.Goals as goal

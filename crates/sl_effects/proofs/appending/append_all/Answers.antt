@@ -1,4 +1,4 @@
-use Rattle.std.proofs.Common.{◌≡◌, FitsSigned, get_or, w32, rules, ℕ, ℤ, pos, List, length, ◌+◌, ◌≤◌, arith, ap, sym, ◌∙◌, refl, map, subst}
+use Rattle.std.proofs.Common.{◌≡◌, FitsSigned, get_or, w32, rules, ℕ, ℤ, pos, List, length, ◌≤◌, arith, ap, sym, ◌∙◌, refl, map, subst}
 use Rattle.std.proofs.lemmas.Int.{to_z-of_z}
 use Rattle.std.proofs.lemmas.List.{length-map}
 use Rattle.sl_base.specs.declared.scalar.Scalar.TheVariants.{Int}

@@ -1,4 +1,4 @@
-use Rattle.std.proofs.Common.{◌≡◌, ℕ, ◌+◌, ◌≤◌, List, length, drop, map, true, ap, sym, ◌∙◌, refl, arith}
+use Rattle.std.proofs.Common.{◌≡◌, ℕ, ◌+◌, List, length, drop, map, true, ap, sym, ◌∙◌, arith}
 use Rattle.std.specs.List.{insert}
 use Rattle.sl_specs.specs.Forms.{is_hash}
 use Rattle.sl_slots.specs.declared.container.Element.{Element}

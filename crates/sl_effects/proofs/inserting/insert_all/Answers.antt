@@ -1,4 +1,4 @@
-use Rattle.std.proofs.Common.{◌≡◌, ℕ, ℤ, pos, List, length, ◌+◌, ◌≤◌, map, arith, ap, sym, ◌∙◌, refl, subst}
+use Rattle.std.proofs.Common.{◌≡◌, ℕ, pos, List, length, ◌+◌, ◌≤◌, map, arith, ap, sym, ◌∙◌, refl, subst}
 use Rattle.std.proofs.lemmas.List.{length-map}
 use Rattle.sl_slots.specs.declared.container.Element.{Element}
 use Rattle.sl_slots.specs.Shown.{new_element}

@@ -1,9 +1,8 @@
-use Rattle.std.proofs.Common.{◌≡◌, ◌≤◌, ◌+◌, ℕ, ℤ, Option, None, arith, refl, ap, sym, ◌∙◌, subst, w32, FitsSigned, rules}
+use Rattle.std.proofs.Common.{◌≡◌, None, arith, refl, ap, sym, ◌∙◌, subst, w32, FitsSigned, rules}
 use Rattle.std.proofs.lemmas.Int.{to_z-of_z}
 use Rattle.sl_model.specs.Memory.Containers.{cont_at}
-use Rattle.sl_model.specs.LibraryCalls.Effects.{Left, known_key, insert_key}
+use Rattle.sl_model.specs.LibraryCalls.Effects.{Left, known_key}
 use Rattle.sl_effects.specs.Carried.{Carries}
-use Rattle.sl_effects.specs.Means.Keys.{added}
 use Rattle.sl_effects.proofs.InsertLaws.{inserted_new, keeps_out, comes_in, room_for_one}
 use Rattle.sl_effects.proofs.inserting.insert_key.Goals as goal
 

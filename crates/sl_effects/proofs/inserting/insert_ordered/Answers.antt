@@ -1,4 +1,4 @@
-use Rattle.std.proofs.Common.{◌≡◌, ℕ, ℤ, List, drop, false, ap, sym, ◌∙◌, w32, FitsSigned, rules}
+use Rattle.std.proofs.Common.{◌≡◌, ℕ, drop, false, ap, sym, ◌∙◌, w32, FitsSigned, rules}
 use Rattle.std.proofs.lemmas.Int.{to_z-of_z}
 use Rattle.sl_specs.specs.Forms.{is_hash}
 use Rattle.sl_model.specs.Memory.Containers.{cont_at}

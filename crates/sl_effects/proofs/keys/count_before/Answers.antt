@@ -1,4 +1,4 @@
-use Rattle.std.proofs.Common.{sym, ◌∙◌, arith, ◌≡◌, ◌+◌, true, false}
+use Rattle.std.proofs.Common.{sym, ◌∙◌, arith, ◌≡◌, ◌+◌}
 use Rattle.sl_effects.specs.Means.Keys.{goes_before}
 use Rattle.sl_effects.proofs.KeyLaws.{counted_one, counted_none}
 use Rattle.sl_effects.proofs.keys.count_before.Goals as goal

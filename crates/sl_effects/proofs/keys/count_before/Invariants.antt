@@ -6,5 +6,5 @@ use Rattle.sl_effects.proofs.keys.count_before.Given as goal
 abbrev pub invariant-loop-i : goal.invariant-loop-i
 invariant-loop-i l = record {
   few : l.count ≤ l.i;
-  counted : l.count ≡ how_many (goes_before l.equal l.key) (take l.i (keys_of l.elements))
+  counted : l.count ≡ how_many (goes_before l.equal l.key) (take l.i (keys_of l.elements));
 }

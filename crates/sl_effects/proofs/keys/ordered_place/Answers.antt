@@ -1,4 +1,4 @@
-use Rattle.std.proofs.Common.{◌≡◌, ◌≤◌, List, length, subst, ap, sym, ◌∙◌, w32}
+use Rattle.std.proofs.Common.{◌≤◌, List, length, subst, ap, ◌∙◌, w32}
 use Rattle.std.proofs.lemmas.Int.{to_z-of_z}
 use Rattle.sl_model.specs.Memory.Containers.{cont_at}
 use Rattle.sl_model.specs.Memory.Forms.{holds_equal_keys}

@@ -1,4 +1,4 @@
-use Rattle.std.proofs.Common.{◌≡◌, drop, ap, ◌∙◌}
+use Rattle.std.proofs.Common.{drop, ap, ◌∙◌}
 use Rattle.sl_effects.proofs.MakeLaws.{many_made}
 use Rattle.sl_effects.proofs.making.make.Goals as goal
 

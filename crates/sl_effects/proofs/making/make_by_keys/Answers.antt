@@ -1,9 +1,6 @@
-use Rattle.std.proofs.Common.{◌≡◌, ℕ, ◌+◌, ◌≤◌, List, [], length, ap, sym, ◌∙◌, refl, subst, arith}
+use Rattle.std.proofs.Common.{◌≡◌, ℕ, ◌+◌, List, [], length, ap, sym, ◌∙◌, arith}
 use Rattle.sl_slots.specs.declared.container.Element.{Element}
-use Rattle.sl_slots.specs.declared.store.Store.{Store}
-use Rattle.sl_slots.specs.Shown.{Holds}
-use Rattle.sl_slots.specs.Stored.{Made, elements_at}
-use Rattle.sl_model.specs.Memory.Containers.{made}
+use Rattle.sl_slots.specs.Stored.{elements_at}
 use Rattle.sl_effects.proofs.MakeLaws.{many_made, elements_made, made_carries}
 use Rattle.sl_effects.proofs.making.make_by_keys.Goals as goal
 

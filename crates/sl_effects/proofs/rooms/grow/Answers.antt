@@ -1,4 +1,4 @@
-use Rattle.std.proofs.Common.{◌≡◌, ℕ, ◌+◌, Bool, true, false, drop, ap, sym, ◌∙◌, if◌then◌else◌}
+use Rattle.std.proofs.Common.{ℕ, ◌+◌, Bool, drop, ap, sym, ◌∙◌, if◌then◌else◌}
 use Rattle.sl_model.specs.Memory.Containers.{cont_at, size}
 use Rattle.sl_model.specs.Memory.Schedule.{pick}
 use Rattle.sl_effects.proofs.rooms.grow.Goals as goal

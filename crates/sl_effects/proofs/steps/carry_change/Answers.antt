@@ -1,4 +1,4 @@
-use Rattle.std.proofs.Common.{◌≡◌, ℕ, drop, ap, sym, ◌∙◌, subst}
+use Rattle.std.proofs.Common.{ℕ, drop, ap, sym, ◌∙◌, subst}
 use Rattle.sl_model.specs.Memory.Containers.{cont_at}
 use Rattle.sl_model.specs.Memory.Edits.{after}
 use Rattle.sl_slots.specs.Shown.{Holds}

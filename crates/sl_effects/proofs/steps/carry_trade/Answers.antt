@@ -1,5 +1,5 @@
-use Rattle.std.proofs.Common.{◌≡◌, ℕ, sym, subst}
-use Rattle.sl_model.specs.Memory.Containers.{Cont, cont_at}
+use Rattle.std.proofs.Common.{ℕ, sym, subst}
+use Rattle.sl_model.specs.Memory.Containers.{cont_at}
 use Rattle.sl_model.specs.Memory.Edits.{after_two}
 use Rattle.sl_model.proofs.Places.{CountsFairSide}
 use Rattle.sl_slots.specs.Shown.{Holds}
