@@ -17,7 +17,6 @@ use Rattle.sl_slots.specs.declared.container.Element.{Element}
 use Rattle.sl_slots.specs.declared.store.Store.{Store}
 use Rattle.sl_slots.specs.Shown.{Holds, new_element}
 use Rattle.sl_slots.specs.Stored.{elements_at}
-use Rattle.sl_effects.specs.Means.Keys.{IsKeyEdit}
 use Rattle.sl_effects.proofs.AppendLaws.{EditShows}
 use Rattle.sl_effects.proofs.Stores.{shown_size}
 use Rattle.sl_effects.proofs.Turns.{take_numbers, drop_numbers}
@@ -56,15 +55,16 @@ key_change-edit class c x picks in_turn low =
 pub add_shows : (old_store new_store : Store) (j site : ℕ) (code : Edit) (element : Element) → EditShows old_store new_store j code (element ∷ []) site
     → j < length old_store.containers.items → code.from ≤ length (elements_at old_store j) → code.gone ≡ 0
     → (m : Memory) (ps : List Pointer) (vs : List Value) (x : ℤ × ℤ) (picks : List ℕ) → new_element x ≡ element → size (cont_at m j) + 1 ≤ ELEMENTS
-    → key_order (cont_at m j) picks ≡ numbers 0 (size (cont_at m j)) → IsKeyEdit code (cont_at m j) x.0 picks → Holds old_store m ps vs
+    → key_order (cont_at m j) picks ≡ numbers 0 (size (cont_at m j)) → code.from ≡ key_place (cont_at m j) x.0 picks
+    → code.room ≡ key_room (cont_at m j) picks → Holds old_store m ps vs
     → Holds new_store (after (key_change code.class (cont_at m j) x picks) m j (cont_at m j) site) ps vs
-add_shows old_store new_store j site code element shows there within none m ps vs x picks is few in_turn edit h =
+add_shows old_store new_store j site code element shows there within none m ps vs x picks is few in_turn from room h =
     subst (λ (ch : Change). Holds new_store (after ch m j c site) ps vs) same
     (shows m ps vs (key_edit c x picks) (record {
-      from = sym edit.from;
+      from = sym from;
       gone = sym none;
       come_in = ap (λ (y : Element). y ∷ []) is;
-      room = sym edit.room;
+      room = sym room;
     }) (subst (λ (ch : Change). CountsFair c ch) (sym same) (key_change-fair code.class c x picks few)) h)
   where
     c : Cont
@@ -72,7 +72,7 @@ add_shows old_store new_store j site code element shows there within none m ps v
 
     low : key_place c x.0 picks ≤ size c
     low =
-        let a : code.from ≡ key_place c x.0 picks = edit.from in
+        let a : code.from ≡ key_place c x.0 picks = from in
         let b : length (elements_at old_store j) ≡ size c = shown_size old_store m ps vs h j there in
         omega arith
 

@@ -115,8 +115,7 @@ pub made_carries : (st : Store) (made_store new : Store) (before taken later : P
     → Carries new later (does form class s (makes_by_keys n room xs)) ps vs
 made_carries st made_store new before taken later form class room n container site s ps vs xs es shows holds skipped last keyed fine h =
     shows (made_empty form room n s) keyed (fine_made form room n class s xs fine.0 fine.1) (record {
-      holds = holds;
-      schedule = skipped ∙ ap (after_picks n) h.schedule;
-      on = fine.0 ∙ sym (last ∙ many_shown st s.memory ps vs h.holds);
+      carries = record { holds = holds; schedule = skipped ∙ ap (after_picks n) h.carries.schedule };
+      on = fine.0 ∙ sym (last ∙ many_shown st s.memory ps vs h.carries.holds);
       at = h.at;
     })

@@ -20,10 +20,13 @@ pub record Carries (st : Store) (picks : Picks) (left : Left) (ps : List Pointer
   pub holds : Holds st left.memory ps vs
   pub schedule : left_in picks ≡ left.picks
 
+-- what is left when a call begins: all that it meets
+abbrev pub begun : Situation → Left
+begun s = record { memory = s.memory; picks = s.picks }
+
 -- A call on a container, at a site, meets the memory that the store shows and the picks that are left.
 pub record Meets (st : Store) (picks : Picks) (object site : ℕ) (s : Situation) (ps : List Pointer) (vs : List Value) : Type 0 where
-  pub holds : Holds st s.memory ps vs
-  pub schedule : left_in picks ≡ s.picks
+  pub carries : Carries st picks (begun s) ps vs
   pub on : s.object ≡ object
   pub at : s.site ≡ site
 

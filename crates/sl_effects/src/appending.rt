@@ -6,19 +6,18 @@ ghost use Rattle.sl_base.specs.declared.scalar.Scalar.TheVariants.{Int};
 ghost use Rattle.sl_specs.specs.declared.class.Class.{Class as ClassData};
 ghost use Rattle.sl_model.specs.Numbers.{converted};
 ghost use Rattle.sl_model.specs.Memory.Containers.{cont_at, size};
-ghost use Rattle.sl_model.specs.Memory.Schedule.{after_picks};
 ghost use Rattle.sl_model.specs.Runs.State.{Pointer as PointerData};
 ghost use Rattle.sl_model.specs.LibraryCalls.Values.{Value as ValueData};
 ghost use Rattle.sl_model.specs.LibraryCalls.Situation.{Situation};
 ghost use Rattle.sl_model.specs.LibraryCalls.Actions.{appends};
-ghost use Rattle.sl_model.specs.LibraryCalls.Effects.{Left, append as append_data, does, insertion_class as class_of_form, picks_with};
+ghost use Rattle.sl_model.specs.LibraryCalls.Effects.{Left, append as append_data, does, insertion_class as class_of_form};
 ghost use Rattle.sl_model.proofs.FineEffects.{IsFine};
 ghost use Rattle.sl_slots.specs.Stored.{elements_at};
-ghost use Rattle.sl_effects.specs.Carried.{Carries, Meets, left_in};
+ghost use Rattle.sl_effects.specs.Carried.{Carries, Meets};
 ghost use Rattle.sl_effects.specs.Means.Endings.{IsEndInsertion};
 
 use crate::picks::Picks;
-use crate::rooms::sequence_room;
+use crate::rooms::{sequence_picks, sequence_room};
 use sl_base::Form;
 use sl_slots::{Edit, Element, Store};
 use sl_specs::Class;
@@ -65,6 +64,7 @@ fn append(
         Carries store.new picks.new (append_data site container (cont_at left.memory container) x left) ps vs) }
 {
     let edit = end_insertion(store, picks, container);
+    picks.skip(sequence_picks(store, container, 1));
     let element = Element {
         key: number,
         value: 0,
@@ -74,15 +74,13 @@ fn append(
 }
 
 // The edit by which an element comes at the end of a sequence.
-fn end_insertion(store: &Store, picks: &mut Picks, container: usize) -> Edit
+fn end_insertion(store: &Store, picks: &Picks, container: usize) -> Edit
     requires there { container < length store.now.containers.items }
     requires few { length (elements_at store.now container) + 1 < 2 ^ 63 }
     ensures from { result.from ≡ length (elements_at store.now container) }
     ensures gone { result.gone ≡ 0 }
-    ensures edit { (left : Left) (ps : List PointerData) (vs : List ValueData) → Carries store.now picks.old left ps vs →
+    ensures edit { (left : Left) (ps : List PointerData) (vs : List ValueData) → Carries store.now picks.now left ps vs →
         IsEndInsertion result (cont_at left.memory container) left.picks }
-    ensures taken { (left : Left) (ps : List PointerData) (vs : List ValueData) → Carries store.now picks.old left ps vs →
-        left_in picks.new ≡ after_picks (picks_with (cont_at left.memory container).form (cont_at left.memory container) 1) left.picks }
 {
     Edit {
         class: insertion_class(store.form(container)),

@@ -1,8 +1,7 @@
 //! Keys that come one by one into sets, maps and hash forms.
-ghost use Rattle.std.specs.Prelude.{◌≡◌, ◌≤◌, ◌<◌, ◌+◌, ◌^◌, ℤ, true, false, List, ◌∷◌, length, OnOk};
+ghost use Rattle.std.specs.Prelude.{◌≡◌, ◌≤◌, ◌<◌, ◌+◌, ◌^◌, ℤ, true, List, ◌∷◌, length, OnOk};
 ghost use Rattle.sl_base.specs.declared.limits.TheConstants.{ELEMENTS};
 ghost use Rattle.sl_base.specs.declared.form.Form.{Form as FormData};
-ghost use Rattle.sl_specs.specs.Forms.{is_hash};
 ghost use Rattle.sl_model.specs.Memory.Containers.{cont_at, size};
 ghost use Rattle.sl_model.specs.Runs.State.{Pointer as PointerData};
 ghost use Rattle.sl_model.specs.LibraryCalls.Values.{Value as ValueData};
@@ -12,16 +11,15 @@ ghost use Rattle.sl_model.specs.LibraryCalls.Effects.{Left, does, insert_key as 
 ghost use Rattle.sl_model.specs.LibraryCalls.KeyActions.{new_keys};
 ghost use Rattle.sl_model.proofs.FineEffects.{IsFine};
 ghost use Rattle.sl_slots.specs.Shown.{new_element};
-ghost use Rattle.sl_slots.specs.Stored.{contents_at, elements_at};
-ghost use Rattle.sl_effects.specs.declared.picks.Picks.{Picks as PicksData};
+ghost use Rattle.sl_slots.specs.Stored.{elements_at};
 ghost use Rattle.sl_effects.specs.Carried.{AreKeyed, Carries, Meets, is_key_class};
 ghost use Rattle.sl_effects.specs.Means.Keys.{added};
 
-use crate::adding::add_at;
-use crate::hashing::insert_hashed;
-use crate::keys::{is_hashed, known_place, ordered_place};
+use crate::adding::add;
+use crate::keys::known_place;
+use crate::new_keys::key_picks;
 use crate::picks::Picks;
-use sl_slots::{Edit, Element, Store};
+use sl_slots::{Element, Store};
 use sl_specs::Class;
 use std::alloc::{AllocError, Global};
 
@@ -77,7 +75,7 @@ fn insert_key(
     Ok(())
 }
 
-// A new key comes into a container.
+// A new key comes into a container, and its picks are taken.
 fn insert_new(
     store: &mut Store,
     alloc: Global,
@@ -96,38 +94,8 @@ fn insert_new(
         Carries store.old picks.old left ps vs →
         Carries store.new picks.new (added class site container (cont_at left.memory container) x left) ps vs) }
 {
-    if is_hashed(store.form(container)) {
-        insert_hashed(store, alloc, picks, class, container, element, site)?;
-        return Ok(());
-    }
-    insert_ordered(store, class, container, element, site)?;
-    Ok(())
-}
-
-// A new key comes into a set or map, to its place in the order of keys. It takes no pick.
-fn insert_ordered(
-    store: &mut Store,
-    class: Class,
-    container: usize,
-    element: Element,
-    site: usize,
-) -> Result<(), AllocError>
-    requires there { container < length store.old.containers.items }
-    requires ordered { is_hash (contents_at store.old container).form ≡ false }
-    requires few { length (elements_at store.old container) + 1 < 2 ^ 63 }
-    ensures many { OnOk result (length store.new.containers.items ≡ length store.old.containers.items) }
-    ensures size { OnOk result (length (elements_at store.new container) ≡ length (elements_at store.old container) + 1) }
-    ensures shows { OnOk result ((picks : PicksData) (left : Left) (ps : List PointerData) (vs : List ValueData) (x : ℤ × ℤ) →
-        new_element x ≡ element → x.0 ≡ element.key → size (cont_at left.memory container) + 1 ≤ ELEMENTS →
-        Carries store.old picks left ps vs →
-        Carries store.new picks (added class site container (cont_at left.memory container) x left) ps vs) }
-{
-    let edit = Edit {
-        class,
-        from: ordered_place(store, container, element.key),
-        gone: 0,
-        room: store.room(container),
-    };
-    add_at(store, container, &edit, element, site)?;
+    let count = key_picks(store, container);
+    add(store, alloc, picks, class, container, element, site)?;
+    picks.skip(count);
     Ok(())
 }

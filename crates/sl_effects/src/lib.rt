@@ -4,20 +4,22 @@
 
 mod adding;
 mod appending;
-mod hashing;
 mod inserting;
 mod keys;
 mod making;
+mod new_keys;
 mod picks;
+mod rebuilding;
 mod rooms;
 mod scattering;
 mod steps;
 
-pub use appending::append_all;
+pub use appending::{append_all, insertion_class};
 pub use inserting::insert_all;
 pub use keys::known_place;
 pub use making::{make, make_by_keys};
+pub use new_keys::{key_picks, key_place, key_room};
 pub use picks::Picks;
-pub use rooms::sequence_room;
+pub use rooms::{grown_picks, grown_room, sequence_picks, sequence_room};
 pub use scattering::scatter;
 pub use steps::{carry_change, carry_edit, carry_trade};

@@ -1,5 +1,5 @@
 //! Hash orders, which picks choose.
-ghost use Rattle.std.specs.Prelude.{◌≡◌, ◌≤◌, ◌<◌, ◌^◌, IfOk, OnOk};
+ghost use Rattle.std.specs.Prelude.{◌≡◌, ◌+◌, ◌≤◌, ◌<◌, ◌^◌, IfOk};
 ghost use Rattle.sl_model.specs.Memory.Edits.{numbers};
 ghost use Rattle.sl_model.specs.Memory.Schedule.{after_picks, hash_place as place_by_pick, scattered};
 ghost use Rattle.sl_effects.specs.Carried.{left_in};
@@ -7,16 +7,20 @@ ghost use Rattle.sl_effects.specs.Carried.{left_in};
 use crate::picks::Picks;
 use std::alloc::{AllocError, Global};
 
-/// The places of so many elements in the order in which picks put them into a hash form: one pick for each, which is
-/// taken. After AllocError nothing is said.
-pub fn scatter(alloc: Global, count: usize, picks: &mut Picks) -> Result<Vec<usize>, AllocError>
-    requires { count < 2 ^ 63 }
-    ensures order { IfOk result (λ order. order.items ≡ scattered (left_in picks.old) (numbers 0 count)) }
-    ensures taken { OnOk result (left_in picks.new ≡ after_picks count (left_in picks.old)) }
+/// The places of so many elements in the order in which picks put them into a hash form: one pick for each, after some
+/// others. Nothing is taken yet.
+pub fn scatter(
+    alloc: Global,
+    count: usize,
+    picks: &Picks,
+    after: usize,
+) -> Result<Vec<usize>, AllocError>
+    requires { after + count < 2 ^ 63 }
+    ensures { IfOk result (λ order. order.items ≡ scattered (after_picks after (left_in picks.now)) (numbers 0 count)) }
 {
     let mut order = Vec::new(alloc);
     for place in 0..count {
-        let at = hash_place(order.len(), picks.take());
+        let at = hash_place(order.len(), picks.peek(after + place));
         order.insert(at, place)?;
     }
     Ok(order)

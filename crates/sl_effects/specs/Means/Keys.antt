@@ -1,13 +1,13 @@
 -- Keys of elements as the code has them, and what one key more leaves.
-use Rattle.std.specs.Prelude.{◌≡◌, ℕ, ℤ, Bool, true, false, List, map, int_lt, int_le, if◌then◌else◌}
+use Rattle.std.specs.Prelude.{ℕ, ◌+◌, ℤ, Bool, true, false, List, map, int_lt, int_le, if◌then◌else◌}
 use Rattle.sl_specs.specs.declared.class.Class.{Class}
 use Rattle.sl_specs.specs.declared.class.Class.TheVariants.{HashInsert}
-use Rattle.sl_model.specs.Memory.Containers.{Cont}
+use Rattle.sl_specs.specs.Forms.{is_hash}
+use Rattle.sl_model.specs.Memory.Containers.{Cont, size}
 use Rattle.sl_model.specs.Memory.Edits.{after}
 use Rattle.sl_model.specs.Memory.Schedule.{after_picks}
-use Rattle.sl_model.specs.LibraryCalls.Effects.{Left, key_change, key_picks, key_place, key_room}
+use Rattle.sl_model.specs.LibraryCalls.Effects.{Left, is_full, key_change, key_picks}
 use Rattle.sl_slots.specs.declared.container.Element.{Element}
-use Rattle.sl_slots.specs.declared.edit.Edit.{Edit}
 
 -- the keys of elements
 abbrev pub keys_of : List Element → List ℤ
@@ -24,10 +24,13 @@ added class site j c x left = record {
   picks = after_picks (key_picks c) left.picks;
 }
 
--- an edit at the place of a new key, with the room that the container has then
-pub record IsKeyEdit (e : Edit) (c : Cont) (k : ℤ) (picks : List ℕ) : Type 0 where
-  pub from : e.from ≡ key_place c k picks
-  pub room : e.room ≡ key_room c picks
+-- a new key makes a container grow and put all its elements in again
+abbrev pub scatters : Cont → Bool
+scatters c = if is_hash c.form then is_full c 1 else false
+
+-- how many picks a new key takes in a hash form
+abbrev pub picks_in_hash : Cont → ℕ
+picks_in_hash c = if is_full c 1 then size c + 2 else 1
 
 -- a class of rows that put keys in invalidates the iterators of a hash form that grows
 abbrev pub grows_over : Class → Bool

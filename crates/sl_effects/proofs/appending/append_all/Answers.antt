@@ -19,7 +19,7 @@ returns c = record {
       subst (λ (site : ℕ). Carries c.loop-number.store c.loop-number.picks
       (append_all site c.args.container xs (left_after s 0 s.memory)) ps vs) (sym h.at)
       (append_end c.args.site c.args.container xs (left_after s 0 s.memory) c.loop-number.number-index c.loop-number.store c.loop-number.picks ps vs l
-      (c.loop-number.invariant.runs (left_after s 0 s.memory) ps vs xs all fine.1 (record { holds = h.holds; schedule = h.schedule })));
+      (c.loop-number.invariant.runs (left_after s 0 s.memory) ps vs xs all fine.1 h.carries));
 }
 
 pub append-requires : goal.append-requires

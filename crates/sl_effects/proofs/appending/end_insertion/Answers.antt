@@ -7,8 +7,5 @@ returns-clause-edit c = λ left ps vs h. record {
   class = c.insertion_class.ensures ∙ ap insertion_class (c.form.ensures.shows left.memory ps vs h.holds);
   from = c.size.ensures.shows left.memory ps vs h.holds;
   gone = refl;
-  room = c.sequence_room.ensures.room left ps vs h;
+  room = c.sequence_room.ensures left ps vs h;
 }
-
-pub returns-clause-taken : goal.returns-clause-taken
-returns-clause-taken c = λ left ps vs h. c.sequence_room.ensures.taken left ps vs h

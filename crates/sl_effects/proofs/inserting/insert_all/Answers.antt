@@ -27,7 +27,7 @@ returns c = record {
       c.loop-element.picks ps vs l
       (c.loop-element.invariant.runs (left_after s 0 s.memory) ps vs xs class all
       (subst (λ (j : ℕ). size (cont_at s.memory j) + new_keys (cont_at s.memory j) (keys_in xs) ≤ ELEMENTS) h.on fine.1)
-      (record { holds = h.holds; schedule = h.schedule }))));
+      h.carries)));
 }
 
 pub insert_key-requires : goal.insert_key-requires

@@ -1,15 +1,15 @@
+use Rattle.std.proofs.Common.{ℕ, ap, ◌∙◌}
+use Rattle.sl_model.specs.Memory.Schedule.{after_picks}
 use Rattle.sl_effects.proofs.inserting.insert_new.Goals as goal
-
-pub returns-then-is_hashed : goal.returns-then-is_hashed
-returns-then-is_hashed c = record {
-  many = c.in_ok-insert_hashed.ensures.many;
-  size = c.in_ok-insert_hashed.ensures.size;
-  shows = λ left ps vs x class is key few h. c.in_ok-insert_hashed.ensures.shows left ps vs x class is few h;
-}
 
 pub returns : goal.returns
 returns c = record {
-  many = c.in_ok-insert_ordered.ensures.many;
-  size = c.in_ok-insert_ordered.ensures.size;
-  shows = λ left ps vs x class is key few h. c.in_ok-insert_ordered.ensures.shows c.args.picks.now left ps vs x is key few h;
+  many = c.in_ok-add.ensures.many;
+  size = c.in_ok-add.ensures.size;
+  shows = λ left ps vs x class is key few h. record {
+    holds = c.in_ok-add.ensures.shows left ps vs x class is key few h;
+    schedule = c.skip.ensures
+        ∙ (ap (after_picks c.key_picks-count.result) h.schedule
+        ∙ ap (λ (n : ℕ). after_picks n left.picks) (c.key_picks-count.ensures left.memory ps vs h.holds));
+  };
 }

@@ -6,8 +6,8 @@ pub returns : goal.returns
 returns c = record {
   many = many_made c.args.store.now c.make.new.self c.args.form c.args.room c.args.elements.items c.in_ok-make.ensures.made;
   shows = λ class s ps vs xs is few h. record {
-    holds = c.in_ok-make.ensures.shows s.memory ps vs xs is few h.holds;
-    schedule = c.skip.ensures ∙ ap (drop c.args.taken) h.schedule;
+    holds = c.in_ok-make.ensures.shows s.memory ps vs xs is few h.carries.holds;
+    schedule = c.skip.ensures ∙ ap (drop c.args.taken) h.carries.schedule;
   };
   kept = tt;
 }

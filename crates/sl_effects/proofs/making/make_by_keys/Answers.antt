@@ -25,5 +25,5 @@ returns c =
           made_carries old c.make.new.self c.insert_all.new.store c.args.picks.now _ c.insert_all.new.picks c.args.form c.args.class
           c.args.room c.args.taken c.len-container.result c.args.site s ps vs xs c.args.elements.now
           (λ t keyed' fine' meets. c.in_ok-insert_all.ensures.shows c.args.form t ps vs xs class keyed' fine' meets)
-          (c.in_ok-make.ensures.shows s.memory ps vs [] (sym c.new.ensures.items) (omega arith) h.holds) c.skip.ensures last keyed fine h;
+          (c.in_ok-make.ensures.shows s.memory ps vs [] (sym c.new.ensures.items) (omega arith) h.carries.holds) c.skip.ensures last keyed fine h;
     }

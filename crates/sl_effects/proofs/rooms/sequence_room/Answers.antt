@@ -1,8 +1,8 @@
-use Rattle.std.proofs.Common.{◌≡◌, ℕ, List, refl, drop, ap, sym, ◌∙◌}
+use Rattle.std.proofs.Common.{◌≡◌, ℕ, List, refl, ap, sym, ◌∙◌}
 use Rattle.sl_base.specs.declared.form.Form.{Form}
 use Rattle.sl_base.specs.declared.form.Form.TheVariants as f
 use Rattle.sl_model.specs.Memory.Containers.{Cont, cont_at}
-use Rattle.sl_model.specs.LibraryCalls.Effects.{room_with, picks_with}
+use Rattle.sl_model.specs.LibraryCalls.Effects.{room_with}
 use Rattle.sl_effects.proofs.rooms.sequence_room.Goals as goal
 
 -- a sequence that is no vector has no room that grows
@@ -10,30 +10,14 @@ other_room : (form : Form) (c : Cont) (n : ℕ) (picks : List ℕ) → (form ≡
 other_room f.Vector c n picks other = absurd (other refl)
 other_room form c n picks other = refl
 
-other_picks : (form : Form) (c : Cont) (n : ℕ) → (form ≡ f.Vector → ⊥) → picks_with form c n ≡ 0
-other_picks f.Vector c n other = absurd (other refl)
-other_picks form c n other = refl
-
-pub returns-in-Vector-clause-room : goal.returns-in-Vector-clause-room
-returns-in-Vector-clause-room c = λ left ps vs h.
+pub returns-in-Vector : goal.returns-in-Vector
+returns-in-Vector c = λ left ps vs h.
     let d = cont_at left.memory c.args.container in
-    c.vector_room.ensures.room left ps vs h
+    c.vector_room.ensures left ps vs h
     ∙ ap (λ (form : Form). room_with form d c.args.come left.picks) (sym c.in-Vector.is ∙ c.form.ensures.shows left.memory ps vs h.holds)
 
-pub returns-in-Vector-clause-taken : goal.returns-in-Vector-clause-taken
-returns-in-Vector-clause-taken c = λ left ps vs h.
-    let d = cont_at left.memory c.args.container in
-    c.vector_room.ensures.taken left ps vs h
-    ∙ ap (λ (form : Form). drop (picks_with form d c.args.come) left.picks) (sym c.in-Vector.is ∙ c.form.ensures.shows left.memory ps vs h.holds)
-
-pub returns-in_default-clause-room : goal.returns-in_default-clause-room
-returns-in_default-clause-room c = λ left ps vs h.
+pub returns-in_default : goal.returns-in_default
+returns-in_default c = λ left ps vs h.
     let d = cont_at left.memory c.args.container in
     c.room.ensures.shows left.memory ps vs h.holds
     ∙ sym (other_room d.form d c.args.come left.picks (λ e. c.in_default.not-Vector (c.form.ensures.shows left.memory ps vs h.holds ∙ e)))
-
-pub returns-in_default-clause-taken : goal.returns-in_default-clause-taken
-returns-in_default-clause-taken c = λ left ps vs h.
-    let d = cont_at left.memory c.args.container in
-    h.schedule
-    ∙ sym (ap (λ (n : ℕ). drop n left.picks) (other_picks d.form d c.args.come (λ e. c.in_default.not-Vector (c.form.ensures.shows left.memory ps vs h.holds ∙ e))))

@@ -7,6 +7,6 @@ use Rattle.sl_effects.proofs.scattering.scatter.Given as goal
 abbrev pub invariant-loop-place : goal.invariant-loop-place
 invariant-loop-place l = record {
   long : length l.order.items ≡ l.place;
-  left : left_in l.picks ≡ after_picks l.place (left_in l.initial.picks);
-  rest : put_all l.order.items (left_in l.picks) (numbers l.place (l.count - l.place)) ≡ scattered (left_in l.initial.picks) (numbers 0 l.count);
+  rest : put_all l.order.items (after_picks l.place (after_picks l.after (left_in l.picks))) (numbers l.place (l.count - l.place))
+      ≡ scattered (after_picks l.after (left_in l.picks)) (numbers 0 l.count);
 }

@@ -15,7 +15,7 @@ returns c = record {
             (sym h.at)
             (subst (λ (j : ℕ). Holds new (after (change_of class (cont_at s.memory j) e) s.memory j (cont_at s.memory j) c.args.site) ps vs) (sym h.on)
             (c.in_ok-edit.ensures.shows s.memory ps vs e is
-            (subst (λ (j : ℕ). CountsFair (cont_at s.memory j) (change_of class (cont_at s.memory j) e)) h.on fine.1) h.holds));
-        schedule = c.skip.ensures ∙ ap (drop c.args.taken) h.schedule;
+            (subst (λ (j : ℕ). CountsFair (cont_at s.memory j) (change_of class (cont_at s.memory j) e)) h.on fine.1) h.carries.holds));
+        schedule = c.skip.ensures ∙ ap (drop c.args.taken) h.carries.schedule;
       };
 }

@@ -15,7 +15,7 @@ returns c = record {
             (subst (λ (j : ℕ). Holds c.trade.new.self (after_two ch dh m j (cont_at m j) i (cont_at m i) c.args.by.site) ps vs) (sym h.on)
             (c.in_ok-trade.ensures.shows m ps vs ch dh first second
             (subst (λ (j : ℕ). CountsFairSide (cont_at m j) (cont_at m i) ch dh) h.on fine.first)
-            (subst (λ (j : ℕ). CountsFairSide (cont_at m i) (cont_at m j) dh ch) h.on fine.second) h.holds));
-        schedule = h.schedule;
+            (subst (λ (j : ℕ). CountsFairSide (cont_at m i) (cont_at m j) dh ch) h.on fine.second) h.carries.holds));
+        schedule = h.carries.schedule;
       };
 }

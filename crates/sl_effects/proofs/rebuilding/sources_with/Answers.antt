@@ -3,7 +3,7 @@ use Rattle.std.specs.List.{insert}
 use Rattle.std.proofs.lemmas.List.{take_all, length-map}
 use Rattle.sl_slots.specs.declared.source.Source.{Source}
 use Rattle.sl_slots.specs.declared.source.Source.TheVariants.{Old, New}
-use Rattle.sl_effects.proofs.hashing.sources_with.Goals as goal
+use Rattle.sl_effects.proofs.rebuilding.sources_with.Goals as goal
 
 pub insert-requires : goal.insert-requires
 insert-requires c =
