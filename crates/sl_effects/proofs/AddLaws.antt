@@ -52,7 +52,8 @@ key_change-edit class c x picks in_turn low =
     }
 
 -- a store in which an element came in by that edit shows the memory with the new key
-pub add_shows : (old_store new_store : Store) (j site : ℕ) (code : Edit) (element : Element) → EditShows old_store new_store j code (element ∷ []) site
+pub add_shows : (old_store new_store : Store) (j site : ℕ) (code : Edit) (element : Element)
+    → EditShows old_store new_store j code (element ∷ []) site
     → j < length old_store.containers.items → code.from ≤ length (elements_at old_store j) → code.gone ≡ 0
     → (m : Memory) (ps : List Pointer) (vs : List Value) (x : ℤ × ℤ) (picks : List ℕ) → new_element x ≡ element → size (cont_at m j) + 1 ≤ ELEMENTS
     → key_order (cont_at m j) picks ≡ numbers 0 (size (cont_at m j)) → code.from ≡ key_place (cont_at m j) x.0 picks

@@ -79,7 +79,8 @@ appended_size : (j site : ℕ) (left : Left) (x : ℤ) (st : Store) (picks : Pic
     → j < length st.containers.items
     → size (cont_at (append site j (cont_at left.memory j) x left).memory j) ≡ size (cont_at left.memory j) + 1
 appended_size j site left x st picks ps vs h low =
-    size_at-after (insertion_class (cont_at left.memory j).form) left.memory j (cont_at left.memory j) (end_edit (cont_at left.memory j) x left.picks) site
+    size_at-after (insertion_class (cont_at left.memory j).form) left.memory j (cont_at left.memory j)
+    (end_edit (cont_at left.memory j) x left.picks) site
     (shown_there st left.memory ps vs h.holds j low) (end_fits (cont_at left.memory j) x left.picks)
     ∙ one_more (size (cont_at left.memory j))
   where
@@ -89,7 +90,8 @@ appended_size j site left x st picks ps vs h low =
 -- ## Many
 
 -- The store carries what is left after the first i of these numbers: what the others then do is what all do.
-pub record AppendsFrom (site j : ℕ) (xs : List ℤ) (left : Left) (i : ℕ) (st : Store) (picks : Picks) (ps : List Pointer) (vs : List Value) : Type 0 where
+pub record AppendsFrom (site j : ℕ) (xs : List ℤ) (left : Left) (i : ℕ) (st : Store) (picks : Picks) (ps : List Pointer)
+    (vs : List Value) : Type 0 where
   pub mid : Left
   pub carried : Carries st picks mid ps vs
   pub rest : append_all site j (drop i xs) mid ≡ append_all site j xs left

@@ -69,8 +69,10 @@ put_sources : (p : ℕ) (x : ℤ × ℤ) (order : List ℕ)
     → insert (map (λ (k : ℕ). Old k) order) p (New (new_element x)) ≡ map source_code (put_at p (new x.0 x.1) (map (λ (k : ℕ). old k) order))
 put_sources p x order = sym (
     map-append source_code (take p olds) (new x.0 x.1 ∷ drop p olds)
-    ∙ (ap (λ (l : List SourceCode). l ++ (New (new_element x) ∷ map source_code (drop p olds))) (sym (take-map source_code p olds) ∙ ap (take p) codes)
-    ∙ ap (λ (l : List SourceCode). take p (map (λ (k : ℕ). Old k) order) ++ (New (new_element x) ∷ l)) (sym (drop-map source_code p olds) ∙ ap (drop p) codes))
+    ∙ (ap (λ (l : List SourceCode). l ++ (New (new_element x) ∷ map source_code (drop p olds)))
+    (sym (take-map source_code p olds) ∙ ap (take p) codes)
+    ∙ ap (λ (l : List SourceCode). take p (map (λ (k : ℕ). Old k) order) ++ (New (new_element x) ∷ l))
+    (sym (drop-map source_code p olds) ∙ ap (drop p) codes))
     )
   where
     olds : List Source

@@ -1,6 +1,6 @@
 -- Keys that come one by one: which are kept out, where the others go, and what all of them leave.
-use Rattle.std.proofs.Common.{◌≡◌, ℕ, ◌+◌, ◌<◌, ◌≤◌, Bool, true, false, List, [], ◌∷◌, Option, Some, None, length, map, drop, get_or, refl, ap, sym, ◌∙◌}
-use Rattle.std.proofs.Common.{arith, ℤ, pos, subst, if◌then◌else◌}
+use Rattle.std.proofs.Common.{◌≡◌, ℕ, ◌+◌, ◌<◌, ◌≤◌, Bool, true, false, List, [], ◌∷◌, Option, Some, None, length, map, drop, get_or, refl, ap, sym}
+use Rattle.std.proofs.Common.{◌∙◌, arith, ℤ, pos, subst, if◌then◌else◌}
 use Rattle.std.specs.Option.{is_some}
 use Rattle.std.proofs.lemmas.List.{at_drop_more, length-map, get_or-map, drop_all}
 use Rattle.sl_base.specs.declared.limits.TheConstants.{ELEMENTS}
@@ -100,7 +100,8 @@ few_next class site j x ks left there few = by_known (known_key c x.0) refl
         let n : new_keys c ks ≡ new_keys c (x.0 ∷ ks) = new_keys-known c x.0 ks k e in
         subst fits (sym (inserted_known class site j c x left k e)) (omega arith)
     by_known None e =
-        let n : 1 + new_keys (changed left.memory.fresh ch c) ks ≡ new_keys c (x.0 ∷ ks) = new_keys-next class left.memory.fresh c x left.picks ks e in
+        let n : 1 + new_keys (changed left.memory.fresh ch c) ks ≡ new_keys c (x.0 ∷ ks) =
+        new_keys-next class left.memory.fresh c x left.picks ks e in
         let is : cont_at (after ch left.memory j c site) j ≡ changed left.memory.fresh ch c = cont_at-after-own ch left.memory j c site there in
         let l : size (changed left.memory.fresh ch c) ≡ size c + 1 =
         size-changed ch left.memory.fresh c ∙ key_change-length class c x left.picks in

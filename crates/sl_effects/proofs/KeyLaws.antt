@@ -9,7 +9,8 @@ use Rattle.sl_slots.specs.declared.container.Element.{Element}
 
 -- one element more is looked at
 find_step : (key : ℤ) (es : List Element) (i : ℕ) (d : Element) → i < length es
-    → first_of_key key i (drop i (keys_of es)) ≡ (if same key (get_or es i d).key then Some i else first_of_key key (i + 1) (drop (i + 1) (keys_of es)))
+    → first_of_key key i (drop i (keys_of es))
+    ≡ (if same key (get_or es i d).key then Some i else first_of_key key (i + 1) (drop (i + 1) (keys_of es)))
 find_step key es i d low =
     let l : length (keys_of es) ≡ length es = length-map es (λ (x : Element). x.key) in
     at_drop_more (first_of_key key i) (keys_of es) i d.key (omega arith)

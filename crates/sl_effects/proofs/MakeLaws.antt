@@ -1,5 +1,6 @@
 -- A container into which keys are put when it is made.
-use Rattle.std.proofs.Common.{◌≡◌, ℕ, suc, ◌+◌, ◌≤◌, Bool, true, false, List, [], ◌∷◌, ◌++◌, Option, Some, None, length, map, ap, sym, ◌∙◌, arith, ℤ, if◌then◌else◌}
+use Rattle.std.proofs.Common.{◌≡◌, ℕ, suc, ◌+◌, ◌≤◌, Bool, true, false, List, [], ◌∷◌, ◌++◌, Option, Some, None, length, map, ap}
+use Rattle.std.proofs.Common.{sym, ◌∙◌, arith, ℤ, if◌then◌else◌}
 use Rattle.std.specs.List.{slice_get}
 use Rattle.std.proofs.lemmas.List.{length-map, length_push}
 use Rattle.sl_base.specs.declared.form.Form.{Form}
@@ -91,7 +92,8 @@ many_made old new form room es is = sym (length-map new.containers.items content
 -- the last of these
 last_listed : (l : List Plain) (p : Plain) (n : ℕ) → n ≡ length l + 0 → listed (l ++ p ∷ []) n ≡ p
 last_listed l p n e = ap (listed (l ++ p ∷ [])) e
-    ∙ ap (λ (o : Option Plain). elim o as (λ _. Plain) [ None ↦ record { form = Vector; elements = []; room = 0 } | Some q ↦ q ]) (get_behind l (p ∷ []) 0)
+    ∙ ap (λ (o : Option Plain). elim o as (λ _. Plain) [ None ↦ record { form = Vector; elements = []; room = 0 } | Some q ↦ q ])
+    (get_behind l (p ∷ []) 0)
 
 -- the elements of the last one
 pub elements_made : (old new : Store) (form : Form) (room : ℕ) (es : List Element) → Made form room es old new
@@ -101,7 +103,8 @@ elements_made old new form room es is =
     ap (λ (p : Plain). p.elements)
     (contents-listed new (length old.containers.items)
     ∙ (ap (λ (l : List Plain). listed l (length old.containers.items)) is.containers
-    ∙ last_listed (map contents old.containers.items) (record { form = form; elements = es; room = room }) (length old.containers.items) (omega arith)))
+    ∙ last_listed (map contents old.containers.items) (record { form = form; elements = es; room = room })
+    (length old.containers.items) (omega arith)))
 
 -- ## What is put into it
 

@@ -1,5 +1,6 @@
 -- What a store has of a container: what the memory has that it shows, and what a change leaves.
-use Rattle.std.proofs.Common.{◌≡◌, ℕ, ◌+◌, ◌-◌, ◌<◌, ◌≤◌, ◌++◌, List, [], Option, Some, None, length, map, take, drop, get_or, ap, sym, ◌∙◌, arith, length-append}
+use Rattle.std.proofs.Common.{◌≡◌, ℕ, ◌+◌, ◌-◌, ◌<◌, ◌≤◌, ◌++◌, List, [], Option, Some, None, length, map, take, drop, get_or, ap}
+use Rattle.std.proofs.Common.{sym, ◌∙◌, arith, length-append}
 use Rattle.std.specs.List.{slice_get, slice_set}
 use Rattle.std.proofs.Math.ListN.{length-set}
 use Rattle.std.proofs.lemmas.List.{length-map, length-take-le, length-drop}
@@ -77,7 +78,8 @@ pub size_edited : (old new : Store) (j : ℕ) (e : Edit) (come : List Element) (
     → length (elements_at new j) ≡ length (elements_at old j) + length come
 size_edited old new j e come site is low none within =
     let es : List Element = elements_at old j in
-    let a : length (take e.from es ++ (come ++ drop e.gone (drop e.from es))) ≡ length (take e.from es) + length (come ++ drop e.gone (drop e.from es)) =
+    let a : length (take e.from es ++ (come ++ drop e.gone (drop e.from es)))
+    ≡ length (take e.from es) + length (come ++ drop e.gone (drop e.from es)) =
     length-append (take e.from es) (come ++ drop e.gone (drop e.from es)) in
     let b : length (come ++ drop e.gone (drop e.from es)) ≡ length come + length (drop e.gone (drop e.from es)) =
     length-append come (drop e.gone (drop e.from es)) in

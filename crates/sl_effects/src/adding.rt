@@ -3,8 +3,8 @@ ghost use Rattle.std.specs.Prelude.{◌≡◌, ◌≤◌, ◌<◌, ◌+◌, ◌^
 ghost use Rattle.sl_base.specs.declared.limits.TheConstants.{ELEMENTS};
 ghost use Rattle.sl_model.specs.Memory.Containers.{cont_at, size};
 ghost use Rattle.sl_model.specs.Memory.Edits.{after};
-ghost use Rattle.sl_model.specs.Runs.State.{Pointer as PointerData};
-ghost use Rattle.sl_model.specs.LibraryCalls.Values.{Value as ValueData};
+ghost use Rattle.sl_model.specs.Runs.State.{Pointer};
+ghost use Rattle.sl_model.specs.LibraryCalls.Values.{Value};
 ghost use Rattle.sl_model.specs.LibraryCalls.Effects.{Left, key_change};
 ghost use Rattle.sl_slots.specs.Shown.{Holds, new_element};
 ghost use Rattle.sl_slots.specs.Stored.{elements_at};
@@ -31,9 +31,11 @@ pub fn add(
     requires there { container < length store.old.containers.items }
     requires few { length (elements_at store.old container) + 1 < 2 ^ 63 }
     ensures many { OnOk result (length store.new.containers.items ≡ length store.old.containers.items) }
-    ensures size { OnOk result (length (elements_at store.new container) ≡ length (elements_at store.old container) + 1) }
-    ensures shows { OnOk result ((left : Left) (ps : List PointerData) (vs : List ValueData) (x : ℤ × ℤ) → is_key_class class ≡ true →
-        new_element x ≡ element → x.0 ≡ element.key → size (cont_at left.memory container) + 1 ≤ ELEMENTS →
+    ensures size { OnOk result
+        (length (elements_at store.new container) ≡ length (elements_at store.old container) + 1) }
+    ensures shows { OnOk result ((left : Left) (ps : List Pointer) (vs : List Value) (x : ℤ × ℤ) →
+        is_key_class class ≡ true → new_element x ≡ element → x.0 ≡ element.key →
+        size (cont_at left.memory container) + 1 ≤ ELEMENTS →
         Carries store.old picks.now left ps vs →
         Holds store.new (after (key_change class (cont_at left.memory container) x left.picks)
         left.memory container (cont_at left.memory container) site) ps vs) }
@@ -58,8 +60,9 @@ fn add_between(
     requires there { container < length store.old.containers.items }
     requires few { length (elements_at store.old container) + 1 < 2 ^ 63 }
     ensures many { OnOk result (length store.new.containers.items ≡ length store.old.containers.items) }
-    ensures size { OnOk result (length (elements_at store.new container) ≡ length (elements_at store.old container) + 1) }
-    ensures shows { OnOk result ((left : Left) (ps : List PointerData) (vs : List ValueData) (x : ℤ × ℤ) →
+    ensures size { OnOk result
+        (length (elements_at store.new container) ≡ length (elements_at store.old container) + 1) }
+    ensures shows { OnOk result ((left : Left) (ps : List Pointer) (vs : List Value) (x : ℤ × ℤ) →
         scatters (cont_at left.memory container) ≡ false →
         new_element x ≡ element → x.0 ≡ element.key → size (cont_at left.memory container) + 1 ≤ ELEMENTS →
         Carries store.old picks.now left ps vs →

@@ -6,11 +6,12 @@ ghost use Rattle.sl_base.specs.declared.scalar.Scalar.TheVariants.{Int};
 ghost use Rattle.sl_specs.specs.declared.class.Class.{Class as ClassData};
 ghost use Rattle.sl_model.specs.Numbers.{converted};
 ghost use Rattle.sl_model.specs.Memory.Containers.{cont_at, size};
-ghost use Rattle.sl_model.specs.Runs.State.{Pointer as PointerData};
-ghost use Rattle.sl_model.specs.LibraryCalls.Values.{Value as ValueData};
+ghost use Rattle.sl_model.specs.Runs.State.{Pointer};
+ghost use Rattle.sl_model.specs.LibraryCalls.Values.{Value};
 ghost use Rattle.sl_model.specs.LibraryCalls.Situation.{Situation};
 ghost use Rattle.sl_model.specs.LibraryCalls.Actions.{appends};
-ghost use Rattle.sl_model.specs.LibraryCalls.Effects.{Left, append as append_data, does, insertion_class as class_of_form};
+ghost use Rattle.sl_model.specs.LibraryCalls.Effects.{Left, append as append_data, does};
+ghost use Rattle.sl_model.specs.LibraryCalls.Effects.{insertion_class as class_of_form};
 ghost use Rattle.sl_model.proofs.FineEffects.{IsFine};
 ghost use Rattle.sl_slots.specs.Stored.{elements_at};
 ghost use Rattle.sl_effects.specs.Carried.{Carries, Meets};
@@ -35,8 +36,9 @@ pub fn append_all(
     requires there { container < length store.old.containers.items }
     requires few { length (elements_at store.old container) + length numbers.now < 2 ^ 63 }
     ensures many { OnOk result (length store.new.containers.items ≡ length store.old.containers.items) }
-    ensures shows { OnOk result ((form : FormData) (class : ClassData) (s : Situation) (ps : List PointerData) (vs : List ValueData)
-        (xs : List ℤ) → map (converted Int) xs ≡ numbers.now → IsFine class s (appends container xs) →
+    ensures shows { OnOk result ((form : FormData) (class : ClassData) (s : Situation)
+        (ps : List Pointer) (vs : List Value) (xs : List ℤ) →
+        map (converted Int) xs ≡ numbers.now → IsFine class s (appends container xs) →
         Meets store.old picks.old s.object site s ps vs →
         Carries store.new picks.new (does form class s (appends container xs)) ps vs) }
 {
@@ -57,8 +59,9 @@ fn append(
     requires there { container < length store.old.containers.items }
     requires few { length (elements_at store.old container) + 1 < 2 ^ 63 }
     ensures many { OnOk result (length store.new.containers.items ≡ length store.old.containers.items) }
-    ensures size { OnOk result (length (elements_at store.new container) ≡ length (elements_at store.old container) + 1) }
-    ensures shows { OnOk result ((left : Left) (ps : List PointerData) (vs : List ValueData) (x : ℤ) →
+    ensures size { OnOk result
+        (length (elements_at store.new container) ≡ length (elements_at store.old container) + 1) }
+    ensures shows { OnOk result ((left : Left) (ps : List Pointer) (vs : List Value) (x : ℤ) →
         converted Int x ≡ number → size (cont_at left.memory container) + 1 ≤ ELEMENTS →
         Carries store.old picks.old left ps vs →
         Carries store.new picks.new (append_data site container (cont_at left.memory container) x left) ps vs) }
@@ -79,7 +82,7 @@ fn end_insertion(store: &Store, picks: &Picks, container: usize) -> Edit
     requires few { length (elements_at store.now container) + 1 < 2 ^ 63 }
     ensures from { result.from ≡ length (elements_at store.now container) }
     ensures gone { result.gone ≡ 0 }
-    ensures edit { (left : Left) (ps : List PointerData) (vs : List ValueData) → Carries store.now picks.now left ps vs →
+    ensures edit { (left : Left) (ps : List Pointer) (vs : List Value) → Carries store.now picks.now left ps vs →
         IsEndInsertion result (cont_at left.memory container) left.picks }
 {
     Edit {

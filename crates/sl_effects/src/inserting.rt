@@ -3,8 +3,8 @@ ghost use Rattle.std.specs.Prelude.{◌≡◌, ◌≤◌, ◌<◌, ◌+◌, ◌^
 ghost use Rattle.sl_base.specs.declared.limits.TheConstants.{ELEMENTS};
 ghost use Rattle.sl_base.specs.declared.form.Form.{Form as FormData};
 ghost use Rattle.sl_model.specs.Memory.Containers.{cont_at, size};
-ghost use Rattle.sl_model.specs.Runs.State.{Pointer as PointerData};
-ghost use Rattle.sl_model.specs.LibraryCalls.Values.{Value as ValueData};
+ghost use Rattle.sl_model.specs.Runs.State.{Pointer};
+ghost use Rattle.sl_model.specs.LibraryCalls.Values.{Value};
 ghost use Rattle.sl_model.specs.LibraryCalls.Situation.{Situation};
 ghost use Rattle.sl_model.specs.LibraryCalls.Actions.{inserts};
 ghost use Rattle.sl_model.specs.LibraryCalls.Effects.{Left, does, insert_key as insert_key_data};
@@ -23,8 +23,8 @@ use sl_slots::{Element, Store};
 use sl_specs::Class;
 use std::alloc::{AllocError, Global};
 
-/// Puts elements into a container with keys, one by one, at a site. A key that is there keeps an equal one out, but where
-/// equal keys may be. Hash forms take picks. After AllocError nothing is said.
+/// Puts elements into a container with keys, one by one, at a site. A key that is there keeps an equal one out, but
+/// where equal keys may be. Hash forms take picks. After AllocError nothing is said.
 pub fn insert_all(
     store: &mut Store,
     alloc: Global,
@@ -37,7 +37,8 @@ pub fn insert_all(
     requires there { container < length store.old.containers.items }
     requires few { length (elements_at store.old container) + length elements.now < 2 ^ 63 }
     ensures many { OnOk result (length store.new.containers.items ≡ length store.old.containers.items) }
-    ensures shows { OnOk result ((form : FormData) (s : Situation) (ps : List PointerData) (vs : List ValueData) (xs : List (ℤ × ℤ)) →
+    ensures shows { OnOk result ((form : FormData) (s : Situation) (ps : List Pointer) (vs : List Value)
+        (xs : List (ℤ × ℤ)) →
         is_key_class class ≡ true → AreKeyed xs elements.now → IsFine class s (inserts xs) →
         Meets store.old picks.old container site s ps vs →
         Carries store.new picks.new (does form class s (inserts xs)) ps vs) }
@@ -61,12 +62,14 @@ fn insert_key(
     requires there { container < length store.old.containers.items }
     requires few { length (elements_at store.old container) + 1 < 2 ^ 63 }
     ensures many { OnOk result (length store.new.containers.items ≡ length store.old.containers.items) }
-    ensures size { OnOk result (length (elements_at store.new container) ≤ length (elements_at store.old container) + 1) }
-    ensures shows { OnOk result ((left : Left) (ps : List PointerData) (vs : List ValueData) (x : ℤ × ℤ) (xs : List ℤ) →
+    ensures size { OnOk result
+        (length (elements_at store.new container) ≤ length (elements_at store.old container) + 1) }
+    ensures shows { OnOk result ((left : Left) (ps : List Pointer) (vs : List Value) (x : ℤ × ℤ) (xs : List ℤ) →
         is_key_class class ≡ true → new_element x ≡ element → x.0 ≡ element.key →
         size (cont_at left.memory container) + new_keys (cont_at left.memory container) (x.0 ∷ xs) ≤ ELEMENTS →
         Carries store.old picks.old left ps vs →
-        Carries store.new picks.new (insert_key_data class site container (cont_at left.memory container) x left) ps vs) }
+        Carries store.new picks.new
+        (insert_key_data class site container (cont_at left.memory container) x left) ps vs) }
 {
     if known_place(store, container, element.key).is_some() {
         return Ok(());
@@ -88,9 +91,11 @@ fn insert_new(
     requires there { container < length store.old.containers.items }
     requires few { length (elements_at store.old container) + 1 < 2 ^ 63 }
     ensures many { OnOk result (length store.new.containers.items ≡ length store.old.containers.items) }
-    ensures size { OnOk result (length (elements_at store.new container) ≡ length (elements_at store.old container) + 1) }
-    ensures shows { OnOk result ((left : Left) (ps : List PointerData) (vs : List ValueData) (x : ℤ × ℤ) → is_key_class class ≡ true →
-        new_element x ≡ element → x.0 ≡ element.key → size (cont_at left.memory container) + 1 ≤ ELEMENTS →
+    ensures size { OnOk result
+        (length (elements_at store.new container) ≡ length (elements_at store.old container) + 1) }
+    ensures shows { OnOk result ((left : Left) (ps : List Pointer) (vs : List Value) (x : ℤ × ℤ) →
+        is_key_class class ≡ true → new_element x ≡ element → x.0 ≡ element.key →
+        size (cont_at left.memory container) + 1 ≤ ELEMENTS →
         Carries store.old picks.old left ps vs →
         Carries store.new picks.new (added class site container (cont_at left.memory container) x left) ps vs) }
 {

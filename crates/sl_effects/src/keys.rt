@@ -4,8 +4,8 @@ ghost use Rattle.sl_specs.specs.Forms.{is_hash};
 ghost use Rattle.sl_model.specs.Memory.Containers.{Memory, cont_at};
 ghost use Rattle.sl_model.specs.Memory.Forms.{holds_equal_keys};
 ghost use Rattle.sl_model.specs.Memory.Orders.{how_many, index_of_key, same};
-ghost use Rattle.sl_model.specs.Runs.State.{Pointer as PointerData};
-ghost use Rattle.sl_model.specs.LibraryCalls.Values.{Value as ValueData};
+ghost use Rattle.sl_model.specs.Runs.State.{Pointer};
+ghost use Rattle.sl_model.specs.LibraryCalls.Values.{Value};
 ghost use Rattle.sl_model.specs.LibraryCalls.Effects.{known_key, ordered_place as place_in_order};
 ghost use Rattle.sl_slots.specs.Shown.{Holds};
 ghost use Rattle.sl_slots.specs.Stored.{elements_at};
@@ -17,7 +17,7 @@ use sl_slots::{Element, Store};
 /// The place of a key that keeps an equal one out of a container.
 pub fn known_place(store: &Store, container: usize, key: i32) -> Option<usize>
     requires { container < length store.now.containers.items }
-    ensures { (m : Memory) (ps : List PointerData) (vs : List ValueData) → Holds store.now m ps vs →
+    ensures { (m : Memory) (ps : List Pointer) (vs : List Value) → Holds store.now m ps vs →
         result ≡ known_key (cont_at m container) key }
 {
     if has_equal_keys(store.form(container)) {
@@ -30,7 +30,7 @@ pub fn known_place(store: &Store, container: usize, key: i32) -> Option<usize>
 pub fn ordered_place(store: &Store, container: usize, key: i32) -> usize
     requires { container < length store.now.containers.items }
     ensures within { result ≤ length (elements_at store.now container) }
-    ensures shows { (m : Memory) (ps : List PointerData) (vs : List ValueData) → Holds store.now m ps vs →
+    ensures shows { (m : Memory) (ps : List Pointer) (vs : List Value) → Holds store.now m ps vs →
         result ≡ place_in_order (cont_at m container) key }
 {
     let equal = has_equal_keys(store.form(container));

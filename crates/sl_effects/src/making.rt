@@ -1,8 +1,8 @@
 //! Containers that calls make.
 ghost use Rattle.std.specs.Prelude.{◌≡◌, ◌<◌, ◌+◌, ◌^◌, ℤ, true, List, length, map, OnOk, OnErr};
 ghost use Rattle.sl_specs.specs.declared.class.Class.{Class as ClassData};
-ghost use Rattle.sl_model.specs.Runs.State.{Pointer as PointerData};
-ghost use Rattle.sl_model.specs.LibraryCalls.Values.{Value as ValueData};
+ghost use Rattle.sl_model.specs.Runs.State.{Pointer};
+ghost use Rattle.sl_model.specs.LibraryCalls.Values.{Value};
 ghost use Rattle.sl_model.specs.LibraryCalls.Situation.{Situation};
 ghost use Rattle.sl_model.specs.LibraryCalls.Actions.{makes, makes_by_keys};
 ghost use Rattle.sl_model.specs.LibraryCalls.Effects.{does};
@@ -18,8 +18,8 @@ use sl_slots::{Element, Store};
 use sl_specs::Class;
 use std::alloc::{AllocError, Global};
 
-/// Makes a container, as the last, with these elements; the call took so many picks. After AllocError the store is as it
-/// was.
+/// Makes a container, as the last, with these elements; the call took so many picks. After AllocError the store is
+/// as it was.
 pub fn make(
     store: &mut Store,
     picks: &mut Picks,
@@ -29,7 +29,8 @@ pub fn make(
     elements: Vec<Element>,
 ) -> Result<(), AllocError>
     ensures many { OnOk result (length store.new.containers.items ≡ length store.old.containers.items + 1) }
-    ensures shows { OnOk result ((class : ClassData) (s : Situation) (ps : List PointerData) (vs : List ValueData) (xs : List (ℤ × ℤ)) →
+    ensures shows { OnOk result ((class : ClassData) (s : Situation) (ps : List Pointer) (vs : List Value)
+        (xs : List (ℤ × ℤ)) →
         map new_element xs ≡ elements.items → IsFine class s (makes taken room xs) →
         Meets store.old picks.old s.object s.site s ps vs →
         Carries store.new picks.new (does form class s (makes taken room xs)) ps vs) }
@@ -40,8 +41,8 @@ pub fn make(
     Ok(())
 }
 
-/// Makes a container, as the last, into which these elements are put one by one, at a site; the call took so many picks
-/// before. After AllocError nothing is said.
+/// Makes a container, as the last, into which these elements are put one by one, at a site; the call took so many
+/// picks before. After AllocError nothing is said.
 pub fn make_by_keys(
     store: &mut Store,
     alloc: Global,
@@ -55,7 +56,7 @@ pub fn make_by_keys(
 ) -> Result<(), AllocError>
     requires { length elements.now < 2 ^ 63 }
     ensures many { OnOk result (length store.new.containers.items ≡ length store.old.containers.items + 1) }
-    ensures shows { OnOk result ((s : Situation) (ps : List PointerData) (vs : List ValueData) (xs : List (ℤ × ℤ)) →
+    ensures shows { OnOk result ((s : Situation) (ps : List Pointer) (vs : List Value) (xs : List (ℤ × ℤ)) →
         is_key_class class ≡ true → AreKeyed xs elements.now → IsFine class s (makes_by_keys taken room xs) →
         Meets store.old picks.old s.object site s ps vs →
         Carries store.new picks.new (does form class s (makes_by_keys taken room xs)) ps vs) }

@@ -1,9 +1,10 @@
 //! What a new key takes: picks, a room and a place. Nothing is taken yet.
 ghost use Rattle.std.specs.Prelude.{◌≡◌, ◌≤◌, ◌+◌, ◌<◌, ◌^◌, List, length};
 ghost use Rattle.sl_model.specs.Memory.Containers.{Memory, cont_at};
-ghost use Rattle.sl_model.specs.Runs.State.{Pointer as PointerData};
-ghost use Rattle.sl_model.specs.LibraryCalls.Values.{Value as ValueData};
-ghost use Rattle.sl_model.specs.LibraryCalls.Effects.{Left, key_picks as picks_of_key, key_place as place_of_key, key_room as room_of_key};
+ghost use Rattle.sl_model.specs.Runs.State.{Pointer};
+ghost use Rattle.sl_model.specs.LibraryCalls.Values.{Value};
+ghost use Rattle.sl_model.specs.LibraryCalls.Effects.{Left, key_picks as picks_of_key};
+ghost use Rattle.sl_model.specs.LibraryCalls.Effects.{key_place as place_of_key, key_room as room_of_key};
 ghost use Rattle.sl_slots.specs.Shown.{Holds};
 ghost use Rattle.sl_slots.specs.Stored.{elements_at};
 ghost use Rattle.sl_effects.specs.Carried.{Carries};
@@ -19,7 +20,7 @@ use sl_slots::Store;
 pub fn is_rebuilt(store: &Store, container: usize) -> bool
     requires there { container < length store.now.containers.items }
     requires few { length (elements_at store.now container) + 1 < 2 ^ 63 }
-    ensures { (m : Memory) (ps : List PointerData) (vs : List ValueData) → Holds store.now m ps vs →
+    ensures { (m : Memory) (ps : List Pointer) (vs : List Value) → Holds store.now m ps vs →
         result ≡ scatters (cont_at m container) }
 {
     if is_hashed(store.form(container)) {
@@ -32,7 +33,7 @@ pub fn is_rebuilt(store: &Store, container: usize) -> bool
 pub fn key_picks(store: &Store, container: usize) -> usize
     requires there { container < length store.now.containers.items }
     requires few { length (elements_at store.now container) + 1 < 2 ^ 63 }
-    ensures { (m : Memory) (ps : List PointerData) (vs : List ValueData) → Holds store.now m ps vs →
+    ensures { (m : Memory) (ps : List Pointer) (vs : List Value) → Holds store.now m ps vs →
         result ≡ picks_of_key (cont_at m container) }
 {
     if is_hashed(store.form(container)) {
@@ -45,7 +46,7 @@ pub fn key_picks(store: &Store, container: usize) -> usize
 fn hash_picks(store: &Store, container: usize) -> usize
     requires there { container < length store.now.containers.items }
     requires few { length (elements_at store.now container) + 1 < 2 ^ 63 }
-    ensures { (m : Memory) (ps : List PointerData) (vs : List ValueData) → Holds store.now m ps vs →
+    ensures { (m : Memory) (ps : List Pointer) (vs : List Value) → Holds store.now m ps vs →
         result ≡ picks_in_hash (cont_at m container) }
 {
     if lacks_room(store, container, 1) {
@@ -58,7 +59,7 @@ fn hash_picks(store: &Store, container: usize) -> usize
 pub fn key_room(store: &Store, container: usize, picks: &Picks) -> usize
     requires there { container < length store.now.containers.items }
     requires few { length (elements_at store.now container) + 1 < 2 ^ 63 }
-    ensures { (left : Left) (ps : List PointerData) (vs : List ValueData) → Carries store.now picks.now left ps vs →
+    ensures { (left : Left) (ps : List Pointer) (vs : List Value) → Carries store.now picks.now left ps vs →
         result ≡ room_of_key (cont_at left.memory container) left.picks }
 {
     if is_hashed(store.form(container)) {
@@ -72,8 +73,8 @@ pub fn key_place(store: &Store, container: usize, key: i32, picks: &Picks) -> us
     requires there { container < length store.now.containers.items }
     requires few { length (elements_at store.now container) + 1 < 2 ^ 63 }
     ensures within { result ≤ length (elements_at store.now container) }
-    ensures shows { (left : Left) (ps : List PointerData) (vs : List ValueData) → Carries store.now picks.now left ps vs →
-        result ≡ place_of_key (cont_at left.memory container) key left.picks }
+    ensures shows { (left : Left) (ps : List Pointer) (vs : List Value) →
+        Carries store.now picks.now left ps vs → result ≡ place_of_key (cont_at left.memory container) key left.picks }
 {
     if is_hashed(store.form(container)) {
         let last = key_picks(store, container).saturating_sub(1);

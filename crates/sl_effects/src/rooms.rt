@@ -2,8 +2,8 @@
 ghost use Rattle.std.specs.Prelude.{◌≡◌, ◌+◌, ◌<◌, ◌^◌, List, length};
 ghost use Rattle.sl_base.specs.declared.form.Form.TheVariants.{Vector};
 ghost use Rattle.sl_model.specs.Memory.Containers.{Memory, cont_at};
-ghost use Rattle.sl_model.specs.Runs.State.{Pointer as PointerData};
-ghost use Rattle.sl_model.specs.LibraryCalls.Values.{Value as ValueData};
+ghost use Rattle.sl_model.specs.Runs.State.{Pointer};
+ghost use Rattle.sl_model.specs.LibraryCalls.Values.{Value};
 ghost use Rattle.sl_model.specs.LibraryCalls.Effects.{Left, grown_picks as picks_grown, grown_room as room_grown};
 ghost use Rattle.sl_model.specs.LibraryCalls.Effects.{is_full, picks_with, room_with};
 ghost use Rattle.sl_slots.specs.Shown.{Holds};
@@ -18,17 +18,18 @@ use sl_slots::Store;
 pub fn lacks_room(store: &Store, container: usize, come: usize) -> bool
     requires there { container < length store.now.containers.items }
     requires few { length (elements_at store.now container) + come < 2 ^ 63 }
-    ensures { (m : Memory) (ps : List PointerData) (vs : List ValueData) → Holds store.now m ps vs →
+    ensures { (m : Memory) (ps : List Pointer) (vs : List Value) → Holds store.now m ps vs →
         result ≡ is_full (cont_at m container) come }
 {
     store.room(container) < store.size(container) + come
 }
 
-/// The room of a container after so many elements come: where they are too many for it, their number and the next pick.
+/// The room of a container after so many elements come: where they are too many for it, their number and the next
+/// pick.
 pub fn grown_room(store: &Store, container: usize, come: usize, picks: &Picks) -> usize
     requires there { container < length store.now.containers.items }
     requires few { length (elements_at store.now container) + come < 2 ^ 63 }
-    ensures { (left : Left) (ps : List PointerData) (vs : List ValueData) → Carries store.now picks.now left ps vs →
+    ensures { (left : Left) (ps : List Pointer) (vs : List Value) → Carries store.now picks.now left ps vs →
         result ≡ room_grown (cont_at left.memory container) come left.picks }
 {
     if lacks_room(store, container, come) {
@@ -41,7 +42,7 @@ pub fn grown_room(store: &Store, container: usize, come: usize, picks: &Picks) -
 pub fn grown_picks(store: &Store, container: usize, come: usize) -> usize
     requires there { container < length store.now.containers.items }
     requires few { length (elements_at store.now container) + come < 2 ^ 63 }
-    ensures { (m : Memory) (ps : List PointerData) (vs : List ValueData) → Holds store.now m ps vs →
+    ensures { (m : Memory) (ps : List Pointer) (vs : List Value) → Holds store.now m ps vs →
         result ≡ picks_grown (cont_at m container) come }
 {
     if lacks_room(store, container, come) {
@@ -55,7 +56,7 @@ pub fn grown_picks(store: &Store, container: usize, come: usize) -> usize
 pub fn sequence_room(store: &Store, container: usize, come: usize, picks: &Picks) -> usize
     requires there { container < length store.now.containers.items }
     requires few { length (elements_at store.now container) + come < 2 ^ 63 }
-    ensures { (left : Left) (ps : List PointerData) (vs : List ValueData) → Carries store.now picks.now left ps vs →
+    ensures { (left : Left) (ps : List Pointer) (vs : List Value) → Carries store.now picks.now left ps vs →
         result ≡ room_with (cont_at left.memory container).form (cont_at left.memory container) come left.picks }
 {
     match store.form(container) {
@@ -68,7 +69,7 @@ pub fn sequence_room(store: &Store, container: usize, come: usize, picks: &Picks
 pub fn sequence_picks(store: &Store, container: usize, come: usize) -> usize
     requires there { container < length store.now.containers.items }
     requires few { length (elements_at store.now container) + come < 2 ^ 63 }
-    ensures { (m : Memory) (ps : List PointerData) (vs : List ValueData) → Holds store.now m ps vs →
+    ensures { (m : Memory) (ps : List Pointer) (vs : List Value) → Holds store.now m ps vs →
         result ≡ picks_with (cont_at m container).form (cont_at m container) come }
 {
     match store.form(container) {
@@ -81,7 +82,7 @@ pub fn sequence_picks(store: &Store, container: usize, come: usize) -> usize
 fn vector_room(store: &Store, container: usize, come: usize, picks: &Picks) -> usize
     requires there { container < length store.now.containers.items }
     requires few { length (elements_at store.now container) + come < 2 ^ 63 }
-    ensures { (left : Left) (ps : List PointerData) (vs : List ValueData) → Carries store.now picks.now left ps vs →
+    ensures { (left : Left) (ps : List Pointer) (vs : List Value) → Carries store.now picks.now left ps vs →
         result ≡ room_with Vector (cont_at left.memory container) come left.picks }
 {
     if come == 0 {
@@ -94,7 +95,7 @@ fn vector_room(store: &Store, container: usize, come: usize, picks: &Picks) -> u
 fn vector_picks(store: &Store, container: usize, come: usize) -> usize
     requires there { container < length store.now.containers.items }
     requires few { length (elements_at store.now container) + come < 2 ^ 63 }
-    ensures { (m : Memory) (ps : List PointerData) (vs : List ValueData) → Holds store.now m ps vs →
+    ensures { (m : Memory) (ps : List Pointer) (vs : List Value) → Holds store.now m ps vs →
         result ≡ picks_with Vector (cont_at m container) come }
 {
     if come == 0 {

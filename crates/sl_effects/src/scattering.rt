@@ -7,8 +7,8 @@ ghost use Rattle.sl_effects.specs.Carried.{left_in};
 use crate::picks::Picks;
 use std::alloc::{AllocError, Global};
 
-/// The places of so many elements in the order in which picks put them into a hash form: one pick for each, after some
-/// others. Nothing is taken yet.
+/// The places of so many elements in the order in which picks put them into a hash form: one pick for each, after
+/// some others. Nothing is taken yet.
 pub fn scatter(
     alloc: Global,
     count: usize,
@@ -16,7 +16,8 @@ pub fn scatter(
     after: usize,
 ) -> Result<Vec<usize>, AllocError>
     requires { after + count < 2 ^ 63 }
-    ensures { IfOk result (λ order. order.items ≡ scattered (after_picks after (left_in picks.now)) (numbers 0 count)) }
+    ensures { IfOk result (λ order. order.items
+        ≡ scattered (after_picks after (left_in picks.now)) (numbers 0 count)) }
 {
     let mut order = Vec::new(alloc);
     for place in 0..count {

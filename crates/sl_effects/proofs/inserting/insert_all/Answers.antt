@@ -50,8 +50,10 @@ loop-element-preserved c = record {
   many = c.in_ok-insert_key.ensures.many ∙ c.loop-element.invariant.many;
   long = let a = c.in_ok-insert_key.ensures.size in let b = c.loop-element.invariant.long in omega arith;
   runs = λ left ps vs xs class all few h.
-      insert_next c.args.class c.args.site c.args.container xs c.args.elements.now left c.loop-element.element-index c.loop-element.store c.insert_key.new.store
-      c.loop-element.picks c.insert_key.new.picks _ (record { key = pos 0; value = pos 0 }) ps vs class c.in_ok-insert_key.ensures.shows all
+      insert_next c.args.class c.args.site c.args.container xs c.args.elements.now left c.loop-element.element-index c.loop-element.store
+      c.insert_key.new.store c.loop-element.picks c.insert_key.new.picks _
+      (record { key = pos 0; value = pos 0 }) ps vs class c.in_ok-insert_key.ensures.shows all
       c.loop-element-test.true refl
-      (let a = c.loop-element.invariant.many in let d = c.requires.there in omega arith) (c.loop-element.invariant.runs left ps vs xs class all few h);
+      (let a = c.loop-element.invariant.many in let d = c.requires.there in omega arith)
+      (c.loop-element.invariant.runs left ps vs xs class all few h);
 }

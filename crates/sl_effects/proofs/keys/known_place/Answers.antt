@@ -14,6 +14,7 @@ returns-then-has_equal_keys c = λ m ps vs h. known_nowhere (cont_at m c.args.co
 pub returns : goal.returns
 returns c = λ m ps vs h. known_found (cont_at m c.args.container) c.args.key _ c.deref.result.now c.find_key.result
     (ap holds_equal_keys (sym (c.form.ensures.shows m ps vs h)) ∙ (sym c.has_equal_keys.ensures ∙ c.if-has_equal_keys.false))
-    (ap keys_of (read_elements c.args.store.now c.args.container c.index.result.now c.deref.result.now c.requires c.index.ensures c.deref.ensures.value)
+    (ap keys_of (read_elements c.args.store.now c.args.container c.index.result.now c.deref.result.now c.requires
+    c.index.ensures c.deref.ensures.value)
     ∙ shown_keys c.args.store.now m ps vs h c.args.container c.requires)
     (to_z-of_z w32 c.args.key c.ranges.key) c.find_key.ensures
