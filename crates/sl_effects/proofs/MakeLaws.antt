@@ -2,7 +2,7 @@
 use Rattle.std.proofs.Common.{◌≡◌, ℕ, suc, ◌+◌, ◌≤◌, Bool, true, false, List, [], ◌∷◌, ◌++◌, Option, Some, None, length, map, ap}
 use Rattle.std.proofs.Common.{sym, ◌∙◌, arith, ℤ, if◌then◌else◌}
 use Rattle.std.specs.List.{slice_get}
-use Rattle.std.proofs.lemmas.List.{length-map, length_push}
+use Rattle.std.proofs.lemmas.List.{length-map}
 use Rattle.sl_base.specs.declared.form.Form.{Form}
 use Rattle.sl_base.specs.declared.form.Form.TheVariants.{Vector}
 use Rattle.sl_base.specs.declared.limits.TheConstants.{ELEMENTS}
@@ -80,14 +80,6 @@ fine_made form room n class s xs last few = (there, few')
 pub many_shown : (st : Store) (m : Memory) (ps : List Pointer) (vs : List Value) → Holds st m ps vs → length st.containers.items ≡ length m.conts
 many_shown st m ps vs h = sym (length-map st.containers.items contents)
     ∙ (ap (λ (l : List Plain). length l) h.shows.containers ∙ length-map m.conts plain)
-
--- one container more
-pub many_made : (old new : Store) (form : Form) (room : ℕ) (es : List Element) → Made form room es old new
-    → length new.containers.items ≡ length old.containers.items + 1
-many_made old new form room es is = sym (length-map new.containers.items contents)
-    ∙ (ap (λ (l : List Plain). length l) is.containers
-    ∙ (length_push (map contents old.containers.items) (record { form = form; elements = es; room = room })
-    ∙ ap (λ (n : ℕ). n + 1) (length-map old.containers.items contents)))
 
 -- the last of these
 last_listed : (l : List Plain) (p : Plain) (n : ℕ) → n ≡ length l + 0 → listed (l ++ p ∷ []) n ≡ p

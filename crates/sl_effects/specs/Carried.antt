@@ -1,5 +1,5 @@
 -- When a store and the picks of a schedule stand for what an effect of a call leaves, and for what a call meets.
-use Rattle.std.specs.Prelude.{◌≡◌, ℕ, ℤ, Bool, true, false, List, map, drop}
+use Rattle.std.specs.Prelude.{◌≡◌, ℕ, ◌+◌, ℤ, Bool, true, false, List, map, length, drop}
 use Rattle.sl_specs.specs.declared.class.Class.{Class}
 use Rattle.sl_specs.specs.declared.class.Class.TheVariants.{Nothing, HashInsert}
 use Rattle.sl_model.specs.Runs.State.{Pointer}
@@ -19,6 +19,12 @@ left_in picks = drop picks.taken picks.numbers.items
 pub record Carries (st : Store) (picks : Picks) (left : Left) (ps : List Pointer) (vs : List Value) : Type 0 where
   pub holds : Holds st left.memory ps vs
   pub schedule : left_in picks ≡ left.picks
+
+-- so many containers came, and as many variables and operands are there as before
+pub record GrewBy (more : ℕ) (old new : Store) : Type 0 where
+  pub containers : length new.containers.items ≡ length old.containers.items + more
+  pub variables : length new.pointers.items ≡ length old.pointers.items
+  pub operands : length new.operands.items ≡ length old.operands.items
 
 -- what is left when a call begins: all that it meets
 abbrev pub begun : Situation → Left

@@ -14,7 +14,7 @@ ghost use Rattle.sl_model.specs.LibraryCalls.Effects.{Left, append as append_dat
 ghost use Rattle.sl_model.specs.LibraryCalls.Effects.{insertion_class as class_of_form};
 ghost use Rattle.sl_model.proofs.FineEffects.{IsFine};
 ghost use Rattle.sl_slots.specs.Stored.{elements_at};
-ghost use Rattle.sl_effects.specs.Carried.{Carries, Meets};
+ghost use Rattle.sl_effects.specs.Carried.{Carries, GrewBy, Meets};
 ghost use Rattle.sl_effects.specs.Means.Endings.{IsEndInsertion};
 
 use crate::picks::Picks;
@@ -35,7 +35,7 @@ pub fn append_all(
 ) -> Result<(), AllocError>
     requires there { container < length store.old.containers.items }
     requires few { length (elements_at store.old container) + length numbers.now < 2 ^ 63 }
-    ensures many { OnOk result (length store.new.containers.items ≡ length store.old.containers.items) }
+    ensures grew { OnOk result (GrewBy 0 store.old store.new) }
     ensures shows { OnOk result ((form : FormData) (class : ClassData) (s : Situation)
         (ps : List Pointer) (vs : List Value) (xs : List ℤ) →
         map (converted Int) xs ≡ numbers.now → IsFine class s (appends container xs) →
@@ -58,7 +58,7 @@ fn append(
 ) -> Result<(), AllocError>
     requires there { container < length store.old.containers.items }
     requires few { length (elements_at store.old container) + 1 < 2 ^ 63 }
-    ensures many { OnOk result (length store.new.containers.items ≡ length store.old.containers.items) }
+    ensures grew { OnOk result (GrewBy 0 store.old store.new) }
     ensures size { OnOk result
         (length (elements_at store.new container) ≡ length (elements_at store.old container) + 1) }
     ensures shows { OnOk result ((left : Left) (ps : List Pointer) (vs : List Value) (x : ℤ) →

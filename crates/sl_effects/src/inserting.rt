@@ -12,7 +12,7 @@ ghost use Rattle.sl_model.specs.LibraryCalls.KeyActions.{new_keys};
 ghost use Rattle.sl_model.proofs.FineEffects.{IsFine};
 ghost use Rattle.sl_slots.specs.Shown.{new_element};
 ghost use Rattle.sl_slots.specs.Stored.{elements_at};
-ghost use Rattle.sl_effects.specs.Carried.{AreKeyed, Carries, Meets, is_key_class};
+ghost use Rattle.sl_effects.specs.Carried.{AreKeyed, Carries, GrewBy, Meets, is_key_class};
 ghost use Rattle.sl_effects.specs.Means.Keys.{added};
 
 use crate::adding::add;
@@ -36,7 +36,7 @@ pub fn insert_all(
 ) -> Result<(), AllocError>
     requires there { container < length store.old.containers.items }
     requires few { length (elements_at store.old container) + length elements.now < 2 ^ 63 }
-    ensures many { OnOk result (length store.new.containers.items ≡ length store.old.containers.items) }
+    ensures grew { OnOk result (GrewBy 0 store.old store.new) }
     ensures shows { OnOk result ((form : FormData) (s : Situation) (ps : List Pointer) (vs : List Value)
         (xs : List (ℤ × ℤ)) →
         is_key_class class ≡ true → AreKeyed xs elements.now → IsFine class s (inserts xs) →
@@ -61,7 +61,7 @@ fn insert_key(
 ) -> Result<(), AllocError>
     requires there { container < length store.old.containers.items }
     requires few { length (elements_at store.old container) + 1 < 2 ^ 63 }
-    ensures many { OnOk result (length store.new.containers.items ≡ length store.old.containers.items) }
+    ensures grew { OnOk result (GrewBy 0 store.old store.new) }
     ensures size { OnOk result
         (length (elements_at store.new container) ≤ length (elements_at store.old container) + 1) }
     ensures shows { OnOk result ((left : Left) (ps : List Pointer) (vs : List Value) (x : ℤ × ℤ) (xs : List ℤ) →
@@ -90,7 +90,7 @@ fn insert_new(
 ) -> Result<(), AllocError>
     requires there { container < length store.old.containers.items }
     requires few { length (elements_at store.old container) + 1 < 2 ^ 63 }
-    ensures many { OnOk result (length store.new.containers.items ≡ length store.old.containers.items) }
+    ensures grew { OnOk result (GrewBy 0 store.old store.new) }
     ensures size { OnOk result
         (length (elements_at store.new container) ≡ length (elements_at store.old container) + 1) }
     ensures shows { OnOk result ((left : Left) (ps : List Pointer) (vs : List Value) (x : ℤ × ℤ) →

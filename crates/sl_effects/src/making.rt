@@ -9,7 +9,7 @@ ghost use Rattle.sl_model.specs.LibraryCalls.Effects.{does};
 ghost use Rattle.sl_model.proofs.FineEffects.{IsFine};
 ghost use Rattle.sl_slots.specs.Shown.{new_element};
 ghost use Rattle.sl_slots.specs.Stored.{Stays};
-ghost use Rattle.sl_effects.specs.Carried.{AreKeyed, Carries, Meets, is_key_class};
+ghost use Rattle.sl_effects.specs.Carried.{AreKeyed, Carries, GrewBy, Meets, is_key_class};
 
 use crate::inserting::insert_all;
 use crate::picks::Picks;
@@ -28,7 +28,7 @@ pub fn make(
     room: usize,
     elements: Vec<Element>,
 ) -> Result<(), AllocError>
-    ensures many { OnOk result (length store.new.containers.items ≡ length store.old.containers.items + 1) }
+    ensures grew { OnOk result (GrewBy 1 store.old store.new) }
     ensures shows { OnOk result ((class : ClassData) (s : Situation) (ps : List Pointer) (vs : List Value)
         (xs : List (ℤ × ℤ)) →
         map new_element xs ≡ elements.items → IsFine class s (makes taken room xs) →
@@ -55,7 +55,7 @@ pub fn make_by_keys(
     site: usize,
 ) -> Result<(), AllocError>
     requires { length elements.now < 2 ^ 63 }
-    ensures many { OnOk result (length store.new.containers.items ≡ length store.old.containers.items + 1) }
+    ensures grew { OnOk result (GrewBy 1 store.old store.new) }
     ensures shows { OnOk result ((s : Situation) (ps : List Pointer) (vs : List Value) (xs : List (ℤ × ℤ)) →
         is_key_class class ≡ true → AreKeyed xs elements.now → IsFine class s (makes_by_keys taken room xs) →
         Meets store.old picks.old s.object site s ps vs →

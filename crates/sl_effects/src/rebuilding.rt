@@ -10,7 +10,7 @@ ghost use Rattle.sl_model.specs.LibraryCalls.Effects.{Left, key_change};
 ghost use Rattle.sl_slots.specs.declared.source.Source.TheVariants.{Old, New};
 ghost use Rattle.sl_slots.specs.Shown.{Holds, new_element};
 ghost use Rattle.sl_slots.specs.Stored.{elements_at};
-ghost use Rattle.sl_effects.specs.Carried.{Carries, is_key_class};
+ghost use Rattle.sl_effects.specs.Carried.{Carries, GrewBy, is_key_class};
 ghost use Rattle.sl_effects.specs.Means.Keys.{grows_over, scatters};
 
 use crate::new_keys::{key_place, key_room};
@@ -33,7 +33,7 @@ pub fn rebuild_with(
 ) -> Result<(), AllocError>
     requires there { container < length store.old.containers.items }
     requires few { length (elements_at store.old container) + 1 < 2 ^ 63 }
-    ensures many { OnOk result (length store.new.containers.items ≡ length store.old.containers.items) }
+    ensures grew { OnOk result (GrewBy 0 store.old store.new) }
     ensures size { OnOk result
         (length (elements_at store.new container) ≡ length (elements_at store.old container) + 1) }
     ensures shows { OnOk result ((left : Left) (ps : List Pointer) (vs : List Value) (x : ℤ × ℤ) →

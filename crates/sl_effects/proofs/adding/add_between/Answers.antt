@@ -4,12 +4,12 @@ use Rattle.sl_model.specs.Memory.Containers.{cont_at}
 use Rattle.sl_model.specs.LibraryCalls.Effects.{key_place}
 use Rattle.sl_effects.proofs.AddLaws.{add_shows}
 use Rattle.sl_effects.proofs.HashLaws.{turn_kept}
-use Rattle.sl_effects.proofs.Stores.{many_edited, size_edited}
+use Rattle.sl_effects.proofs.Stores.{grew_edited, size_edited}
 use Rattle.sl_effects.proofs.adding.add_between.Goals as goal
 
 pub returns : goal.returns
 returns c = record {
-  many = many_edited c.args.store.now c.edit.new.self c.args.container _ _ c.args.site c.in_ok-edit.ensures.edited;
+  grew = grew_edited c.args.store.now c.edit.new.self c.args.container _ _ c.args.site c.in_ok-edit.ensures.edited;
   size = size_edited c.args.store.now c.edit.new.self c.args.container _ _ c.args.site c.in_ok-edit.ensures.edited
       c.requires.there refl c.key_place.ensures.within;
   shows = λ left ps vs x still is key few h.

@@ -3,12 +3,12 @@ use Rattle.std.proofs.lemmas.Int.{to_z-of_z}
 use Rattle.sl_slots.specs.declared.container.Element.{Element}
 use Rattle.sl_model.specs.Memory.Schedule.{after_picks}
 use Rattle.sl_effects.proofs.AppendLaws.{append_carries}
-use Rattle.sl_effects.proofs.Stores.{many_edited, size_edited}
+use Rattle.sl_effects.proofs.Stores.{grew_edited, size_edited}
 use Rattle.sl_effects.proofs.appending.append.Goals as goal
 
 pub returns : goal.returns
 returns c = record {
-  many = many_edited c.args.store.now c.edit.new.self c.args.container c.end_insertion-edit.result _ c.args.site c.in_ok-edit.ensures.edited;
+  grew = grew_edited c.args.store.now c.edit.new.self c.args.container c.end_insertion-edit.result _ c.args.site c.in_ok-edit.ensures.edited;
   size = size_edited c.args.store.now c.edit.new.self c.args.container c.end_insertion-edit.result _ c.args.site c.in_ok-edit.ensures.edited
       c.requires.there c.end_insertion-edit.ensures.gone (let f = c.end_insertion-edit.ensures.from in omega arith);
   shows = λ left ps vs x is few h.

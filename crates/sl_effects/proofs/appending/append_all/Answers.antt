@@ -1,4 +1,4 @@
-use Rattle.std.proofs.Common.{◌≡◌, FitsSigned, get_or, w32, rules, ℕ, ℤ, pos, List, length, ◌≤◌, arith, ap, sym, ◌∙◌, refl, map, subst}
+use Rattle.std.proofs.Common.{◌≡◌, FitsSigned, get_or, w32, rules, ℕ, ℤ, pos, List, length, ◌≤◌, arith, ap, sym, refl, map, subst}
 use Rattle.std.proofs.lemmas.Int.{to_z-of_z}
 use Rattle.std.proofs.lemmas.List.{length-map}
 use Rattle.sl_base.specs.declared.scalar.Scalar.TheVariants.{Int}
@@ -6,11 +6,12 @@ use Rattle.sl_model.specs.Numbers.{converted}
 use Rattle.sl_model.specs.LibraryCalls.Effects.{append_all, left_after}
 use Rattle.sl_effects.specs.Carried.{Carries}
 use Rattle.sl_effects.proofs.AppendLaws.{append_next, append_end}
+use Rattle.sl_effects.proofs.Stores.{grew_none, grew_then}
 use Rattle.sl_effects.proofs.appending.append_all.Goals as goal
 
 pub returns : goal.returns
 returns c = record {
-  many = c.loop-number.invariant.many;
+  grew = c.loop-number.invariant.grew;
   shows = λ form class s ps vs xs all fine h.
       let l : length xs ≤ c.loop-number.number-index =
       (let a : length (map (converted Int) xs) ≡ length c.args.numbers.now = ap (λ (l : List ℤ). length l) all in
@@ -24,7 +25,7 @@ returns c = record {
 
 pub append-requires : goal.append-requires
 append-requires c =
-    let a = c.loop-number.invariant.many in
+    let a = c.loop-number.invariant.grew.containers in
     let b = c.loop-number.invariant.long in
     let d = c.requires.there in
     let e = c.requires.few in
@@ -32,18 +33,18 @@ append-requires c =
 
 pub loop-number-init : goal.loop-number-init
 loop-number-init c = record {
-  many = refl;
+  grew = grew_none c.args.store.now;
   long = omega arith;
   runs = λ left ps vs xs all few h. record { mid = left; carried = h; rest = refl; few = few };
 }
 
 pub loop-number-preserved : goal.loop-number-preserved
 loop-number-preserved c = record {
-  many = c.in_ok-append.ensures.many ∙ c.loop-number.invariant.many;
+  grew = grew_then c.args.store.now c.loop-number.store c.append.new.store 0 0 c.loop-number.invariant.grew c.in_ok-append.ensures.grew;
   long = let a = c.in_ok-append.ensures.size in let b = c.loop-number.invariant.long in omega arith;
   runs = λ left ps vs xs all few h.
       let fits : FitsSigned w32 (get_or c.args.numbers.now c.loop-number.number-index (pos 0)) = search rules in
       append_next c.args.site c.args.container xs c.args.numbers.now left c.loop-number.number-index c.loop-number.store c.append.new.store
       c.loop-number.picks c.append.new.picks _ (pos 0) ps vs c.in_ok-append.ensures.shows all c.loop-number-test.true (to_z-of_z w32 _ fits)
-      (let a = c.loop-number.invariant.many in let d = c.requires.there in omega arith) (c.loop-number.invariant.runs left ps vs xs all few h);
+      (let a = c.loop-number.invariant.grew.containers in let d = c.requires.there in omega arith) (c.loop-number.invariant.runs left ps vs xs all few h);
 }

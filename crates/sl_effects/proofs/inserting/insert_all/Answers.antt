@@ -1,4 +1,4 @@
-use Rattle.std.proofs.Common.{◌≡◌, ℕ, pos, List, length, ◌+◌, ◌≤◌, map, arith, ap, sym, ◌∙◌, refl, subst}
+use Rattle.std.proofs.Common.{◌≡◌, ℕ, pos, List, length, ◌+◌, ◌≤◌, map, arith, ap, sym, refl, subst}
 use Rattle.std.proofs.lemmas.List.{length-map}
 use Rattle.sl_slots.specs.declared.container.Element.{Element}
 use Rattle.sl_slots.specs.Shown.{new_element}
@@ -9,11 +9,12 @@ use Rattle.sl_model.proofs.FineEffects.{keys_in}
 use Rattle.sl_model.specs.LibraryCalls.Effects.{insert_all, left_after}
 use Rattle.sl_effects.specs.Carried.{Carries}
 use Rattle.sl_effects.proofs.InsertLaws.{insert_next, insert_end}
+use Rattle.sl_effects.proofs.Stores.{grew_none, grew_then}
 use Rattle.sl_effects.proofs.inserting.insert_all.Goals as goal
 
 pub returns : goal.returns
 returns c = record {
-  many = c.loop-element.invariant.many;
+  grew = c.loop-element.invariant.grew;
   shows = λ form s ps vs xs class all fine h.
       let l : length xs ≤ c.loop-element.element-index =
       (let a : length (map new_element xs) ≡ length c.args.elements.now = ap (λ (l : List Element). length l) all.elements in
@@ -32,7 +33,7 @@ returns c = record {
 
 pub insert_key-requires : goal.insert_key-requires
 insert_key-requires c =
-    let a = c.loop-element.invariant.many in
+    let a = c.loop-element.invariant.grew.containers in
     let b = c.loop-element.invariant.long in
     let d = c.requires.there in
     let e = c.requires.few in
@@ -40,20 +41,20 @@ insert_key-requires c =
 
 pub loop-element-init : goal.loop-element-init
 loop-element-init c = record {
-  many = refl;
+  grew = grew_none c.args.store.now;
   long = omega arith;
   runs = λ left ps vs xs class all few h. record { mid = left; carried = h; rest = refl; few = few };
 }
 
 pub loop-element-preserved : goal.loop-element-preserved
 loop-element-preserved c = record {
-  many = c.in_ok-insert_key.ensures.many ∙ c.loop-element.invariant.many;
+  grew = grew_then c.args.store.now c.loop-element.store c.insert_key.new.store 0 0 c.loop-element.invariant.grew c.in_ok-insert_key.ensures.grew;
   long = let a = c.in_ok-insert_key.ensures.size in let b = c.loop-element.invariant.long in omega arith;
   runs = λ left ps vs xs class all few h.
       insert_next c.args.class c.args.site c.args.container xs c.args.elements.now left c.loop-element.element-index c.loop-element.store
       c.insert_key.new.store c.loop-element.picks c.insert_key.new.picks _
       (record { key = pos 0; value = pos 0 }) ps vs class c.in_ok-insert_key.ensures.shows all
       c.loop-element-test.true refl
-      (let a = c.loop-element.invariant.many in let d = c.requires.there in omega arith)
+      (let a = c.loop-element.invariant.grew.containers in let d = c.requires.there in omega arith)
       (c.loop-element.invariant.runs left ps vs xs class all few h);
 }

@@ -7,13 +7,13 @@ use Rattle.sl_model.specs.LibraryCalls.Effects.{Left}
 use Rattle.sl_model.specs.LibraryCalls.KeyActions.{new_keys}
 use Rattle.sl_model.proofs.FineEffects.{keys_in}
 use Rattle.sl_slots.specs.Stored.{elements_at}
-use Rattle.sl_effects.specs.Carried.{AreKeyed, Carries, is_key_class}
+use Rattle.sl_effects.specs.Carried.{GrewBy, AreKeyed, Carries, is_key_class}
 use Rattle.sl_effects.proofs.InsertLaws.{InsertsFrom}
 use Rattle.sl_effects.proofs.inserting.insert_all.Given as goal
 
 abbrev pub invariant-loop-element : goal.invariant-loop-element
 invariant-loop-element l = record {
-  many : length l.store.containers.items ≡ length l.initial.store.containers.items;
+  grew : GrewBy 0 l.initial.store l.store;
   long : length (elements_at l.store l.container) ≤ length (elements_at l.initial.store l.container) + l.element-index;
   runs : (left : Left) (ps : List Pointer) (vs : List Value) (xs : List (ℤ × ℤ)) → is_key_class l.class ≡ true → AreKeyed xs l.elements
       → size_of (cont_at left.memory l.container) + new_keys (cont_at left.memory l.container) (keys_in xs) ≤ ELEMENTS

@@ -1,14 +1,15 @@
-use Rattle.std.proofs.Common.{◌≡◌, None, arith, refl, ap, sym, ◌∙◌, subst, w32, FitsSigned, rules}
+use Rattle.std.proofs.Common.{◌≡◌, None, arith, ap, sym, ◌∙◌, subst, w32, FitsSigned, rules}
 use Rattle.std.proofs.lemmas.Int.{to_z-of_z}
 use Rattle.sl_model.specs.Memory.Containers.{cont_at}
 use Rattle.sl_model.specs.LibraryCalls.Effects.{Left, known_key}
 use Rattle.sl_effects.specs.Carried.{Carries}
 use Rattle.sl_effects.proofs.InsertLaws.{inserted_new, keeps_out, comes_in, room_for_one}
+use Rattle.sl_effects.proofs.Stores.{grew_none}
 use Rattle.sl_effects.proofs.inserting.insert_key.Goals as goal
 
 pub returns-then-is_some : goal.returns-then-is_some
 returns-then-is_some c = record {
-  many = refl;
+  grew = grew_none c.args.store.now;
   size = omega arith;
   shows = λ left ps vs x xs class is key few h.
       let fits : FitsSigned w32 c.args.element.key = search rules in
@@ -21,7 +22,7 @@ returns-then-is_some c = record {
 
 pub returns : goal.returns
 returns c = record {
-  many = c.in_ok-insert_new.ensures.many;
+  grew = c.in_ok-insert_new.ensures.grew;
   size = let s = c.in_ok-insert_new.ensures.size in omega arith;
   shows = λ left ps vs x xs class is key few h.
       let fits : FitsSigned w32 c.args.element.key = search rules in

@@ -4,7 +4,7 @@ use Rattle.sl_effects.proofs.inserting.insert_new.Goals as goal
 
 pub returns : goal.returns
 returns c = record {
-  many = c.in_ok-add.ensures.many;
+  grew = c.in_ok-add.ensures.grew;
   size = c.in_ok-add.ensures.size;
   shows = λ left ps vs x class is key few h. record {
     holds = c.in_ok-add.ensures.shows left ps vs x class is key few h;

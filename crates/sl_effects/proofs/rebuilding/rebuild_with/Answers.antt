@@ -10,7 +10,7 @@ use Rattle.sl_model.specs.LibraryCalls.Effects.{key_place, key_change}
 use Rattle.sl_model.proofs.Counts.{length-scattered, length-numbers}
 use Rattle.sl_model.proofs.FairRearrangements.{key_change-fair}
 use Rattle.sl_effects.proofs.HashLaws.{sources_long, is_growth}
-use Rattle.sl_effects.proofs.Stores.{many_rearranged, size_rearranged}
+use Rattle.sl_effects.proofs.Stores.{grew_rearranged, size_rearranged}
 use Rattle.sl_effects.proofs.rebuilding.rebuild_with.Goals as goal
 
 pub sources_with-requires : goal.sources_with-requires
@@ -31,7 +31,7 @@ returns c =
     ∙ ap (λ (l : List ℕ). insert (map (λ (k : ℕ). Old k) l) place (New c.args.element)) c.deref.ensures.value in
     let low : place ≤ c.size-size.result = subst (λ (n : ℕ). place ≤ n) (sym c.size-size.ensures.value) c.key_place-place.ensures.within in
     let long = sources_long order _ place c.size-size.result c.args.element _ c.in_ok-order.ensures low sources in record {
-      many = many_rearranged old c.rearrange.new.self _ c.in_ok-rearrange.ensures.rearranged;
+      grew = grew_rearranged old c.rearrange.new.self _ c.in_ok-rearrange.ensures.rearranged;
       size = size_rearranged old c.rearrange.new.self _ c.in_ok-rearrange.ensures.rearranged c.requires.there
           ∙ (long ∙ ap (λ (n : ℕ). n + 1) c.size-size.ensures.value);
       shows = λ left ps vs x class scatter is key few h.
