@@ -10,7 +10,7 @@ mod EndingShows
 mod Elements
 mod EditLaws
 mod EditShows
-mod ReadingShows
+pub mod ReadingShows
 mod WritingShows
 mod Taking
 mod RearrangingShows
