@@ -4,4 +4,3 @@ pub mod HeadLaws
 pub mod ItemWalk
 pub mod ChoiceLaws
 pub mod StatementLaws
-pub mod TypedLaws

@@ -71,3 +71,10 @@ block_behind g m0 m1 m2 new outside at items close e o i b leaves =
     let last = ap (λ (h : Context). h.scope) all in
     leaves g o (sym (ap (λ (y : Scope). y.functions) last ∙ x.functions)) (sym (ap (λ (y : Scope). y.result) last ∙ x.result))
     ∙ ap (λ (h : Context). leave g h) all
+
+-- a block, typed
+pub block_typed : (g m0 m1 : Context) (at : Place) (items : Items) (close : Place) (site : Option ℕ) (xs : t.Stmts) → m0 ≡ enter g
+    → m1 ≡ after_items m0 items → site ≡ (if declares_container items then Some (length m1.sites) else None) → xs ≡ typed_items m0 items
+    → t.block site xs ≡ typed_stmt g (s.block at items close)
+unfolding typed_stmt
+block_typed g m0 m1 at items close site xs e i b y = rw (y, b, i, e) refl
