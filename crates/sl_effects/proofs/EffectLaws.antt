@@ -34,7 +34,8 @@ module _ (form : Form) (class : Class) (s : Situation) (new : Store) (later : Pi
 
   pub edits_carried : (taken : ℕ) (code : Edit) (come : Vec Element Global) (e : EffectData) → IsEffect class s (Edits taken code come) e
       → IsFine class s e
-      → ((e : EditData) → IsEdit e code come.items → IsFine code.class s (edits taken e) → Carries new later (does form code.class s (edits taken e)) ps vs)
+      → ((e : EditData) → IsEdit e code come.items → IsFine code.class s (edits taken e)
+      → Carries new later (does form code.class s (edits taken e)) ps vs)
       → Leaves e
   edits_carried taken code come (edits n e) is fine shows = subst (λ (k : ℕ). Leaves (edits k e)) is.0
       (subst (λ (k : Class). Carries new later (does form k s (edits taken e)) ps vs) is.1.0

@@ -57,6 +57,12 @@ CanBeCarried (Appends j numbers) object site st = HasSpace st j (length numbers.
 CanBeCarried (Makes taken room elements) object site st = Unit {0}
 CanBeCarried (MakesByKeys taken room elements) object site st = length elements.items < 2 ^ 63
 
+-- how many containers an effect makes
+abbrev pub coming : Effect → ℕ
+coming (Makes taken room elements) = 1
+coming (MakesByKeys taken room elements) = 1
+coming effect = 0
+
 -- a container is put together anew as a change of the model says
 pub record IsChange (s : Situation) (by : Rearrangement) (j : ℕ) (ch : Change) : Type 0 where
   pub container : by.container ≡ j

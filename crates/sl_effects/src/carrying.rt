@@ -6,8 +6,8 @@ ghost use Rattle.sl_model.specs.LibraryCalls.Situation.{Situation};
 ghost use Rattle.sl_model.specs.LibraryCalls.Actions.{Effect as EffectData};
 ghost use Rattle.sl_model.specs.LibraryCalls.Effects.{does};
 ghost use Rattle.sl_model.proofs.FineEffects.{IsFine};
-ghost use Rattle.sl_effects.specs.Carried.{Carries, Meets};
-ghost use Rattle.sl_effects.specs.Effects.{CanBeCarried, IsEffect};
+ghost use Rattle.sl_effects.specs.Carried.{Carries, GrewBy, Meets};
+ghost use Rattle.sl_effects.specs.Effects.{CanBeCarried, IsEffect, coming};
 
 use crate::appending::append_all;
 use crate::effect::Effect;
@@ -20,8 +20,8 @@ use sl_slots::Store;
 use sl_specs::Class;
 use std::alloc::{AllocError, Global};
 
-/// Carries out an effect of a row, which has a form and a class, on an object at a site. In the memory it is the effect of
-/// the model that has the same numbers. After AllocError nothing is said.
+/// Carries out an effect of a row, which has a form and a class, on an object at a site. In the memory it is the effect
+/// of the model that has the same numbers. After AllocError nothing is said.
 pub fn carry_out(
     store: &mut Store,
     alloc: Global,
@@ -33,7 +33,8 @@ pub fn carry_out(
     effect: Effect,
 ) -> Result<(), AllocError>
     requires { CanBeCarried effect object site store.old }
-    ensures { OnOk result ((s : Situation) (ps : List Pointer) (vs : List Value) (e : EffectData) →
+    ensures grew { OnOk result (GrewBy (coming effect) store.old store.new) }
+    ensures shows { OnOk result ((s : Situation) (ps : List Pointer) (vs : List Value) (e : EffectData) →
         IsEffect class s effect e → IsFine class s e → Meets store.old picks.old object site s ps vs →
         Carries store.new picks.new (does form class s e) ps vs) }
 {
@@ -72,7 +73,9 @@ pub fn carry_out(
             room,
             elements,
         } => {
-            make_by_keys(store, alloc, picks, taken, class, form, room, &elements, site)?;
+            make_by_keys(
+                store, alloc, picks, taken, class, form, room, &elements, site,
+            )?;
             Ok(())
         }
     }

@@ -13,7 +13,10 @@ pub enum Effect {
         come: Vec<Element>,
     },
     /// A container is put together anew.
-    Changes { taken: usize, by: Rearrangement },
+    Changes {
+        taken: usize,
+        by: Rearrangement,
+    },
     /// The object and another container exchange elements.
     Trades(Trade),
     /// Elements are put into the object one by one.
