@@ -10,3 +10,4 @@ mod AddLaws
 mod HashLaws
 mod InsertLaws
 mod MakeLaws
+mod EffectLaws

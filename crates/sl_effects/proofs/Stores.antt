@@ -19,17 +19,19 @@ use Rattle.sl_slots.specs.declared.motion.Motion.{Motion}
 use Rattle.sl_slots.specs.declared.slot.Pointer.{Pointer}
 use Rattle.sl_slots.specs.declared.slot.Value.{Value}
 use Rattle.sl_slots.specs.declared.store.Store.{Store}
+use Rattle.sl_slots.specs.declared.trade.Trade.{Trade}
 use Rattle.sl_slots.specs.Fates.{pointer_after, value_after}
 use Rattle.sl_slots.specs.Rearranging.{element_from}
 use Rattle.sl_slots.specs.Shown.{Plain, contents, element_of, Holds}
-use Rattle.sl_slots.specs.Stored.{contents_at, elements_at, edited, Edited, Made, Moved, rearranged, Rearranged}
+use Rattle.sl_slots.specs.Stored.{contents_at, elements_at, edited, Edited, Made, Moved, rearranged, Rearranged, Traded}
 use Rattle.sl_slots.proofs.ReadingShows.{contents_shown, listed, contents-listed, read_there, elements-there}
 use Rattle.sl_effects.specs.Carried.{GrewBy}
 use Rattle.sl_effects.specs.Means.Keys.{keys_of}
 
 -- ## What it shows
 
-module _ (st : Store) (m : Memory) (ps : List PointerData) (vs : List ValueData) (h : Holds st m ps vs) (j : ℕ) (low : j < length st.containers.items) where
+module _ (st : Store) (m : Memory) (ps : List PointerData) (vs : List ValueData) (h : Holds st m ps vs) (j : ℕ)
+    (low : j < length st.containers.items) where
   -- a container of the store is one of the memory
   pub shown_there : slice_get m.conts j ≡ Some (cont_at m j)
   shown_there = (contents_shown st m ps vs h j low).0
@@ -123,6 +125,21 @@ size_edited old new j e come site is low none within =
 pub grew_rearranged : (old new : Store) (by : Rearrangement) → Rearranged by old new → GrewBy 0 old new
 grew_rearranged old new by is = record {
   containers = let n = many_set old new by.container (rearranged by (contents_at old by.container)) is.containers in omega arith;
+  variables = (held_moved _ old new is.moved).0;
+  operands = (held_moved _ old new is.moved).1;
+}
+
+-- so do two that exchange elements
+pub grew_traded : (old new : Store) (by : Trade) → Traded by old new → GrewBy 0 old new
+grew_traded old new by is = record {
+  containers =
+      let n : length (map contents new.containers.items) ≡ length (map contents old.containers.items) =
+      ap (λ (l : List Plain). length l) is.containers
+      ∙ (length-set (slice_set (map contents old.containers.items) by.first.container _) by.second.container _
+      ∙ length-set (map contents old.containers.items) by.first.container _) in
+      let a = length-map new.containers.items contents in
+      let b = length-map old.containers.items contents in
+      omega arith;
   variables = (held_moved _ old new is.moved).0;
   operands = (held_moved _ old new is.moved).1;
 }

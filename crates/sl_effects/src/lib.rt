@@ -4,6 +4,8 @@
 
 mod adding;
 mod appending;
+mod carrying;
+mod effect;
 mod inserting;
 mod keys;
 mod making;
@@ -15,6 +17,8 @@ mod scattering;
 mod steps;
 
 pub use appending::{append_all, insertion_class};
+pub use carrying::carry_out;
+pub use effect::Effect;
 pub use inserting::insert_all;
 pub use keys::known_place;
 pub use making::{make, make_by_keys};

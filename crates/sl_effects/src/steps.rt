@@ -15,7 +15,7 @@ ghost use Rattle.sl_slots.specs.Rearranging.{IsRearranged};
 ghost use Rattle.sl_slots.specs.Stored.{Edited, IsEdit, Rearranged, Traded, elements_at};
 ghost use Rattle.sl_slots.specs.Trading.{IsSide};
 ghost use Rattle.sl_effects.specs.declared.picks.Picks.{Picks as PicksData};
-ghost use Rattle.sl_effects.specs.Carried.{Carries, Meets};
+ghost use Rattle.sl_effects.specs.Carried.{Carries, GrewBy, Meets};
 
 use crate::picks::Picks;
 use sl_slots::{Edit, Element, Rearrangement, Store, Trade};
@@ -35,6 +35,7 @@ pub fn carry_edit(
     requires there { container < length store.old.containers.items }
     requires inside { edit.now.from + edit.now.gone ≤ length (elements_at store.old container) }
     requires few { length (elements_at store.old container) + length come.now < 2 ^ 63 }
+    ensures grew { OnOk result (GrewBy 0 store.old store.new) }
     ensures edited { OnOk result (Edited container edit.now come.now site store.old store.new) }
     ensures shows { OnOk result ((form : FormData) (s : Situation) (ps : List Pointer) (vs : List Value)
         (e : EditData) →
@@ -58,6 +59,7 @@ pub fn carry_change(
 ) -> Result<(), AllocError>
     requires there { by.container < length store.old.containers.items }
     requires size { by.size ≡ length (elements_at store.old by.container) }
+    ensures grew { OnOk result (GrewBy 0 store.old store.new) }
     ensures rearranged { OnOk result (Rearranged by store.old store.new) }
     ensures shows { OnOk result ((form : FormData) (class : ClassData) (s : Situation)
         (ps : List Pointer) (vs : List Value) (ch : Change) →
@@ -78,6 +80,7 @@ pub fn carry_trade(store: &mut Store, alloc: Global, by: Trade) -> Result<(), Al
     requires differ { by.first.container ≢ by.second.container }
     requires first_size { by.first.size ≡ length (elements_at store.old by.first.container) }
     requires second_size { by.second.size ≡ length (elements_at store.old by.second.container) }
+    ensures grew { OnOk result (GrewBy 0 store.old store.new) }
     ensures traded { OnOk result (Traded by store.old store.new) }
     ensures shows { OnOk result ((form : FormData) (class : ClassData) (picks : PicksData) (s : Situation)
         (ps : List Pointer) (vs : List Value) (ch dh : Change) →

@@ -46,5 +46,6 @@ loop-number-preserved c = record {
       let fits : FitsSigned w32 (get_or c.args.numbers.now c.loop-number.number-index (pos 0)) = search rules in
       append_next c.args.site c.args.container xs c.args.numbers.now left c.loop-number.number-index c.loop-number.store c.append.new.store
       c.loop-number.picks c.append.new.picks _ (pos 0) ps vs c.in_ok-append.ensures.shows all c.loop-number-test.true (to_z-of_z w32 _ fits)
-      (let a = c.loop-number.invariant.grew.containers in let d = c.requires.there in omega arith) (c.loop-number.invariant.runs left ps vs xs all few h);
+      (let a = c.loop-number.invariant.grew.containers in let d = c.requires.there in omega arith)
+      (c.loop-number.invariant.runs left ps vs xs all few h);
 }

@@ -3,10 +3,12 @@ use Rattle.sl_model.specs.Memory.Containers.{cont_at}
 use Rattle.sl_model.specs.Memory.Edits.{after, change_of}
 use Rattle.sl_model.proofs.Places.{CountsFair}
 use Rattle.sl_slots.specs.Shown.{Holds}
+use Rattle.sl_effects.proofs.Stores.{grew_edited}
 use Rattle.sl_effects.proofs.steps.carry_edit.Goals as goal
 
 pub returns : goal.returns
 returns c = record {
+  grew = grew_edited c.args.store.now c.edit.new.self c.args.container c.args.edit.now c.args.come.now c.args.site c.in_ok-edit.ensures.edited;
   edited = c.in_ok-edit.ensures.edited;
   shows = λ form s ps vs e is fine h.
       let class = c.args.edit.now.class in

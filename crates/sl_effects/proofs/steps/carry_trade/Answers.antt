@@ -3,10 +3,12 @@ use Rattle.sl_model.specs.Memory.Containers.{cont_at}
 use Rattle.sl_model.specs.Memory.Edits.{after_two}
 use Rattle.sl_model.proofs.Places.{CountsFairSide}
 use Rattle.sl_slots.specs.Shown.{Holds}
+use Rattle.sl_effects.proofs.Stores.{grew_traded}
 use Rattle.sl_effects.proofs.steps.carry_trade.Goals as goal
 
 pub returns : goal.returns
 returns c = record {
+  grew = grew_traded c.args.store.now c.trade.new.self c.args.by c.in_ok-trade.ensures.traded;
   traded = c.in_ok-trade.ensures.traded;
   shows = λ form class picks s ps vs ch dh first second fine h.
       let i = c.args.by.second.container in
