@@ -1,1 +1,7 @@
+-- ## What variables that changed are those of
+mod CameShows
+mod SetShows
+mod CutShows
+mod ElementsShow
 
+mod BoundShows

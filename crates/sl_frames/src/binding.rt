@@ -21,7 +21,10 @@ impl Variables {
         ensures { OnOk result ((s : State) (held vs : List ValueData) → length held ≡ base → Mirrors self.old s (held ++ vs) →
             Mirrors self.new (bind_all parameters.now vs s) (held ++ vs)) }
     {
-        let count = min(parameters.len(), self.store.operands.len().saturating_sub(base));
+        let count = min(
+            parameters.len(),
+            self.store.operands.len().saturating_sub(base),
+        );
         for i in 0..count {
             let operand = self.store.operands[base + i];
             self.bind_one(parameters[i], operand)?;

@@ -25,7 +25,9 @@ pub enum ReferenceUse {
         part: Part,
     },
     /// The element is gone; this site invalidated the reference.
-    Invalid { site: Option<usize> },
+    Invalid {
+        site: Option<usize>,
+    },
     /// There is no reference.
     NoReference,
 }
