@@ -12,11 +12,12 @@ use Rattle.sl_base.specs.declared.place.Place.{Place}
 use Rattle.sl_model.specs.Memory.Containers.{Cell, Cont, Memory, Part, key_part, value_part, part_of, cont_at, cont_with, cells_with, element, is_writable}
 use Rattle.sl_model.specs.Memory.Containers.{killer_of, refers, with_part, write_element}
 use Rattle.sl_model.specs.LibraryCalls.Values.{Value, nothing, number, iterator, pair, two, scalar_at, container_at, element_at}
-use Rattle.sl_model.specs.Runs.Eval.{read_at}
+use Rattle.sl_model.specs.Runs.Eval.{read_at, write_at}
 use Rattle.sl_model.specs.Runs.Good.{IsSound, RefersTo}
 use Rattle.sl_model.specs.Runs.State.{Pointer, State}
 use Rattle.sl_model.proofs.After.{cont_of_there, cont_of_none}
 use Rattle.sl_model.proofs.Getting.{get_map, get_some}
+use Rattle.sl_model.proofs.Levels.{level_of, write-now}
 use Rattle.sl_model.proofs.Located.{refer-at, refers_stands}
 use Rattle.sl_slots.specs.declared.container.Container.{Container}
 use Rattle.sl_slots.specs.declared.container.Element.{Element}
@@ -26,8 +27,10 @@ use Rattle.sl_slots.specs.declared.slot.Value.TheVariants as v
 use Rattle.sl_slots.specs.declared.store.Store.{Store}
 use Rattle.sl_slots.specs.Shown.{Holds, Plain, contents, plain, element_of, part_code, refer_slot, slot_from, value_of}
 use Rattle.sl_slots.specs.Stored.{contents_at, elements_at, number_of}
-use Rattle.sl_frames.specs.Followed.{FitsRead}
+use Rattle.sl_frames.specs.declared.variables.Variables.{Variables}
+use Rattle.sl_frames.specs.Followed.{FitsRead, Follows, frame_of, variable_of}
 use Rattle.sl_frames.specs.Changed.{element_number, number_in}
+use Rattle.sl_frames.proofs.CameShows.{at_its_level}
 
 -- ## Elements
 
@@ -169,3 +172,31 @@ container_there m j k x at = by_cont (slice_get m.conts j) refl
     by_cont : (o : Option Cont) → slice_get m.conts j ≡ o → slice_get m.conts j ≡ Some (cont_at m j)
     by_cont None e = absurd (let q : None ≡ Some x = ap (λ (c : Cont). slice_get c.cells k) (sym (cont_of_none m j e)) ∙ at in cc)
     by_cont (Some d) e = e ∙ ap (λ (c : Cont). Some c) (sym (cont_of_there m j d e))
+
+-- ## Variables
+
+-- a number was written in an element
+pub element_written : (old new : Variables) (j k : ℕ) (part : PartCode) (z : ℤ) → new.frame ≡ old.frame → new.scalars ≡ old.scalars
+    → ((m : Memory) (ps : List Pointer) (vs : List Value) (which : Part) → part_code which ≡ part → Holds old.store m ps vs
+    → Holds new.store (write_element m j k which z) ps vs) → (s : State) (held : List Value) (x : Value) → value_of s.memory x ≡ v.ElementAt j k part
+    → Follows old s held → Follows new (write_at x z s) held
+element_written old new j k part z frame scalars write s held nothing e h = absurd (cc)
+element_written old new j k part z frame scalars write s held (number y) e h = absurd (cc)
+element_written old new j k part z frame scalars write s held (iterator y) e h = absurd (cc)
+element_written old new j k part z frame scalars write s held (pair y b) e h = absurd (cc)
+element_written old new j k part z frame scalars write s held (two y b) e h = absurd (cc)
+element_written old new j k part z frame scalars write s held (scalar_at l) e h = absurd (cc)
+element_written old new j k part z frame scalars write s held (container_at l) e h = absurd (cc)
+element_written old new j k part z frame scalars write s held (element_at i n which) e h =
+    let a : j ≡ i = cc in
+    let b : k ≡ n = cc in
+    let d : part_code which ≡ part = cc in record {
+      good = (write-now (level_of s) s.memory.fresh (element_at i n which) z s (at_its_level s h.good)).good;
+      mirrors = record {
+        frame = ap frame_of frame ∙ h.mirrors.frame;
+        scalars = ap (λ w. map variable_of w.items) scalars ∙ h.mirrors.scalars;
+        store = subst (λ (l : ℕ). Holds new.store (write_element s.memory l n which z) s.iters held) a
+            (subst (λ (l : ℕ). Holds new.store (write_element s.memory j l which z) s.iters held) b
+            (write s.memory s.iters held which d h.mirrors.store));
+      };
+    }

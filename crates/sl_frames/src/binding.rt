@@ -12,7 +12,6 @@ use crate::variables::{ScalarVariable, Variables};
 use sl_slots::{Pointer, Value};
 use sl_syntax::typed::ParameterKind;
 use std::alloc::AllocError;
-use std::cmp::min;
 
 impl Variables {
     /// Parameters take the operands from number `base` on in turn, as far as there are both. The operands stay. After
@@ -21,10 +20,8 @@ impl Variables {
         ensures { OnOk result ((s : State) (held vs : List ValueData) → length held ≡ base → Mirrors self.old s (held ++ vs) →
             Mirrors self.new (bind_all parameters.now vs s) (held ++ vs)) }
     {
-        let count = min(
-            parameters.len(),
-            self.store.operands.len().saturating_sub(base),
-        );
+        let operands = self.store.operands.len().saturating_sub(base);
+        let count = parameters.len().min(operands);
         for i in 0..count {
             let operand = self.store.operands[base + i];
             self.bind_one(parameters[i], operand)?;

@@ -11,4 +11,4 @@ returns-then-place-size c = λ m ps vs which e h.
     (cell_absent c.args.store.now m ps vs h c.args.container c.args.place (omega (arith, c.if-place-size.true, c.size.ensures.value)))) h
 
 pub returns : goal.returns
-returns c = λ m ps vs which e h. c.write.ensures.shows m ps vs which c.args.number (sym e) (sym c.to_int.ensures) h
+returns c = λ m ps vs which e h. c.write.ensures.shows m ps vs which c.args.number e (sym c.to_int.ensures) h
