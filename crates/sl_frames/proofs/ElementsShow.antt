@@ -95,13 +95,11 @@ element_fits st s vs h at j k part (element_at i n which) e =
     let b : n ≡ k = cc in
     let d : part_code which ≡ part = cc in (
       number (element s.memory i n which),
-      (
-        refl,
-        ap (λ (z : ℤ). v.Number z) (sym (element_shown st s.memory s.iters vs h i n which)
-            ∙ (ap (λ (l : ℕ). number_in (part_code which) (slice_get (elements_at st l) n)) a
-            ∙ (ap (λ (l : ℕ). number_in (part_code which) (slice_get (elements_at st j) l)) b
-            ∙ ap (λ (q : PartCode). number_in q (slice_get (elements_at st j) k)) d))),
-      ),
+      refl,
+      ap (λ (z : ℤ). v.Number z) (sym (element_shown st s.memory s.iters vs h i n which)
+          ∙ (ap (λ (l : ℕ). number_in (part_code which) (slice_get (elements_at st l) n)) a
+          ∙ (ap (λ (l : ℕ). number_in (part_code which) (slice_get (elements_at st j) l)) b
+          ∙ ap (λ (q : PartCode). number_in q (slice_get (elements_at st j) k)) d))),
     )
 
 -- ## Writing
