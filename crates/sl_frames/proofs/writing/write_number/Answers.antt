@@ -17,4 +17,4 @@ returns-then-place-size c = λ m ps vs which e h.
 pub returns : goal.returns
 returns c = λ m ps vs which e h. c.write.ensures.shows m ps vs which c.args.number e
     (ap (converted Int) (sym (to_z-of_z w128 c.args.number c.ranges.number)) ∙ (sym c.to_int.ensures
-    ∙ sym (to_z-of_z w32 c.to_int.result c.to_int.type_inv))) h
+    ∙ sym (to_z-of_z w32 c.to_int.result (record { sfits = c.to_int.type_inv })))) h
