@@ -1,5 +1,5 @@
 -- Variables of which one came into scope are those of the state in which it did.
-use Rattle.std.proofs.Common.{◌≡◌, ℕ, ◌+◌, ◌<◌, ◌≤◌, List, [], ◌∷◌, ◌++◌, Option, map, length, refl, ap, sym, ◌∙◌, subst, arith}
+use Rattle.std.proofs.Common.{◌≡◌, ℕ, ◌<◌, List, [], ◌∷◌, ◌++◌, Option, map, length, refl, ap, sym, ◌∙◌, subst, arith}
 use Rattle.std.specs.Prelude.{ℤ}
 use Rattle.std.proofs.lemmas.List.{length-map}
 use Rattle.sl_base.specs.declared.scalar.Scalar.{Scalar}
@@ -10,12 +10,11 @@ use Rattle.sl_model.specs.Runs.State.{Frame, Pointer, Slot, State, mark_in, new_
 use Rattle.sl_model.proofs.Levels.{level_of, Now, new_scalar-now, new_pointer-now}
 use Rattle.sl_model.proofs.Locations.{below_one_more}
 use Rattle.sl_model.proofs.Making.{map_last}
-use Rattle.sl_slots.specs.declared.container.Container.{Container}
 use Rattle.sl_slots.specs.declared.slot.Pointer.{Pointer as PointerCode}
 use Rattle.sl_slots.specs.declared.store.Store.{Store}
-use Rattle.sl_slots.specs.Shown.{Holds, Plain, contents, pointer_of}
+use Rattle.sl_slots.specs.Shown.{Holds, contents, pointer_of}
 use Rattle.sl_frames.specs.declared.variables.Variables.{Variables}
-use Rattle.sl_frames.specs.Followed.{Follows, Mirrors, frame_of, variable_of}
+use Rattle.sl_frames.specs.Followed.{Follows, Mirrors, variable_of}
 use Rattle.sl_frames.specs.Changed.{ScalarCame, ScalarNamed, PointerCame, ContainerCame}
 
 -- a good state is at its own level

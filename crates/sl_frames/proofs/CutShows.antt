@@ -18,7 +18,6 @@ use Rattle.sl_frames.specs.declared.heights.Heights.{Heights}
 use Rattle.sl_frames.specs.declared.variables.Variables.{Variables}
 use Rattle.sl_frames.specs.Followed.{Follows, FollowsFlow, Mirrors, AreHeights, AreCounts, IsFront, frame_of, variable_of}
 use Rattle.sl_frames.specs.Changed.{StacksCut, frame_cut, heights_of}
-use Rattle.sl_frames.proofs.CameShows.{at_its_level}
 
 -- a store in which the first variables alone are held
 pub fewer_held : (old new : Store) (k : ℕ) (m : Memory) (ps : List Pointer) (held : List Value) → new.containers ≡ old.containers

@@ -1,5 +1,5 @@
 -- What is read of elements, written in them and bound to them is what the memory has that a store shows.
-use Rattle.std.proofs.Common.{◌≡◌, ℕ, zero, suc, ◌<◌, ◌≤◌, List, [], ◌∷◌, Option, Some, None, map, length, get_or, refl, ap, sym, ◌∙◌, subst, arith, ℤ, pos}
+use Rattle.std.proofs.Common.{◌≡◌, ℕ, zero, suc, ◌<◌, ◌≤◌, List, [], ◌∷◌, Option, Some, None, map, length, refl, ap, sym, ◌∙◌, subst, ℤ, pos}
 use Rattle.std.proofs.Common.{Bool, true, false, if◌then◌else◌}
 use Rattle.std.proofs.lemmas.List.{length-map}
 use Rattle.std.specs.List.{slice_get, slice_set}
@@ -26,7 +26,7 @@ use Rattle.sl_slots.specs.declared.slot.Slot.TheVariants.{Stands}
 use Rattle.sl_slots.specs.declared.slot.Value.TheVariants as v
 use Rattle.sl_slots.specs.declared.store.Store.{Store}
 use Rattle.sl_slots.specs.Shown.{Holds, Plain, contents, plain, element_of, part_code, refer_slot, slot_from, value_of}
-use Rattle.sl_slots.specs.Stored.{contents_at, elements_at, number_of}
+use Rattle.sl_slots.specs.Stored.{elements_at}
 use Rattle.sl_frames.specs.declared.variables.Variables.{Variables}
 use Rattle.sl_frames.specs.Followed.{FitsRead, Follows, frame_of, variable_of}
 use Rattle.sl_frames.specs.Changed.{element_number, number_in}
@@ -152,9 +152,10 @@ cell_absent st m ps vs h j k high = slice_get_past (cont_at m j).cells k
 -- the refer of an element was used, and it stands there
 pub refer_there : (m : Memory) (j k : ℕ) (x : Cell) → IsSound m → slice_get m.conts j ≡ Some (cont_at m j)
     → slice_get (cont_at m j).cells k ≡ Some x → (x.refer < m.fresh) × (refer_slot m x.refer ≡ Stands j k)
-refer_there m j k x sound there at =
-    (sound.refers_apart.used j k x.refer (refers_stands m j k x.refer stands),
-    ap (λ (o : Option (ℕ × ℕ)). slot_from o (killer_of x.refer m.lost)) (refer-at m j k x.refer sound stands))
+refer_there m j k x sound there at = (
+  sound.refers_apart.used j k x.refer (refers_stands m j k x.refer stands),
+  ap (λ (o : Option (ℕ × ℕ)). slot_from o (killer_of x.refer m.lost)) (refer-at m j k x.refer sound stands),
+)
   where
     stands : RefersTo m j k x.refer
     stands = record { cont = cont_at m j; there = there; stands = get_map (λ (y : Cell). y.refer) (cont_at m j).cells k x at }

@@ -3,5 +3,4 @@ mod CameShows
 mod SetShows
 mod CutShows
 mod ElementsShow
-
 mod BoundShows

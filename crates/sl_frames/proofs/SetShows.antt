@@ -1,12 +1,12 @@
 -- Variables of which one was written are those of the state in which it was.
-use Rattle.std.proofs.Common.{◌≡◌, ℕ, ◌<◌, ◌≤◌, List, [], ◌∷◌, Option, Some, None, map, length, refl, ap, sym, ◌∙◌, subst, arith}
+use Rattle.std.proofs.Common.{◌≡◌, ℕ, ◌<◌, ◌≤◌, List, Option, Some, None, map, length, refl, ap, sym, ◌∙◌, subst}
 use Rattle.std.specs.Prelude.{ℤ}
 use Rattle.std.specs.List.{slice_get, slice_set}
 use Rattle.std.proofs.lemmas.List.{length-map}
 use Rattle.std.proofs.lemmas.Option.{slice_get_past}
 use Rattle.sl_model.specs.LibraryCalls.Values.{Value}
-use Rattle.sl_model.specs.Runs.Good.{AreBelow, IsGood}
-use Rattle.sl_model.specs.Runs.State.{Frame, Pointer, iterator_at, Slot, State, mark_in, set_scalar_at, set_iterator_at}
+use Rattle.sl_model.specs.Runs.Good.{AreBelow}
+use Rattle.sl_model.specs.Runs.State.{iterator_at, Slot, State, mark_in, set_scalar_at, set_iterator_at}
 use Rattle.sl_model.proofs.Getting.{get_map, map_set}
 use Rattle.sl_model.proofs.Levels.{level_of, set_scalar-now, set_iterator-now}
 use Rattle.sl_model.proofs.Locations.{below_set}

@@ -26,7 +26,6 @@ use Rattle.sl_frames.specs.declared.frame.Frame.{Frame as FrameCode}
 use Rattle.sl_frames.specs.declared.heights.Heights.{Heights}
 use Rattle.sl_frames.specs.declared.references.ReferenceUse.{ReferenceUse}
 use Rattle.sl_frames.specs.declared.references.ReferenceUse.TheVariants as uses
-use Rattle.sl_frames.specs.declared.variables.ScalarVariable.{ScalarVariable}
 use Rattle.sl_frames.specs.declared.variables.Variables.{Variables}
 use Rattle.sl_frames.specs.Followed.{frame_of, variable_of}
 

@@ -12,18 +12,21 @@ use Rattle.sl_frames.proofs.ElementsShow.{cell_there, cell_absent, refer_there, 
 use Rattle.sl_frames.proofs.variables.Variables.bind_element.Goals as goal
 
 pub returns-then-place-size : goal.returns-then-place-size
-returns-then-place-size c = λ s held which at e h.
-    (ap (λ o. bound_to at which o s) (refer_absent s.memory c.args.container c.args.place
-    (cell_absent c.args.self.now.store s.memory s.iters held h.mirrors.store c.args.container c.args.place
-    (omega (arith, c.if-place-size.true, c.size.ensures.value)))), h)
+returns-then-place-size c = λ s held which at e h. (
+  ap (λ o. bound_to at which o s) (refer_absent s.memory c.args.container c.args.place
+      (cell_absent c.args.self.now.store s.memory s.iters held h.mirrors.store c.args.container c.args.place
+      (omega (arith, c.if-place-size.true, c.size.ensures.value)))),
+  h,
+)
 
 pub returns : goal.returns
 returns c = λ s held which at e h.
     let j = c.args.container in
     let k = c.args.place in
     let x = cell_there c.args.self.now.store s.memory s.iters held h.mirrors.store j k (omega (arith, c.if-place-size.false, c.size.ensures.value)) in
-    let r = refer_there s.memory j k x.0 h.mirrors.store.sound (container_there s.memory j k x.0 x.1) x.1 in
-    (new_pointer (reference_to x.0.refer which) s,
-    ap (λ o. bound_to at which o s) (get_map (λ (y : Cell). y.refer) (cont_at s.memory j).cells k x.0 x.1),
-    c.in_ok-declare_pointer.ensures.shows s held (reference_to x.0.refer which) r.0
-    (ap (λ (y : Slot). p.Reference y (part_code which)) r.1 ∙ ap (λ (q : Part). p.Reference (Stands j k) q) e) h)
+    let r = refer_there s.memory j k x.0 h.mirrors.store.sound (container_there s.memory j k x.0 x.1) x.1 in (
+      new_pointer (reference_to x.0.refer which) s,
+      ap (λ o. bound_to at which o s) (get_map (λ (y : Cell). y.refer) (cont_at s.memory j).cells k x.0 x.1),
+      c.in_ok-declare_pointer.ensures.shows s held (reference_to x.0.refer which) r.0
+          (ap (λ (y : Slot). p.Reference y (part_code which)) r.1 ∙ ap (λ (q : Part). p.Reference (Stands j k) q) e) h,
+    )

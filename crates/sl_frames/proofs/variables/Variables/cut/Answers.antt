@@ -1,4 +1,4 @@
-use Rattle.std.proofs.Common.{rules, refl}
+use Rattle.std.proofs.Common.{refl}
 use Rattle.sl_frames.proofs.CutShows.{fewer_held}
 use Rattle.sl_frames.proofs.variables.Variables.cut.Goals as goal
 

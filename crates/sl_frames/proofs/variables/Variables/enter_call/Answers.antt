@@ -1,4 +1,4 @@
-use Rattle.std.proofs.Common.{◌≡◌, ◌++◌, refl, ap, sym, ◌∙◌, subst}
+use Rattle.std.proofs.Common.{◌++◌, refl, ap, sym, ◌∙◌, subst}
 use Rattle.sl_model.specs.Runs.Binding.{no_frame}
 use Rattle.sl_frames.specs.declared.heights.Heights.{Heights}
 use Rattle.sl_frames.specs.Followed.{AreHeights, Mirrors, frame_of}
@@ -13,13 +13,14 @@ returns c = record {
         scalars = h.mirrors.scalars;
         store = h.mirrors.store;
       } in
-      let done = c.in_ok-bind_all.ensures (record s { frame = no_frame }) held vs many begun in
-      (record {
-        frame = ap frame_of c.replace-frame.ensures.value ∙ h.mirrors.frame;
-        stacks = subst (λ (x : Heights). AreHeights x s) (sym c.heights-heights.ensures) (heights_shown c.args.self.now s (held ++ vs) h.mirrors);
-      },
-      record {
-        good = good;
-        mirrors = fewer_operands c.bind_all.new.self _ c.args.base _ held vs refl refl refl refl c.truncate.ensures.items many done;
-      });
+      let done = c.in_ok-bind_all.ensures (record s { frame = no_frame }) held vs many begun in (
+        record {
+          frame = ap frame_of c.replace-frame.ensures.value ∙ h.mirrors.frame;
+          stacks = subst (λ (x : Heights). AreHeights x s) (sym c.heights-heights.ensures) (heights_shown c.args.self.now s (held ++ vs) h.mirrors);
+        },
+        record {
+          good = good;
+          mirrors = fewer_operands c.bind_all.new.self _ c.args.base _ held vs refl refl refl refl c.truncate.ensures.items many done;
+        },
+      );
 }

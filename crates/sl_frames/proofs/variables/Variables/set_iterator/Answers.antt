@@ -16,8 +16,12 @@ returns-else-location-len-clause-set c = record {
   frame = refl;
   scalars = refl;
   containers = refl;
-  pointers = sym (set_out c.args.self.now.store.pointers.items c.args.location _ (omega (arith, c.if-location-len.false, c.len.ensures,
-      c.args.self.now.store.pointers.ok.0)));
+  pointers = sym (set_out c.args.self.now.store.pointers.items c.args.location _ (omega (
+    arith,
+    c.if-location-len.false,
+    c.len.ensures,
+    c.args.self.now.store.pointers.ok.0,
+  )));
   operands = refl;
 }
 

@@ -1,4 +1,4 @@
-use Rattle.std.proofs.Common.{refl, ◌∙◌, to_z, of_z, arith}
+use Rattle.std.proofs.Common.{refl, ◌∙◌, arith}
 use Rattle.std.specs.Int.{w128}
 use Rattle.std.proofs.lemmas.Int.{to_z-of_z}
 use Rattle.std.proofs.lemmas.Option.{slice_get_read}
@@ -22,8 +22,12 @@ returns-then-location-len-clause-shows c = λ s held h. number_follows c.args.lo
 pub returns-else-location-len-clause-set : goal.returns-else-location-len-clause-set
 returns-else-location-len-clause-set c = record {
   frame = refl;
-  scalars = number_absent c.args.self.now.scalars.items c.args.location c.args.number (omega (arith, c.if-location-len.false,
-      c.len.ensures, c.args.self.now.scalars.ok.0));
+  scalars = number_absent c.args.self.now.scalars.items c.args.location c.args.number (omega (
+    arith,
+    c.if-location-len.false,
+    c.len.ensures,
+    c.args.self.now.scalars.ok.0,
+  ));
   store = refl;
 }
 
