@@ -95,3 +95,21 @@ container_mirrors at old new s held is h = record {
   scalars = ap (λ v. map variable_of v.items) is.scalars ∙ h.scalars;
   store = subst (λ (st : Store). Holds st s.memory s.iters held) (sym is.store) h.store;
 }
+
+-- ## States that differ in what isn't kept here
+
+-- input, picks, steps, tests and the bytes written may be any
+pub others_follow : (now : Variables) (s : State) (held : List Value) (input : List ℤ) (picks : List ℕ) (steps tests : ℕ) (written : List ℕ)
+    → Follows now s held
+    → Follows now (record s { input = input; picks = picks; steps = steps; tests = tests; written = written }) held
+others_follow now s held input picks steps tests written h = record {
+  good = record {
+    sound = h.good.sound;
+    scalars = h.good.scalars;
+    iters = h.good.iters;
+    conts = h.good.conts;
+    apart = h.good.apart;
+    held = h.good.held;
+  };
+  mirrors = record { frame = h.mirrors.frame; scalars = h.mirrors.scalars; store = h.mirrors.store };
+}

@@ -1,31 +1,32 @@
 -- What is read of elements, written in them and bound to them is what the memory has that a store shows.
-use Rattle.std.proofs.Common.{◌≡◌, ℕ, zero, suc, ◌<◌, ◌≤◌, List, [], ◌∷◌, Option, Some, None, map, length, refl, ap, sym, ◌∙◌, subst, ℤ, pos}
+use Rattle.std.proofs.Common.{◌≡◌, ℕ, zero, suc, ◌<◌, ◌≤◌, List, [], ◌∷◌, Option, Some, None, map, length, refl, ap, sym, ◌∙◌, subst, ℤ, pos, arith, ◌+◌}
 use Rattle.std.proofs.Common.{Bool, true, false, if◌then◌else◌}
-use Rattle.std.proofs.lemmas.List.{length-map}
+use Rattle.std.proofs.lemmas.List.{length-append, length-map}
 use Rattle.std.specs.List.{slice_get, slice_set}
 use Rattle.std.specs.Option.{option_map}
-use Rattle.std.proofs.lemmas.Option.{slice_get-map, slice_get_past}
+use Rattle.std.proofs.lemmas.Option.{slice_get-get_or, slice_get-map, slice_get_past}
 use Rattle.sl_base.specs.declared.form.Form.TheVariants.{Vector}
 use Rattle.sl_base.specs.declared.scalar.Scalar.TheVariants as t
 use Rattle.sl_model.specs.Numbers.{converted}
 use Rattle.sl_base.specs.declared.place.Place.{Place}
 use Rattle.sl_model.specs.Memory.Containers.{Cell, Cont, Memory, Part, key_part, value_part, part_of, cont_at, cont_with, cells_with, element, is_writable}
 use Rattle.sl_model.specs.Memory.Containers.{killer_of, refers, with_part, write_element}
+use Rattle.sl_model.specs.Memory.Containers.{begin_of, end_of, stamps}
 use Rattle.sl_model.specs.LibraryCalls.Values.{Value, nothing, number, iterator, pair, two, scalar_at, container_at, element_at}
 use Rattle.sl_model.specs.Runs.Eval.{read_at, write_at}
-use Rattle.sl_model.specs.Runs.Good.{IsSound, RefersTo}
+use Rattle.sl_model.specs.Runs.Good.{IsAt, IsSound, RefersTo}
 use Rattle.sl_model.specs.Runs.State.{Pointer, State}
 use Rattle.sl_model.proofs.After.{cont_of_there, cont_of_none}
-use Rattle.sl_model.proofs.Getting.{get_map, get_some}
+use Rattle.sl_model.proofs.Getting.{get_behind, get_map, get_some}
 use Rattle.sl_model.proofs.Levels.{level_of, write-now}
-use Rattle.sl_model.proofs.Located.{refer-at, refers_stands}
+use Rattle.sl_model.proofs.Located.{at_stands, locate-at, refer-at, refers_stands}
 use Rattle.sl_slots.specs.declared.container.Container.{Container}
 use Rattle.sl_slots.specs.declared.container.Element.{Element}
 use Rattle.sl_slots.specs.declared.slot.Part.{Part as PartCode}
 use Rattle.sl_slots.specs.declared.slot.Slot.TheVariants.{Stands}
 use Rattle.sl_slots.specs.declared.slot.Value.TheVariants as v
 use Rattle.sl_slots.specs.declared.store.Store.{Store}
-use Rattle.sl_slots.specs.Shown.{Holds, Plain, contents, plain, element_of, part_code, refer_slot, slot_from, value_of}
+use Rattle.sl_slots.specs.Shown.{Holds, Plain, contents, plain, element_of, part_code, refer_slot, slot_from, slot_of, value_of}
 use Rattle.sl_slots.specs.Stored.{elements_at}
 use Rattle.sl_frames.specs.declared.variables.Variables.{Variables}
 use Rattle.sl_frames.specs.Followed.{FitsRead, Follows, frame_of, variable_of}
@@ -171,6 +172,43 @@ container_there m j k x at = by_cont (slice_get m.conts j) refl
     by_cont : (o : Option Cont) → slice_get m.conts j ≡ o → slice_get m.conts j ≡ Some (cont_at m j)
     by_cont None e = absurd (let q : None ≡ Some x = ap (λ (c : Cont). slice_get c.cells k) (sym (cont_of_none m j e)) ∙ at in cc)
     by_cont (Some d) e = e ∙ ap (λ (c : Cont). Some c) (sym (cont_of_there m j d e))
+
+-- ## Begin and end
+
+-- a container that is there
+pub cont_there : (m : Memory) (j : ℕ) → j < length m.conts → slice_get m.conts j ≡ Some (cont_at m j)
+cont_there m j low =
+    let d = get_some m.conts j low in d.1 ∙ ap (λ (c : Cont). Some c) (sym (cont_of_there m j d.0 d.1))
+
+-- a stamp of a container was used, and it stands there
+stamp_stands : (m : Memory) (j k stamp : ℕ) → IsSound m → j < length m.conts → slice_get (stamps (cont_at m j)) k ≡ Some stamp
+    → (stamp < m.fresh) × (slot_of m stamp ≡ Stands j k)
+stamp_stands m j k stamp sound low at = (
+  sound.stamps_apart.used j k stamp (at_stands m j k stamp stands),
+  ap (λ (o : Option (ℕ × ℕ)). slot_from o (killer_of stamp m.graves)) (locate-at m j k stamp sound stands),
+)
+  where
+    stands : IsAt m j k stamp
+    stands = record { cont = cont_at m j; there = cont_there m j low; stands = at }
+
+-- the begin of a container
+pub begin_stands : (m : Memory) (j : ℕ) → IsSound m → j < length m.conts → (begin_of m j < m.fresh) × (slot_of m (begin_of m j) ≡ Stands j 0)
+begin_stands m j sound low = stamp_stands m j 0 (begin_of m j) sound low (slice_get-get_or (stamps (cont_at m j)) 0 m.fresh some)
+  where
+    some : 0 < length (stamps (cont_at m j))
+    some = let e = length-append (map (λ (x : Cell). x.stamp) (cont_at m j).cells) ((cont_at m j).end ∷ []) in omega arith
+
+-- the end of a container, by the number of elements in the store
+pub end_stands : (st : Store) (m : Memory) (ps : List Pointer) (vs : List Value) → Holds st m ps vs → (j : ℕ) → j < length m.conts
+    → (end_of m j < m.fresh) × (slot_of m (end_of m j) ≡ Stands j (length (elements_at st j)))
+end_stands st m ps vs h j low = stamp_stands m j (length (elements_at st j)) (end_of m j) h.sound low
+    (ap (slice_get (stamps (cont_at m j))) place ∙ get_behind (map (λ (x : Cell). x.stamp) (cont_at m j).cells) ((cont_at m j).end ∷ []) 0)
+  where
+    place : length (elements_at st j) ≡ length (map (λ (x : Cell). x.stamp) (cont_at m j).cells) + 0
+    place =
+        let a = ap (λ (l : List Element). length l) (elements_shown st m ps vs h j) in
+        let b = length-map (cont_at m j).cells element_of in
+        let d = length-map (cont_at m j).cells (λ (x : Cell). x.stamp) in omega arith
 
 -- ## Variables
 

@@ -1,6 +1,6 @@
 -- ## What variables that changed are those of
-mod CameShows
-mod SetShows
-mod CutShows
-mod ElementsShow
-mod BoundShows
+pub mod CameShows
+pub mod SetShows
+pub mod CutShows
+pub mod ElementsShow
+pub mod BoundShows

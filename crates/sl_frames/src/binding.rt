@@ -17,7 +17,8 @@ impl Variables {
     /// Parameters take the operands from number `base` on in turn, as far as there are both. The operands stay. After
     /// AllocError nothing is said.
     pub fn bind_all(&mut self, parameters: &[ParameterKind], base: usize) -> Result<(), AllocError>
-        ensures { OnOk result ((s : State) (held vs : List ValueData) → length held ≡ base → Mirrors self.old s (held ++ vs) →
+        ensures operands { OnOk result (self.new.store.operands ≡ self.old.store.operands) }
+        ensures mirrors { OnOk result ((s : State) (held vs : List ValueData) → length held ≡ base → Mirrors self.old s (held ++ vs) →
             Mirrors self.new (bind_all parameters.now vs s) (held ++ vs)) }
     {
         let operands = self.store.operands.len().saturating_sub(base);

@@ -1,10 +1,11 @@
 //! Calls of functions.
-ghost use Rattle.std.specs.Prelude.{◌≡◌, ◌++◌, List, IfOk, length};
+ghost use Rattle.std.specs.Prelude.{◌≡◌, ◌++◌, List, IfOk, OnOk, length, take};
 ghost use Rattle.sl_model.specs.LibraryCalls.Values.{Value as ValueData};
 ghost use Rattle.sl_model.specs.Runs.Binding.{bound};
 ghost use Rattle.sl_model.specs.Runs.Good.{IsGood};
 ghost use Rattle.sl_model.specs.Runs.State.{State, leave};
 ghost use Rattle.sl_frames.specs.Followed.{Follows, IsCaller};
+ghost use Rattle.sl_frames.specs.Changed.{StacksCut, heights_of};
 
 use crate::frame::Frame;
 use crate::heights::Heights;
@@ -30,6 +31,9 @@ impl Variables {
         parameters: &[ParameterKind],
         base: usize,
     ) -> Result<Caller, AllocError>
+        ensures frame { IfOk result (λ caller. caller.frame ≡ self.old.frame) }
+        ensures heights { IfOk result (λ caller. caller.heights ≡ heights_of self.old) }
+        ensures operands { OnOk result (self.new.store.operands.items ≡ take base self.old.store.operands.items) }
         ensures shows { IfOk result (λ caller. (s : State) (held vs : List ValueData) → length held ≡ base →
             IsGood (bound parameters.now vs s) → Follows self.old s (held ++ vs) →
             IsCaller caller s × Follows self.new (bound parameters.now vs s) held) }
@@ -43,6 +47,8 @@ impl Variables {
 
     /// A call comes back: the variables that were in scope before are in scope again, and those of the call go.
     pub fn leave_call(&mut self, caller: Caller)
+        ensures frame { self.new.frame ≡ caller.frame }
+        ensures cut { StacksCut caller.heights 0 self.old self.new }
         ensures shows { (before s : State) (held : List ValueData) → IsCaller caller before → IsGood (leave 0 before s) →
             Follows self.old s held → Follows self.new (leave 0 before s) held }
     {

@@ -1,11 +1,13 @@
 //! References to elements.
-ghost use Rattle.std.specs.Prelude.{◌≡◌, ℕ, List, IfOk};
+ghost use Rattle.std.specs.Prelude.{◌≡◌, ℕ, List, IfOk, None, slice_index_or};
 ghost use Rattle.sl_base.specs.declared.place.Place.{Place as PlaceData};
 ghost use Rattle.sl_model.specs.LibraryCalls.Values.{Value as ValueData, element_at};
 ghost use Rattle.sl_model.specs.Memory.Containers.{Part as PartData};
 ghost use Rattle.sl_model.specs.Runs.Eval.{used};
 ghost use Rattle.sl_model.specs.Runs.Exec.{binds_to};
 ghost use Rattle.sl_model.specs.Runs.State.{State, pointer_at};
+ghost use Rattle.sl_slots.specs.declared.slot.Pointer.TheVariants as p;
+ghost use Rattle.sl_slots.specs.declared.slot.Slot.TheVariants.{Gone};
 ghost use Rattle.sl_slots.specs.Shown.{part_code, value_of};
 ghost use Rattle.sl_frames.specs.Followed.{Follows, FitsBinding};
 ghost use Rattle.sl_frames.specs.Changed.{part_taken, use_at, use_gives, use_of};
@@ -35,6 +37,7 @@ pub enum ReferenceUse {
 impl Variables {
     /// What a use of the reference at a location means.
     pub fn use_reference(&self, location: usize, part: ElementPart) -> ReferenceUse
+        ensures value { result ≡ use_of part (slice_index_or self.now.store.pointers.items location (p.Iterator (Gone None))) }
         ensures shows { (s : State) (held : List ValueData) (at : PlaceData) (name : ℕ) → Follows self.now s held →
             used at name part (pointer_at s location) s ≡ use_gives at name result s }
     {

@@ -16,7 +16,10 @@ loop-i-preserved c =
     (omega (arith, c.loop-i-test.true, c.min-count.ensures, c.saturating_sub-operands.ensures, c.len.ensures, same)) c.index-operand.ensures)
     c.in_ok-bind_one.ensures.operands c.in_ok-bind_one.ensures.mirrors c.loop-i.invariant
 
-pub returns : goal.returns
-returns c = all_bind c.args.parameters.now c.args.base c.loop-i.i c.args.self.now c.loop-i.self
+pub returns-clause-operands : goal.returns-clause-operands
+returns-clause-operands c = c.loop-i.invariant.operands
+
+pub returns-clause-mirrors : goal.returns-clause-mirrors
+returns-clause-mirrors c = all_bind c.args.parameters.now c.args.base c.loop-i.i c.args.self.now c.loop-i.self
     (omega (arith, c.loop-i-test.false, c.min-count.ensures, c.saturating_sub-operands.ensures, c.len.ensures, c.args.self.now.store.operands.ok.0))
     c.loop-i.invariant

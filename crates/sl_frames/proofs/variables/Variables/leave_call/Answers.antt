@@ -5,6 +5,13 @@ use Rattle.sl_frames.proofs.variables.Variables.leave_call.Goals as goal
 
 pub returns : goal.returns
 returns c = record {
+  frame = c.cut.ensures.frame;
+  cut = record {
+    scalars = c.cut.ensures.cut.scalars;
+    containers = c.cut.ensures.cut.containers;
+    pointers = c.cut.ensures.cut.pointers;
+    operands = c.cut.ensures.cut.operands;
+  };
   shows = λ before s held is good h.
       left_follows c.args.caller.heights 0 c.args.self.now c.cut.new.self before s held
       (record {
