@@ -1,5 +1,6 @@
 -- Parameters that have taken their operands.
-use Rattle.std.proofs.Common.{◌≡◌, ℕ, zero, suc, ◌+◌, ◌-◌, ◌<◌, ◌≤◌, min, List, [], ◌∷◌, ◌++◌, Some, length, drop, refl, ap, sym, ◌∙◌, subst, arith, ⊎_elim, Bool, ℤ}
+use Rattle.std.proofs.Common.{◌≡◌, ℕ, zero, suc, ◌+◌, ◌-◌, ◌<◌, ◌≤◌, min, List, [], ◌∷◌, ◌++◌, Some, length, drop, refl, ap, sym, ◌∙◌}
+use Rattle.std.proofs.Common.{subst, arith, ⊎_elim, Bool, ℤ}
 use Rattle.std.specs.List.{slice_get}
 use Rattle.std.proofs.lemmas.Bool.{cases_lt}
 use Rattle.std.proofs.lemmas.List.{length-map, length-append}
@@ -31,8 +32,8 @@ stamp-binds (parameter.Container access form) stamp s = refl
 stamp-binds (parameter.Iterator is_const form) stamp s = refl
 
 -- an iterator came into scope for a parameter
-pub binds_stamp : (k : ParameterKind) (x : Slot) (old new : Variables) → PointerCame (p.Iterator x) old new → (s : State) (held : List Value) (u : Value)
-    → value_of s.memory u ≡ v.Iterator x → IsUsed s.memory.fresh u → Mirrors old s held → Mirrors new (bind_one k u s) held
+pub binds_stamp : (k : ParameterKind) (x : Slot) (old new : Variables) → PointerCame (p.Iterator x) old new
+    → (s : State) (held : List Value) (u : Value) → value_of s.memory u ≡ v.Iterator x → IsUsed s.memory.fresh u → Mirrors old s held → Mirrors new (bind_one k u s) held
 binds_stamp k x old new is s held nothing e used h = absurd (cc)
 binds_stamp k x old new is s held (number z) e used h = absurd (cc)
 binds_stamp k x old new is s held (iterator stamp) e used h =

@@ -1,5 +1,6 @@
 -- What is read of elements, written in them and bound to them is what the memory has that a store shows.
-use Rattle.std.proofs.Common.{◌≡◌, ℕ, zero, suc, ◌<◌, ◌≤◌, List, [], ◌∷◌, Option, Some, None, map, length, refl, ap, sym, ◌∙◌, subst, ℤ, pos, arith, ◌+◌}
+use Rattle.std.proofs.Common.{◌≡◌, ℕ, zero, suc, ◌<◌, ◌≤◌, List, [], ◌∷◌, Option, Some, None, map, length, refl, ap, sym, ◌∙◌}
+use Rattle.std.proofs.Common.{subst, ℤ, pos, arith, ◌+◌}
 use Rattle.std.proofs.Common.{Bool, true, false, if◌then◌else◌}
 use Rattle.std.proofs.lemmas.List.{length-append, length-map}
 use Rattle.std.specs.List.{slice_get, slice_set}
@@ -9,7 +10,8 @@ use Rattle.sl_base.specs.declared.form.Form.TheVariants.{Vector}
 use Rattle.sl_base.specs.declared.scalar.Scalar.TheVariants as t
 use Rattle.sl_model.specs.Numbers.{converted}
 use Rattle.sl_base.specs.declared.place.Place.{Place}
-use Rattle.sl_model.specs.Memory.Containers.{Cell, Cont, Memory, Part, key_part, value_part, part_of, cont_at, cont_with, cells_with, element, is_writable}
+use Rattle.sl_model.specs.Memory.Containers.{Cell, Cont, Memory, Part, key_part, value_part, part_of, cont_at, cont_with, cells_with, element}
+use Rattle.sl_model.specs.Memory.Containers.{is_writable}
 use Rattle.sl_model.specs.Memory.Containers.{killer_of, refers, with_part, write_element}
 use Rattle.sl_model.specs.Memory.Containers.{begin_of, end_of, stamps}
 use Rattle.sl_model.specs.LibraryCalls.Values.{Value, nothing, number, iterator, pair, two, scalar_at, container_at, element_at}

@@ -18,8 +18,8 @@ impl Variables {
     /// AllocError nothing is said.
     pub fn bind_all(&mut self, parameters: &[ParameterKind], base: usize) -> Result<(), AllocError>
         ensures operands { OnOk result (self.new.store.operands ≡ self.old.store.operands) }
-        ensures mirrors { OnOk result ((s : State) (held vs : List ValueData) → length held ≡ base → Mirrors self.old s (held ++ vs) →
-            Mirrors self.new (bind_all parameters.now vs s) (held ++ vs)) }
+        ensures mirrors { OnOk result ((s : State) (held vs : List ValueData) → length held ≡ base →
+            Mirrors self.old s (held ++ vs) → Mirrors self.new (bind_all parameters.now vs s) (held ++ vs)) }
     {
         let operands = self.store.operands.len().saturating_sub(base);
         let count = parameters.len().min(operands);
@@ -33,8 +33,8 @@ impl Variables {
     // A parameter takes its operand.
     fn bind_one(&mut self, parameter: ParameterKind, operand: Value) -> Result<(), AllocError>
         ensures operands { OnOk result (self.new.store.operands ≡ self.old.store.operands) }
-        ensures mirrors { OnOk result ((s : State) (held : List ValueData) (v : ValueData) → value_of s.memory v ≡ operand →
-            IsUsed s.memory.fresh v → Mirrors self.old s held → Mirrors self.new (bind_one parameter v s) held) }
+        ensures mirrors { OnOk result ((s : State) (held : List ValueData) (v : ValueData) →
+            value_of s.memory v ≡ operand → IsUsed s.memory.fresh v → Mirrors self.old s held → Mirrors self.new (bind_one parameter v s) held) }
     {
         match operand {
             Value::Number(number) => self.bind_number(parameter, number),

@@ -23,8 +23,8 @@ pub struct Caller {
 }
 
 impl Variables {
-    /// A call of a function with these parameters begins: they take the operands from number `base` on, which are held no
-    /// longer, and nothing else is in scope. After AllocError nothing is said.
+    /// A call of a function with these parameters begins: they take the operands from number `base` on, which are held
+    /// no longer, and nothing else is in scope. After AllocError nothing is said.
     pub fn enter_call(
         &mut self,
         alloc: Global,
@@ -49,8 +49,8 @@ impl Variables {
     pub fn leave_call(&mut self, caller: Caller)
         ensures frame { self.new.frame ≡ caller.frame }
         ensures cut { StacksCut caller.heights 0 self.old self.new }
-        ensures shows { (before s : State) (held : List ValueData) → IsCaller caller before → IsGood (leave 0 before s) →
-            Follows self.old s held → Follows self.new (leave 0 before s) held }
+        ensures shows { (before s : State) (held : List ValueData) → IsCaller caller before →
+            IsGood (leave 0 before s) → Follows self.old s held → Follows self.new (leave 0 before s) held }
     {
         let Caller { frame, heights } = caller;
         self.frame = frame;

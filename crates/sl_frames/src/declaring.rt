@@ -3,7 +3,8 @@ ghost use Rattle.std.specs.Prelude.{◌≡◌, ◌<◌, List, OnOk, length};
 ghost use Rattle.sl_model.specs.LibraryCalls.Values.{Value as ValueData};
 ghost use Rattle.sl_model.specs.Runs.Exec.{range_start};
 ghost use Rattle.sl_model.specs.Runs.Good.{IsGood};
-ghost use Rattle.sl_model.specs.Runs.State.{Pointer as PointerData, State, mark_in, new_container, new_pointer, new_scalar};
+ghost use Rattle.sl_model.specs.Runs.State.{Pointer as PointerData, State, mark_in};
+ghost use Rattle.sl_model.specs.Runs.State.{new_container, new_pointer, new_scalar};
 ghost use Rattle.sl_slots.specs.declared.slot.Slot.TheVariants.{Stands};
 ghost use Rattle.sl_slots.specs.Shown.{pointer_of};
 ghost use Rattle.sl_slots.specs.Stored.{elements_at};
@@ -26,11 +27,12 @@ impl Variables {
         Ok(())
     }
 
-    /// A new iterator or reference comes into scope, which holds what was used before. After AllocError nothing is said.
+    /// A new iterator or reference comes into scope, which holds what was used before. After AllocError nothing is
+    /// said.
     pub fn declare_pointer(&mut self, pointer: Pointer) -> Result<(), AllocError>
         ensures came { OnOk result (PointerCame pointer self.old self.new) }
-        ensures shows { OnOk result ((s : State) (held : List ValueData) (p : PointerData) → mark_in p < s.memory.fresh →
-            pointer_of s.memory p ≡ pointer → Follows self.old s held → Follows self.new (new_pointer p s) held) }
+        ensures shows { OnOk result ((s : State) (held : List ValueData) (p : PointerData) →
+            mark_in p < s.memory.fresh → pointer_of s.memory p ≡ pointer → Follows self.old s held → Follows self.new (new_pointer p s) held) }
     {
         self.frame.pointers.push(self.store.pointers.len())?;
         self.store.pointers.push(pointer)?;
@@ -47,8 +49,8 @@ impl Variables {
         Ok(())
     }
 
-    /// The two hidden iterators of a range-for come into scope, the begin and the end of the container at a location. After
-    /// AllocError nothing is said.
+    /// The two hidden iterators of a range-for come into scope, the begin and the end of the container at a location,
+    /// which has to be there. After AllocError nothing is said.
     pub fn declare_range(&mut self, location: usize) -> Result<(), AllocError>
         ensures shows { OnOk result ((s : State) (held : List ValueData) → location < length s.memory.conts →
             Follows self.old s held → Follows self.new (range_start location s) held) }

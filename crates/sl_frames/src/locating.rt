@@ -40,7 +40,8 @@ impl Variables {
     /// The number of the scalar at a location, where it is there and set.
     pub fn number(&self, location: usize) -> Option<i128>
         ensures value { result ≡ number_at self.now location }
-        ensures shows { (s : State) (held : List ValueData) → Follows self.now s held → result ≡ scalar_value s location }
+        ensures shows { (s : State) (held : List ValueData) → Follows self.now s held →
+            result ≡ scalar_value s location }
     {
         if location < self.scalars.len() {
             self.scalars[location].value

@@ -13,8 +13,8 @@ use crate::variables::Variables;
 use sl_slots::{Element, Part, Store, Value};
 
 impl Variables {
-    /// What a place holds: the number of a scalar or of an element, and any other value itself. None is an unset scalar.
-    /// An element that isn't there counts as 0.
+    /// What a place holds: the number of a scalar or of an element, and any other value itself. None is an unset
+    /// scalar. An element that isn't there counts as 0.
     pub fn read(&self, place: Value) -> Option<Value>
         ensures value { result ≡ value_read self.now place }
         ensures shows { (s : State) (held : List ValueData) (v : ValueData) (at : PlaceData) → Follows self.now s held →

@@ -37,7 +37,8 @@ pub enum ReferenceUse {
 impl Variables {
     /// What a use of the reference at a location means.
     pub fn use_reference(&self, location: usize, part: ElementPart) -> ReferenceUse
-        ensures value { result ≡ use_of part (slice_index_or self.now.store.pointers.items location (p.Iterator (Gone None))) }
+        ensures value { result
+            ≡ use_of part (slice_index_or self.now.store.pointers.items location (p.Iterator (Gone None))) }
         ensures shows { (s : State) (held : List ValueData) (at : PlaceData) (name : ℕ) → Follows self.now s held →
             used at name part (pointer_at s location) s ≡ use_gives at name result s }
     {
@@ -48,7 +49,8 @@ impl Variables {
     /// answer is false. After AllocError nothing is said.
     pub fn bind_reference(&mut self, place: Value) -> Result<bool, AllocError>
         ensures shows { IfOk result (λ bound. (s : State) (held : List ValueData) (v : ValueData) (at : PlaceData) →
-            value_of s.memory v ≡ place → Follows self.old s held → FitsBinding bound self.new held at s (binds_to at v s)) }
+            value_of s.memory v ≡ place → Follows self.old s held →
+            FitsBinding bound self.new held at s (binds_to at v s)) }
     {
         match place {
             Value::ElementAt {

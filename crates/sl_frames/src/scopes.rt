@@ -12,7 +12,8 @@ ghost use Rattle.sl_frames.specs.Followed.{frame_of};
 use crate::heights::Heights;
 use crate::variables::Variables;
 
-/// Where a scope began: how many variables the function in progress had in scope, and how many all calls in progress had.
+/// Where a scope began: how many variables the function in progress had in scope, and how many all calls in progress
+/// had.
 #[derive(Clone, Copy)]
 pub struct Mark {
     pub in_scope: Heights,
@@ -37,8 +38,8 @@ impl Variables {
     pub fn leave(&mut self, mark: &Mark, site: usize)
         ensures frame { frame_of self.new.frame ≡ frame_cut mark.now.in_scope (frame_of self.old.frame) }
         ensures cut { StacksCut mark.now.in_all site self.old self.new }
-        ensures shows { (start s : State) (held : List ValueData) → IsMarked mark.now start → IsFront start.frame s.frame →
-            IsGood (leave site start s) → Follows self.old s held → Follows self.new (leave site start s) held }
+        ensures shows { (start s : State) (held : List ValueData) → IsMarked mark.now start →
+            IsFront start.frame s.frame → IsGood (leave site start s) → Follows self.old s held → Follows self.new (leave site start s) held }
     {
         self.frame.cut(&mark.in_scope);
         self.cut(&mark.in_all, site);

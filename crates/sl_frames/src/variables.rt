@@ -17,8 +17,8 @@ pub struct ScalarVariable {
     pub value: Option<i128>,
 }
 
-/// The frame of the function in progress, the scalars of all calls in progress by their locations, and the store, which has
-/// their iterators, references and containers, and the operands that were evaluated and not used yet.
+/// The frame of the function in progress, the scalars of all calls in progress by their locations, and the store, which
+/// has their iterators, references and containers, and the operands that were evaluated and not used yet.
 #[derive(Drop)]
 pub struct Variables {
     pub frame: Frame,
@@ -29,7 +29,8 @@ pub struct Variables {
 impl Variables {
     /// No variables, as where a run begins. It takes no memory.
     pub fn new(alloc: Global) -> Variables
-        ensures shows { (input : List ℤ) (picks : List ℕ) (steps : ℕ) → Follows result (empty_state input picks steps) [] }
+        ensures shows { (input : List ℤ) (picks : List ℕ) (steps : ℕ) →
+            Follows result (empty_state input picks steps) [] }
     {
         Variables {
             frame: Frame::new(alloc),

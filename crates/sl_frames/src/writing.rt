@@ -30,8 +30,8 @@ impl Variables {
     /// The iterator at a location takes a slot, that of a stamp that was used; where none is there, nothing happens.
     pub fn set_iterator(&mut self, location: usize, slot: Slot)
         ensures set { PointerSet location (p.Iterator slot) self.old self.new }
-        ensures shows { (s : State) (held : List ValueData) (stamp : ℕ) → stamp < s.memory.fresh → slot_of s.memory stamp ≡ slot →
-            Follows self.old s held → Follows self.new (set_iterator_at location stamp s) held }
+        ensures shows { (s : State) (held : List ValueData) (stamp : ℕ) → stamp < s.memory.fresh →
+            slot_of s.memory stamp ≡ slot → Follows self.old s held → Follows self.new (set_iterator_at location stamp s) held }
     {
         if location < self.store.pointers.len() {
             self.store.pointers[location] = Pointer::Iterator(slot);

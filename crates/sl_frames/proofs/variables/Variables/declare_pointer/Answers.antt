@@ -8,7 +8,8 @@ pub returns-clause-came : goal.returns-clause-came
 returns-clause-came c =
     let old = c.args.self.now in
     let as_frame : List ℕ → Frame = λ l. record (frame_of old.frame) { iters = l } in record {
-      frame = ap as_frame c.in_ok-push.ensures.items ∙ ap (λ (n : ℕ). as_frame (old.frame.pointers.items ++ n ∷ [])) (c.len.ensures ∙ old.store.pointers.ok.0);
+      frame = ap as_frame c.in_ok-push.ensures.items
+          ∙ ap (λ (n : ℕ). as_frame (old.frame.pointers.items ++ n ∷ [])) (c.len.ensures ∙ old.store.pointers.ok.0);
       scalars = refl;
       containers = refl;
       pointers = c.in_ok-push-2.ensures.items;

@@ -9,7 +9,8 @@ pub returns-clause-came : goal.returns-clause-came
 returns-clause-came c =
     let old = c.args.self.now in
     let as_frame : List ℕ → Frame = λ l. record (frame_of old.frame) { scalars = l } in record {
-      frame = ap as_frame c.in_ok-push.ensures.items ∙ ap (λ (n : ℕ). as_frame (old.frame.scalars.items ++ n ∷ [])) (c.len.ensures ∙ old.scalars.ok.0);
+      frame = ap as_frame c.in_ok-push.ensures.items
+          ∙ ap (λ (n : ℕ). as_frame (old.frame.scalars.items ++ n ∷ [])) (c.len.ensures ∙ old.scalars.ok.0);
       scalars = ap (map variable_of) c.in_ok-push-2.ensures.items ∙ map_last variable_of old.scalars.items c.args.scalar;
       store = refl;
     }
