@@ -33,7 +33,8 @@ stamp-binds (parameter.Iterator is_const form) stamp s = refl
 
 -- an iterator came into scope for a parameter
 pub binds_stamp : (k : ParameterKind) (x : Slot) (old new : Variables) → PointerCame (p.Iterator x) old new
-    → (s : State) (held : List Value) (u : Value) → value_of s.memory u ≡ v.Iterator x → IsUsed s.memory.fresh u → Mirrors old s held → Mirrors new (bind_one k u s) held
+    → (s : State) (held : List Value) (u : Value) → value_of s.memory u ≡ v.Iterator x → IsUsed s.memory.fresh u
+    → Mirrors old s held → Mirrors new (bind_one k u s) held
 binds_stamp k x old new is s held nothing e used h = absurd (cc)
 binds_stamp k x old new is s held (number z) e used h = absurd (cc)
 binds_stamp k x old new is s held (iterator stamp) e used h =

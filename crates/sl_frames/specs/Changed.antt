@@ -2,10 +2,12 @@
 use Rattle.std.specs.Prelude.{◌≡◌, ℕ, ℤ, pos, List, [], ◌∷◌, ◌++◌, map, length, take, Option, Some, None, slice_get, slice_set}
 use Rattle.sl_base.specs.declared.place.Place.{Place}
 use Rattle.sl_base.specs.declared.scalar.Scalar.{Scalar}
+use Rattle.sl_base.specs.declared.scalar.Scalar.TheVariants as t
 use Rattle.sl_syntax.specs.declared.typed.element.ElementPart.{ElementPart}
 use Rattle.sl_syntax.specs.declared.typed.element.ElementPart.TheVariants as parts
 use Rattle.sl_model.specs.LibraryCalls.Values.{element_at}
 use Rattle.sl_model.specs.Memory.Containers.{Part, key_part, value_part}
+use Rattle.sl_model.specs.Numbers.{converted}
 use Rattle.sl_model.specs.Runs.Ends.{NoMeaning, Trapped, use_trap}
 use Rattle.sl_model.specs.Runs.Eval.{Out, Gives, Stops}
 use Rattle.sl_model.specs.Runs.State.{Frame, Slot, State}
@@ -21,7 +23,7 @@ use Rattle.sl_slots.specs.declared.slot.Value.{Value}
 use Rattle.sl_slots.specs.declared.slot.Value.TheVariants as v
 use Rattle.sl_slots.specs.declared.store.Store.{Store}
 use Rattle.sl_slots.specs.Fates.{pointer_after, value_after}
-use Rattle.sl_slots.specs.Stored.{elements_at, number_of}
+use Rattle.sl_slots.specs.Stored.{Written, elements_at, number_of}
 use Rattle.sl_frames.specs.declared.frame.Frame.{Frame as FrameCode}
 use Rattle.sl_frames.specs.declared.heights.Heights.{Heights}
 use Rattle.sl_frames.specs.declared.references.ReferenceUse.{ReferenceUse}
@@ -88,6 +90,17 @@ pub record PointerSet (at : ℕ) (x : Pointer) (old new : Variables) : Type 0 wh
   pub containers : new.store.containers ≡ old.store.containers
   pub pointers : new.store.pointers.items ≡ slice_set old.store.pointers.items at x
   pub operands : new.store.operands ≡ old.store.operands
+
+-- a number was written in an element, where it is there, as an `int`
+pub record ElementWrote (j k : ℕ) (part : PartCode) (z : ℤ) (old new : Store) : Type 0 where
+  pub there : (x : Element) → slice_get (elements_at old j) k ≡ Some x → Written j k x part (converted t.Int z) old new
+  pub absent : slice_get (elements_at old j) k ≡ None → new ≡ old
+
+-- a number was written at a place; any other value is none
+abbrev pub Wrote : Value → ℤ → Variables → Variables → Type 0
+Wrote (v.ScalarAt l) z old new = NumberSet l z old new
+Wrote (v.ElementAt j k part) z old new = (new.frame ≡ old.frame) × (new.scalars ≡ old.scalars) × ElementWrote j k part z old.store new.store
+Wrote w z old new = new ≡ old
 
 -- the variables of all calls from these locations on ended at a site
 pub record StacksCut (h : Heights) (site : ℕ) (old new : Variables) : Type 0 where

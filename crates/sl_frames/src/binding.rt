@@ -34,7 +34,8 @@ impl Variables {
     fn bind_one(&mut self, parameter: ParameterKind, operand: Value) -> Result<(), AllocError>
         ensures operands { OnOk result (self.new.store.operands ≡ self.old.store.operands) }
         ensures mirrors { OnOk result ((s : State) (held : List ValueData) (v : ValueData) →
-            value_of s.memory v ≡ operand → IsUsed s.memory.fresh v → Mirrors self.old s held → Mirrors self.new (bind_one parameter v s) held) }
+            value_of s.memory v ≡ operand → IsUsed s.memory.fresh v → Mirrors self.old s held →
+            Mirrors self.new (bind_one parameter v s) held) }
     {
         match operand {
             Value::Number(number) => self.bind_number(parameter, number),

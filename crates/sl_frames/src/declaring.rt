@@ -32,7 +32,8 @@ impl Variables {
     pub fn declare_pointer(&mut self, pointer: Pointer) -> Result<(), AllocError>
         ensures came { OnOk result (PointerCame pointer self.old self.new) }
         ensures shows { OnOk result ((s : State) (held : List ValueData) (p : PointerData) →
-            mark_in p < s.memory.fresh → pointer_of s.memory p ≡ pointer → Follows self.old s held → Follows self.new (new_pointer p s) held) }
+            mark_in p < s.memory.fresh → pointer_of s.memory p ≡ pointer → Follows self.old s held →
+            Follows self.new (new_pointer p s) held) }
     {
         self.frame.pointers.push(self.store.pointers.len())?;
         self.store.pointers.push(pointer)?;

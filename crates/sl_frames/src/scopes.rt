@@ -39,7 +39,8 @@ impl Variables {
         ensures frame { frame_of self.new.frame ≡ frame_cut mark.now.in_scope (frame_of self.old.frame) }
         ensures cut { StacksCut mark.now.in_all site self.old self.new }
         ensures shows { (start s : State) (held : List ValueData) → IsMarked mark.now start →
-            IsFront start.frame s.frame → IsGood (leave site start s) → Follows self.old s held → Follows self.new (leave site start s) held }
+            IsFront start.frame s.frame → IsGood (leave site start s) → Follows self.old s held →
+            Follows self.new (leave site start s) held }
     {
         self.frame.cut(&mark.in_scope);
         self.cut(&mark.in_all, site);

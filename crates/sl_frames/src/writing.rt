@@ -9,7 +9,7 @@ ghost use Rattle.sl_model.specs.Runs.State.{Pointer as PointerData, State, set_i
 ghost use Rattle.sl_slots.specs.Shown.{Holds, part_code, slot_of, value_of};
 ghost use Rattle.sl_slots.specs.declared.slot.Pointer.TheVariants as p;
 ghost use Rattle.sl_frames.specs.Followed.{Follows};
-ghost use Rattle.sl_frames.specs.Changed.{NumberSet, PointerSet};
+ghost use Rattle.sl_frames.specs.Changed.{ElementWrote, NumberSet, PointerSet, Wrote};
 
 use crate::conversion::to_int;
 use crate::variables::Variables;
@@ -31,7 +31,8 @@ impl Variables {
     pub fn set_iterator(&mut self, location: usize, slot: Slot)
         ensures set { PointerSet location (p.Iterator slot) self.old self.new }
         ensures shows { (s : State) (held : List ValueData) (stamp : ℕ) → stamp < s.memory.fresh →
-            slot_of s.memory stamp ≡ slot → Follows self.old s held → Follows self.new (set_iterator_at location stamp s) held }
+            slot_of s.memory stamp ≡ slot → Follows self.old s held →
+            Follows self.new (set_iterator_at location stamp s) held }
     {
         if location < self.store.pointers.len() {
             self.store.pointers[location] = Pointer::Iterator(slot);
@@ -42,6 +43,7 @@ impl Variables {
     /// happens. What comes into an element is converted to `int`, and a key that orders or finds its element is left as
     /// it is.
     pub fn write(&mut self, place: Value, number: i128)
+        ensures wrote { Wrote place number self.old self.new }
         ensures shows { (s : State) (held : List ValueData) (v : ValueData) → value_of s.memory v ≡ place →
             Follows self.old s held → Follows self.new (write_at v number s) held }
     {
@@ -59,7 +61,8 @@ impl Variables {
 
 // Writes a number in the element at a place of a container, where it is there.
 fn write_number(store: &mut Store, container: usize, place: usize, part: Part, number: i128)
-    ensures { (m : Memory) (ps : List PointerData) (vs : List ValueData) (which : PartData) → part_code which ≡ part →
+    ensures wrote { ElementWrote container place part number store.old store.new }
+    ensures shows { (m : Memory) (ps : List PointerData) (vs : List ValueData) (which : PartData) → part_code which ≡ part →
         Holds store.old m ps vs → Holds store.new (write_element m container place which number) ps vs }
 {
     if container >= store.containers.len() {
