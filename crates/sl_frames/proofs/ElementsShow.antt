@@ -61,6 +61,13 @@ elements_shown st m ps vs h j =
     by_cont None e = ap (λ (c : Cont). map element_of c.cells) (sym (cont_of_none m j e))
     by_cont (Some d) e = ap (λ (c : Cont). map element_of c.cells) (sym (cont_of_there m j d e))
 
+-- there are none where no container is
+pub elements_past : (st : Store) (j : ℕ) → length st.containers.items ≤ j → elements_at st j ≡ []
+elements_past st j past = ap (λ (o : Option Container). (contents_of o).elements) (slice_get_past st.containers.items j past)
+  where
+    contents_of : Option Container → Plain
+    contents_of o = elim o as (λ _. Plain) [ None ↦ record { form = Vector; elements = []; room = 0 } | Some c ↦ contents c ]
+
 -- one of them
 pub cells_shown : (st : Store) (m : Memory) (ps : List Pointer) (vs : List Value) → Holds st m ps vs → (j k : ℕ)
     → slice_get (elements_at st j) k ≡ option_map element_of (slice_get (cont_at m j).cells k)

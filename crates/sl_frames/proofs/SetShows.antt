@@ -14,11 +14,14 @@ use Rattle.sl_slots.specs.declared.slot.Pointer.{Pointer as PointerCode}
 use Rattle.sl_slots.specs.declared.slot.Pointer.TheVariants as p
 use Rattle.sl_slots.specs.declared.slot.Slot.{Slot as SlotCode}
 use Rattle.sl_slots.specs.declared.store.Store.{Store}
+use Rattle.sl_slots.specs.declared.slot.Part.{Part as PartCode}
+use Rattle.sl_slots.specs.declared.slot.Value.{Value as ValueCode}
+use Rattle.sl_slots.specs.declared.slot.Value.TheVariants as v
 use Rattle.sl_slots.specs.Shown.{Holds, contents, pointer_of, slot_of}
 use Rattle.sl_frames.specs.declared.variables.ScalarVariable.{ScalarVariable}
 use Rattle.sl_frames.specs.declared.variables.Variables.{Variables}
 use Rattle.sl_frames.specs.Followed.{Follows, Mirrors, frame_of, variable_of}
-use Rattle.sl_frames.specs.Changed.{NumberSet, PointerSet, scalars_with}
+use Rattle.sl_frames.specs.Changed.{NumberSet, PointerSet, Wrote, scalars_with}
 use Rattle.sl_frames.proofs.CameShows.{at_its_level}
 
 -- a state in which a scalar takes a number, by its scalars
@@ -67,6 +70,18 @@ iterator_follows at x old new s held stamp low same is h = record {
     };
   };
 }
+
+-- where a value is no place, nothing is written
+pub nothing_wrote : (w : ValueCode) (z : ℤ) (now : Variables) → ((l : ℕ) → w ≡ v.ScalarAt l → ⊥)
+    → ((j k : ℕ) (part : PartCode) → w ≡ v.ElementAt j k part → ⊥) → Wrote w z now now
+nothing_wrote v.Nothing z now a b = refl
+nothing_wrote (v.Number y) z now a b = refl
+nothing_wrote (v.Iterator s) z now a b = refl
+nothing_wrote (v.Pair s t) z now a b = refl
+nothing_wrote (v.Two s t) z now a b = refl
+nothing_wrote (v.ScalarAt l) z now a b = absurd (a l refl)
+nothing_wrote (v.ContainerAt l) z now a b = refl
+nothing_wrote (v.ElementAt j k part) z now a b = absurd (b j k part refl)
 
 -- ## Lists of scalars
 

@@ -1,19 +1,31 @@
-use Rattle.std.proofs.Common.{◌≡◌, ℤ, None, Some, length, subst, arith, ap, refl, sym, ◌∙◌}
+use Rattle.std.proofs.Common.{◌≡◌, List, ℤ, None, Some, length, subst, arith, ap, refl, sym, ◌∙◌}
 use Rattle.std.specs.Int.{w32, w128}
-use Rattle.std.specs.List.{slice_get}
 use Rattle.std.proofs.lemmas.Int.{to_z-of_z}
-use Rattle.std.proofs.lemmas.Option.{slice_get_past, slice_get_within}
+use Rattle.std.proofs.lemmas.Option.{slice_get_within}
 use Rattle.sl_base.specs.declared.scalar.Scalar.TheVariants.{Int}
 use Rattle.sl_model.specs.Memory.Containers.{Memory}
 use Rattle.sl_model.specs.Numbers.{converted}
 use Rattle.sl_model.proofs.Getting.{get_some}
+use Rattle.sl_slots.specs.declared.container.Element.{Element}
 use Rattle.sl_slots.specs.Shown.{Holds}
 use Rattle.sl_slots.specs.Stored.{Written, elements_at}
-use Rattle.sl_frames.proofs.ElementsShow.{cell_absent, write-absent}
+use Rattle.sl_frames.proofs.ElementsShow.{cell_absent, elements_past, write-absent}
 use Rattle.sl_frames.proofs.writing.write_number.Goals as goal
 
 pub returns-then-container-len-clause-wrote : goal.returns-then-container-len-clause-wrote
-returns-then-container-len-clause-wrote c = ?
+returns-then-container-len-clause-wrote c = record {
+  there = λ x at.
+      let none = elements_past c.args.store.now c.args.container (omega (
+        arith,
+        c.if-container-len.true,
+        c.len.ensures,
+        c.args.store.now.containers.ok.0,
+      )) in
+      let low = slice_get_within (elements_at c.args.store.now c.args.container) c.args.place x at in
+      let many = ap (λ (l : List Element). length l) none in
+      absurd (omega (arith, low, many));
+  absent = λ none. refl;
+}
 
 pub returns-then-place-size-clause-wrote : goal.returns-then-place-size-clause-wrote
 returns-then-place-size-clause-wrote c = record {
