@@ -1,5 +1,6 @@
 -- What the calls on variables do to them, and what they read.
-use Rattle.std.specs.Prelude.{◌≡◌, ℕ, ℤ, pos, List, [], ◌∷◌, ◌++◌, map, length, take, Option, Some, None, slice_get, slice_set}
+use Rattle.std.specs.Prelude.{◌≡◌, ℕ, ℤ, pos, List, [], ◌∷◌, ◌++◌, map, length, take, Option, Some, None, slice_get, slice_set, Bool}
+use Rattle.std.specs.Prelude.{true, false}
 use Rattle.sl_base.specs.declared.place.Place.{Place}
 use Rattle.sl_base.specs.declared.scalar.Scalar.{Scalar}
 use Rattle.sl_base.specs.declared.scalar.Scalar.TheVariants as t
@@ -66,6 +67,18 @@ pub record PointerCame (x : Pointer) (old new : Variables) : Type 0 where
   pub containers : new.store.containers ≡ old.store.containers
   pub pointers : new.store.pointers.items ≡ old.store.pointers.items ++ x ∷ []
   pub operands : new.store.operands ≡ old.store.operands
+
+-- two iterators came into scope, at the begin and at the end of a container
+pub record RangeCame (at : ℕ) (old new : Variables) : Type 0 where
+  pub middle : Variables
+  pub first : PointerCame (p.Iterator (Stands at 0)) old middle
+  pub second : PointerCame (p.Iterator (Stands at (length (elements_at old.store at)))) middle new
+
+-- a reference to the element at a place came into scope, or nothing happened
+abbrev pub ReferenceCame : Bool → Value → Variables → Variables → Type 0
+ReferenceCame true (v.ElementAt j k part) old new = PointerCame (p.Reference (Stands j k) part) old new
+ReferenceCame true w old new = ⊥
+ReferenceCame false w old new = new ≡ old
 
 -- a container came into scope
 pub record ContainerCame (at : ℕ) (old new : Variables) : Type 0 where

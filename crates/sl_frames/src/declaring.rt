@@ -9,7 +9,7 @@ ghost use Rattle.sl_slots.specs.declared.slot.Slot.TheVariants.{Stands};
 ghost use Rattle.sl_slots.specs.Shown.{pointer_of};
 ghost use Rattle.sl_slots.specs.Stored.{elements_at};
 ghost use Rattle.sl_frames.specs.Followed.{Follows, Mirrors};
-ghost use Rattle.sl_frames.specs.Changed.{ContainerCame, PointerCame, ScalarCame};
+ghost use Rattle.sl_frames.specs.Changed.{ContainerCame, PointerCame, RangeCame, ScalarCame};
 
 use crate::variables::{ScalarVariable, Variables};
 use sl_slots::{Pointer, Slot, Store};
@@ -53,6 +53,7 @@ impl Variables {
     /// The two hidden iterators of a range-for come into scope, the begin and the end of the container at a location,
     /// which has to be there. After AllocError nothing is said.
     pub fn declare_range(&mut self, location: usize) -> Result<(), AllocError>
+        ensures came { OnOk result (RangeCame location self.old self.new) }
         ensures shows { OnOk result ((s : State) (held : List ValueData) → location < length s.memory.conts →
             Follows self.old s held → Follows self.new (range_start location s) held) }
     {

@@ -8,9 +8,10 @@ ghost use Rattle.sl_model.specs.Runs.Exec.{binds_to};
 ghost use Rattle.sl_model.specs.Runs.State.{State, pointer_at};
 ghost use Rattle.sl_slots.specs.declared.slot.Pointer.TheVariants as p;
 ghost use Rattle.sl_slots.specs.declared.slot.Slot.TheVariants.{Gone};
+ghost use Rattle.sl_slots.specs.declared.slot.Value.TheVariants as v;
 ghost use Rattle.sl_slots.specs.Shown.{part_code, value_of};
 ghost use Rattle.sl_frames.specs.Followed.{Follows, FitsBinding};
-ghost use Rattle.sl_frames.specs.Changed.{part_taken, use_at, use_gives, use_of};
+ghost use Rattle.sl_frames.specs.Changed.{ReferenceCame, part_taken, use_at, use_gives, use_of};
 
 use crate::variables::Variables;
 use sl_slots::{Part, Pointer, Slot, Value};
@@ -48,6 +49,7 @@ impl Variables {
     /// A new reference to the element at a place comes into scope, where there is one; if not, nothing happens, and the
     /// answer is false. After AllocError nothing is said.
     pub fn bind_reference(&mut self, place: Value) -> Result<bool, AllocError>
+        ensures came { IfOk result (λ bound. ReferenceCame bound place self.old self.new) }
         ensures shows { IfOk result (λ bound. (s : State) (held : List ValueData) (v : ValueData) (at : PlaceData) →
             value_of s.memory v ≡ place → Follows self.old s held →
             FitsBinding bound self.new held at s (binds_to at v s)) }
@@ -71,7 +73,8 @@ impl Variables {
         place: usize,
         part: Part,
     ) -> Result<bool, AllocError>
-        ensures { IfOk result (λ bound. (s : State) (held : List ValueData) (which : PartData) (at : PlaceData) →
+        ensures came { IfOk result (λ bound. ReferenceCame bound (v.ElementAt container place part) self.old self.new) }
+        ensures shows { IfOk result (λ bound. (s : State) (held : List ValueData) (which : PartData) (at : PlaceData) →
             part_code which ≡ part → Follows self.old s held →
             FitsBinding bound self.new held at s (binds_to at (element_at container place which) s)) }
     {

@@ -11,16 +11,16 @@ use Rattle.sl_slots.specs.Shown.{part_code}
 use Rattle.sl_frames.proofs.ElementsShow.{cell_there, cell_absent, refer_there, refer_absent, container_there}
 use Rattle.sl_frames.proofs.variables.Variables.bind_element.Goals as goal
 
-pub returns-then-place-size : goal.returns-then-place-size
-returns-then-place-size c = λ s held which at e h. (
+pub returns-then-place-size-clause-shows : goal.returns-then-place-size-clause-shows
+returns-then-place-size-clause-shows c = λ s held which at e h. (
   ap (λ o. bound_to at which o s) (refer_absent s.memory c.args.container c.args.place
       (cell_absent c.args.self.now.store s.memory s.iters held h.mirrors.store c.args.container c.args.place
       (omega (arith, c.if-place-size.true, c.size.ensures.value)))),
   h,
 )
 
-pub returns : goal.returns
-returns c = λ s held which at e h.
+pub returns-clause-shows : goal.returns-clause-shows
+returns-clause-shows c = λ s held which at e h.
     let j = c.args.container in
     let k = c.args.place in
     let x = cell_there c.args.self.now.store s.memory s.iters held h.mirrors.store j k (omega (arith, c.if-place-size.false, c.size.ensures.value)) in
