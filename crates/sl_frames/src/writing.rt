@@ -62,8 +62,8 @@ impl Variables {
 // Writes a number in the element at a place of a container, where it is there.
 fn write_number(store: &mut Store, container: usize, place: usize, part: Part, number: i128)
     ensures wrote { ElementWrote container place part number store.old store.new }
-    ensures shows { (m : Memory) (ps : List PointerData) (vs : List ValueData) (which : PartData) → part_code which ≡ part →
-        Holds store.old m ps vs → Holds store.new (write_element m container place which number) ps vs }
+    ensures shows { (m : Memory) (ps : List PointerData) (vs : List ValueData) (which : PartData) →
+        part_code which ≡ part → Holds store.old m ps vs → Holds store.new (write_element m container place which number) ps vs }
 {
     if container >= store.containers.len() {
         return;
