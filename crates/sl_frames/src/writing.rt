@@ -63,7 +63,8 @@ impl Variables {
 fn write_number(store: &mut Store, container: usize, place: usize, part: Part, number: i128)
     ensures wrote { ElementWrote container place part number store.old store.new }
     ensures shows { (m : Memory) (ps : List PointerData) (vs : List ValueData) (which : PartData) →
-        part_code which ≡ part → Holds store.old m ps vs → Holds store.new (write_element m container place which number) ps vs }
+        part_code which ≡ part → Holds store.old m ps vs →
+        Holds store.new (write_element m container place which number) ps vs }
 {
     if container >= store.containers.len() {
         return;
