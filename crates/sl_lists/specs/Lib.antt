@@ -1,0 +1,2 @@
+-- How lists are read: what private contracts say. Nobody has to believe it.
+pub mod Means
