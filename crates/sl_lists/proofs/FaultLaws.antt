@@ -1,15 +1,13 @@
 -- A byte at which no list can go on, and an end at which the last word may not end: there the bytes are bad.
-use Rattle.std.proofs.Common.{◌≡◌, ◌⊎◌, inl, inr, ⊎_elim, ℕ, suc, ◌+◌, ◌≤◌, ◌<◌, ◌==◌, nat_lt, nat_le, Bool, true, false, ◌&&◌, if◌then◌else◌}
+use Rattle.std.proofs.Common.{◌≡◌, ◌⊎◌, inl, inr, ⊎_elim, ℕ, ◌+◌, ◌≤◌, ◌<◌, ◌==◌, nat_lt, nat_le, Bool, true, false, ◌&&◌, if◌then◌else◌}
 use Rattle.std.proofs.Common.{List, [], ◌∷◌, ◌++◌, length, map, take, get_or, filter, Option, Some, None, is_some, option_map, ℤ, refl, ap, sym, ◌∙◌, subst}
 use Rattle.std.proofs.Common.{arith, length-append, take_all}
 use Rattle.std.specs.List.{list_all}
-use Rattle.std.specs.Str.Parse.{digits_value}
-use Rattle.std.proofs.lemmas.Bool.{false_from_ne_true, or_cases, or_left, or_right, ltb-false, leb-true, leb-false, eqb-true, lt-leb}
+use Rattle.std.proofs.lemmas.Bool.{false_from_ne_true, or_cases, or_left, or_right, ltb-false, leb-true, eqb-true}
 use Rattle.std.proofs.lemmas.List.{take_more, length-take, length-map}
 use Rattle.std.proofs.lemmas.List.Elements.{filter-append}
-use Rattle.std.proofs.lemmas.List.Folds.{list_all-append}
 use Rattle.sl_base.specs.Bytes.{is_blank, is_digit, begins}
-use Rattle.sl_model.specs.Reports.Lists.{is_filled, is_list, begins_list, ListOf, BadAt, at_byte, at_end, LIST_BYTES, LIST_NUMBERS}
+use Rattle.sl_model.specs.Reports.Lists.{is_filled, is_list, begins_list, BadAt, at_byte, at_end, LIST_BYTES, LIST_NUMBERS}
 use Rattle.sl_model.proofs.ListLaws.{in_parts, list_is}
 use Rattle.sl_model.proofs.ListParts.{parts_of, counted, told}
 use Rattle.sl_model.proofs.Passing.{first_of_both, second_of_both}
@@ -18,8 +16,8 @@ use Rattle.sl_lists.specs.declared.kind.Kind.TheVariants as k
 use Rattle.sl_lists.specs.declared.word.Word.{Word}
 use Rattle.sl_lists.specs.declared.word.Word.TheVariants as w
 use Rattle.sl_lists.specs.Means.Numbers.{number_in}
-use Rattle.sl_lists.specs.Means.Steps.{is_signed, signed, digit_after, minus_at, begun, first_after, word_after, with_word, stepped}
-use Rattle.sl_lists.proofs.Standing.{with_sign, AreDigits, Reads, Stands, by_tests}
+use Rattle.sl_lists.specs.Means.Steps.{is_signed, signed, digit_after, minus_at, begun, word_after, with_word, stepped}
+use Rattle.sl_lists.proofs.Standing.{with_sign, Reads, Stands, by_tests}
 use Rattle.sl_lists.proofs.NumberLaws.{IsDead, dead_digit, filled_behind, minus_is_none, never_minus}
 use Rattle.sl_lists.proofs.PartLaws.{parts_blank, parts_word}
 use Rattle.sl_lists.proofs.StandingLaws.{stands_list, stands_step}

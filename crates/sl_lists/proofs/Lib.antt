@@ -1,5 +1,7 @@
 -- ## One list or one fault
 pub mod ListAnswers
+-- ## A schedule's numbers as whole numbers of either sign
+pub mod PickLaws
 -- ## Which words are numbers, and which can't become one
 pub mod NumberLaws
 -- ## Parts between blanks, with one byte more

@@ -1,11 +1,11 @@
 -- A list or a fault that is told is the only one; and lists of numbers of either sign as those of one kind.
-use Rattle.std.proofs.Common.{◌≡◌, ◌⊎◌, inl, inr, ℕ, ◌≤◌, ◌<◌, Bool, true, false, List, [], ◌∷◌, ◌++◌, length, map, take, Option, Some, None, is_some}
-use Rattle.std.proofs.Common.{option_map, ℤ, pos, Result, Ok, Err, refl, ap, ap₂, sym, ◌∙◌, subst, arith, IsTrue, IsFalse}
+use Rattle.std.proofs.Common.{◌≡◌, ◌⊎◌, inl, inr, ⊎_elim, ℕ, true, List, Option}
+use Rattle.std.proofs.Common.{Result, Ok, Err, refl, ap}
 use Rattle.std.specs.Prelude.{IfOk, IfErr, IsErrAnd}
-use Rattle.std.specs.List.{list_all}
-use Rattle.sl_model.specs.Reports.Lists.{ListOf, BadAt, is_list, pick_of}
-use Rattle.sl_model.proofs.ListLaws.{one_list, one_offset, bad_is_none, list_is}
+use Rattle.sl_model.specs.Reports.Lists.{ListOf, BadAt, is_list}
+use Rattle.sl_model.proofs.ListLaws.{one_list, one_offset, bad_is_none, list_is, list_of, list_or_bad}
 use Rattle.sl_model.proofs.ListWords.{Completes}
+use Rattle.sl_lists.specs.Decided.{IsDecided}
 use Rattle.sl_lists.specs.declared.error.ListErr.{ListErr}
 use Rattle.sl_lists.specs.declared.error.ListErr.TheVariants.{Memory, Bad}
 
@@ -31,3 +31,13 @@ pub only_fault : {A : Type 0} (number : List ℕ → Option A) → Completes num
 only_fault number completes bytes (Ok xs) told offset b = absurd (not_both number completes bytes xs offset told.0 b)
 only_fault number completes bytes (Err Memory) told offset b = inl refl
 only_fault number completes bytes (Err (Bad at)) told offset b = inr (ap (λ n. Bad n) (one_offset number completes bytes at offset (told.1 at refl) b))
+
+-- bytes hold one list or are bad at one offset
+pub decided : {A : Type 0} (number : List ℕ → Option A) → Completes number → IsDecided number
+decided number completes = record {
+  either = λ bytes. ⊎_elim (λ (h : is_list number bytes ≡ true). inl (list_of number bytes h)) (λ (b : (i : ℕ) × BadAt number bytes i). inr b)
+      (list_or_bad number bytes);
+  one_list = one_list number;
+  one_offset = one_offset number completes;
+  not_both = not_both number completes;
+}

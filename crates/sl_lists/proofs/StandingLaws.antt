@@ -4,19 +4,17 @@ use Rattle.std.proofs.Common.{filter, Option, Some, None, option_map, ℤ, refl,
 use Rattle.std.specs.List.{list_all}
 use Rattle.std.specs.Str.Parse.{digits_value}
 use Rattle.std.proofs.lemmas.Bool.{ltb-true, leb-false, eqb-true}
-use Rattle.std.proofs.lemmas.List.{map-append, length-map}
+use Rattle.std.proofs.lemmas.List.{map-append}
 use Rattle.std.proofs.lemmas.List.Elements.{filter-append}
 use Rattle.sl_base.specs.Bytes.{is_blank, is_digit}
 use Rattle.sl_model.specs.Reports.Lists.{is_filled, ListOf, LIST_BYTES, LIST_NUMBERS}
-use Rattle.sl_model.proofs.ListParts.{parts_of}
-use Rattle.sl_model.proofs.Passing.{first_of_both, second_of_both}
 use Rattle.sl_lists.specs.declared.kind.Kind.{Kind}
 use Rattle.sl_lists.specs.declared.word.Word.{Word}
 use Rattle.sl_lists.specs.declared.word.Word.TheVariants as w
 use Rattle.sl_lists.specs.Means.Numbers.{number_in}
-use Rattle.sl_lists.specs.Means.Steps.{is_signed, greatest, signed, digit_after, minus_at, begun, first_after, word_after, with_word, stepped}
-use Rattle.sl_lists.proofs.Standing.{with_sign, AreDigits, Reads, Stands, by_tests}
-use Rattle.sl_lists.proofs.NumberLaws.{some_number, good_digit, filled_behind}
+use Rattle.sl_lists.specs.Means.Steps.{is_signed, signed, digit_after, minus_at, begun, word_after, with_word, stepped}
+use Rattle.sl_lists.proofs.Standing.{with_sign, Reads, Stands, by_tests}
+use Rattle.sl_lists.proofs.NumberLaws.{some_number, good_digit}
 use Rattle.sl_lists.proofs.PartLaws.{parts_blank, parts_word}
 
 -- at the start

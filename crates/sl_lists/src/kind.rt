@@ -35,5 +35,9 @@ impl Kind {
 fn greatest_int(negative: bool) -> u32
     ensures { result ≡ steps.greatest_int negative }
 {
-    if negative { 2_147_483_648 } else { 2_147_483_647 }
+    if negative {
+        2_147_483_648
+    } else {
+        2_147_483_647
+    }
 }

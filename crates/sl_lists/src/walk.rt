@@ -115,7 +115,11 @@ fn begun(kind: Kind, at: usize, byte: u8) -> Option<Word>
 fn minus_at(at: usize) -> Option<Word>
     ensures { result ≡ steps.minus_at at }
 {
-    if at < LIST_BYTES - 1 { Some(Word::Minus) } else { None }
+    if at < LIST_BYTES - 1 {
+        Some(Word::Minus)
+    } else {
+        None
+    }
 }
 
 // Digits with one more.

@@ -1,5 +1,5 @@
 -- A byte that is read, one at which no list can go on, and an end at which the last word may not end.
-use Rattle.std.proofs.Common.{◌∙◌, sym, ap, subst, refl, arith}
+use Rattle.std.proofs.Common.{◌∙◌, sym, subst, arith}
 use Rattle.std.proofs.lemmas.Result.{err_from_is_err_and}
 use Rattle.sl_model.specs.Reports.Lists.{BadAt}
 use Rattle.sl_lists.specs.Means.Numbers.{number_in}
