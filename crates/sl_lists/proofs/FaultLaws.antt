@@ -1,6 +1,7 @@
 -- A byte at which no list can go on, and an end at which the last word may not end: there the bytes are bad.
 use Rattle.std.proofs.Common.{◌≡◌, ◌⊎◌, inl, inr, ⊎_elim, ℕ, ◌+◌, ◌≤◌, ◌<◌, ◌==◌, nat_lt, nat_le, Bool, true, false, ◌&&◌, if◌then◌else◌}
-use Rattle.std.proofs.Common.{List, [], ◌∷◌, ◌++◌, length, map, take, get_or, filter, Option, Some, None, is_some, option_map, ℤ, refl, ap, sym, ◌∙◌, subst}
+use Rattle.std.proofs.Common.{List, [], ◌∷◌, ◌++◌, length, map, take, get_or, filter, Option, Some, None, is_some, option_map, ℤ, refl, ap}
+use Rattle.std.proofs.Common.{sym, ◌∙◌, subst}
 use Rattle.std.proofs.Common.{arith, length-append, take_all}
 use Rattle.std.specs.List.{list_all}
 use Rattle.std.proofs.lemmas.Bool.{false_from_ne_true, or_cases, or_left, or_right, ltb-false, leb-true, eqb-true}
@@ -247,14 +248,15 @@ length_front : (bytes : List ℕ) (at : ℕ) → at < length bytes → length (t
 length_front bytes at below = let r = length-take at bytes in omega (arith, r, below)
 
 -- bytes before which a list stands and at which it can't go on are bad there
-pub bad_at_byte : (kind : Kind) (bytes : List ℕ) (at : ℕ) (numbers : List ℤ) (word : Word) → at < length bytes → Stands kind (take at bytes) numbers word
+pub bad_at_byte : (kind : Kind) (bytes : List ℕ) (at : ℕ) (numbers : List ℤ) (word : Word) → at < length bytes
+    → Stands kind (take at bytes) numbers word
     → stepped kind at numbers word (get_or bytes at 0) ≡ None → BadAt (number_in kind) bytes at
 bad_at_byte kind bytes at numbers word below s h =
     let n : length (take at bytes) ≡ at = length_front bytes at below in
     at_byte at below (begins_by kind (take at bytes) numbers word s.last s.reads s)
     (ap (begins_list (number_in kind)) (take_more bytes at 0 below)
-    ∙ bad_step kind (take at bytes) numbers word (get_or bytes at 0) s (nat_le LIST_BYTES (length (take at bytes))) (is_blank (get_or bytes at 0)) refl
-    refl (subst (λ k. stepped kind k numbers word (get_or bytes at 0) ≡ None) (sym n) h))
+    ∙ bad_step kind (take at bytes) numbers word (get_or bytes at 0) s (nat_le LIST_BYTES (length (take at bytes))) (is_blank (get_or bytes at 0))
+    refl refl (subst (λ k. stepped kind k numbers word (get_or bytes at 0) ≡ None) (sym n) h))
 
 -- bytes at whose end the last word may not end are bad there
 pub bad_at_end : (kind : Kind) (bytes : List ℕ) (numbers : List ℤ) (word : Word) → Stands kind bytes numbers word → with_word numbers word ≡ None
@@ -273,6 +275,7 @@ goes_on kind bytes at numbers word after next below s h =
     (subst (λ k. stepped kind k numbers word (get_or bytes at 0) ≡ Some (after, next)) (sym n) h))
 
 -- at their end all bytes are read
-pub all_bytes : (kind : Kind) (bytes : List ℕ) (at : ℕ) (numbers : List ℤ) (word : Word) → length bytes ≤ at → Stands kind (take at bytes) numbers word
+pub all_bytes : (kind : Kind) (bytes : List ℕ) (at : ℕ) (numbers : List ℤ) (word : Word) → length bytes ≤ at
+    → Stands kind (take at bytes) numbers word
     → Stands kind bytes numbers word
 all_bytes kind bytes at numbers word le s = subst (λ front. Stands kind front numbers word) (take_all at bytes le) s

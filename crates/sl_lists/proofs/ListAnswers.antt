@@ -13,7 +13,8 @@ use Rattle.sl_lists.specs.declared.error.ListErr.TheVariants.{Memory, Bad}
 abbrev pub Told : {A : Type 0} → (List ℕ → Option A) → List ℕ → Result (List A) ListErr → Type 0
 Told number bytes r = IfOk r (ListOf number bytes) × IfErr r (λ e. (offset : ℕ) → e ≡ Bad offset → BadAt number bytes offset)
 
-not_both : {A : Type 0} (number : List ℕ → Option A) → Completes number → (bytes : List ℕ) (numbers : List A) (offset : ℕ) → ListOf number bytes numbers
+not_both : {A : Type 0} (number : List ℕ → Option A) → Completes number → (bytes : List ℕ) (numbers : List A) (offset : ℕ)
+    → ListOf number bytes numbers
     → BadAt number bytes offset → ⊥
 not_both number completes bytes numbers offset l b =
     let yes = list_is number bytes numbers l in let no = bad_is_none number completes bytes offset b in absurd (cc)
@@ -30,7 +31,8 @@ pub only_fault : {A : Type 0} (number : List ℕ → Option A) → Completes num
     → (offset : ℕ) → BadAt number bytes offset → IsErrAnd r (λ e. (e ≡ Memory) ⊎ (e ≡ Bad offset))
 only_fault number completes bytes (Ok xs) told offset b = absurd (not_both number completes bytes xs offset told.0 b)
 only_fault number completes bytes (Err Memory) told offset b = inl refl
-only_fault number completes bytes (Err (Bad at)) told offset b = inr (ap (λ n. Bad n) (one_offset number completes bytes at offset (told.1 at refl) b))
+only_fault number completes bytes (Err (Bad at)) told offset b =
+    inr (ap (λ n. Bad n) (one_offset number completes bytes at offset (told.1 at refl) b))
 
 -- bytes hold one list or are bad at one offset
 pub decided : {A : Type 0} (number : List ℕ → Option A) → Completes number → IsDecided number

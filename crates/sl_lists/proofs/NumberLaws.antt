@@ -81,7 +81,8 @@ no_minus (d ∷ ds) h = false_from_ne_true (d == 45) (λ e. wrong (eqb-true d 45
     wrong e h = let r : is_digit 45 ≡ true = subst (λ x. is_digit x ≡ true) e h in absurd (cc)
 
 pub never_minus : (c : Bool) (d : ℕ) → is_digit d ≡ true → (c && d == 45) ≡ false
-never_minus true d h = false_from_ne_true (d == 45) (λ e. let r : is_digit 45 ≡ true = subst (λ x. is_digit x ≡ true) (eqb-true d 45 e) h in absurd (cc))
+never_minus true d h =
+    false_from_ne_true (d == 45) (λ e. let r : is_digit 45 ≡ true = subst (λ x. is_digit x ≡ true) (eqb-true d 45 e) h in absurd (cc))
 never_minus false d h = refl
 
 -- an input's word that doesn't begin with a `-`

@@ -1,5 +1,6 @@
 -- What is kept while a list is read holds at its start and after each byte that is read, and says which list it is at its end.
-use Rattle.std.proofs.Common.{◌≡◌, ◌⊎◌, inl, inr, ⊎_elim, ℕ, ◌+◌, ◌≤◌, ◌<◌, ◌==◌, nat_lt, nat_le, Bool, true, false, ◌&&◌, if◌then◌else◌, List, [], ◌∷◌, ◌++◌, length, map}
+use Rattle.std.proofs.Common.{◌≡◌, ◌⊎◌, inl, inr, ⊎_elim, ℕ, ◌+◌, ◌≤◌, ◌<◌, ◌==◌, nat_lt, nat_le, Bool, true, false, ◌&&◌, if◌then◌else◌}
+use Rattle.std.proofs.Common.{List, [], ◌∷◌, ◌++◌, length, map}
 use Rattle.std.proofs.Common.{filter, Option, Some, None, option_map, ℤ, refl, ap, ap₂, sym, ◌∙◌, subst, arith, append-nil, length-append}
 use Rattle.std.specs.List.{list_all}
 use Rattle.std.specs.Str.Parse.{digits_value}
@@ -36,7 +37,8 @@ no_last kind done numbers h =
     ap (map (number_in kind)) (filter-append is_filled done ([] ∷ []) ∙ append-nil (filter is_filled done)) ∙ h
 
 -- the words of parts of which the last one is a number
-with_last : (kind : Kind) (done : List (List ℕ)) (last : List ℕ) (numbers : List ℤ) (z : ℤ) → map (number_in kind) (filter is_filled done) ≡ map Some numbers
+with_last : (kind : Kind) (done : List (List ℕ)) (last : List ℕ) (numbers : List ℤ) (z : ℤ)
+    → map (number_in kind) (filter is_filled done) ≡ map Some numbers
     → is_filled last ≡ true → number_in kind last ≡ Some z
     → map (number_in kind) (filter is_filled (done ++ last ∷ [])) ≡ map Some (numbers ++ z ∷ [])
 with_last kind done last numbers z h some e =
