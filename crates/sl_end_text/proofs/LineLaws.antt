@@ -1,7 +1,6 @@
 -- The line of the code's end is that of each end that it tells; and the text of an output by cases.
-use Rattle.std.proofs.Common.{◌≡◌, ◌≢◌, ℕ, Bool, true, false, List, [], ◌∷◌, ◌++◌, length, Option, refl, ap, ap₂, sym, ◌∙◌, append_assoc}
+use Rattle.std.proofs.Common.{◌≡◌, ℕ, List, [], ◌∷◌, ◌++◌, ap, ap₂, sym, ◌∙◌, append_assoc}
 use Rattle.std.proofs.Common.{codes, decimal, ◌==◌}
-use Rattle.std.specs.Io.BufRead.{ends_with_byte}
 use Rattle.std.proofs.lemmas.Bool.{cond-false, ne_eqb}
 use Rattle.sl_base.specs.declared.place.Place.{Place}
 use Rattle.sl_syntax.specs.Typed.{Typed}

@@ -59,12 +59,7 @@ fn push_out_of_steps(out: &mut Items<u8>) -> Result<(), AllocError>
     Ok(())
 }
 
-fn push_fault(
-    alloc: Global,
-    out: &mut Items<u8>,
-    place: Place,
-    why: u8,
-) -> Result<(), AllocError>
+fn push_fault(alloc: Global, out: &mut Items<u8>, place: Place, why: u8) -> Result<(), AllocError>
     ensures { OnOk result (out.new
         ≡ out.old ++ run_line (codes "language fault at " ++ (place_text place ++ (codes ": " ++ fault_text why)))) }
 {

@@ -2,7 +2,6 @@
 #![tactic(auto)]
 
 mod end_line;
-
 mod output;
 mod text;
 mod trap;

@@ -35,7 +35,11 @@ fn ends_line(bytes: &[u8]) -> bool
     ensures { result ≡ ends_with_byte 10 bytes.now }
 {
     let len = bytes.len();
-    if len > 0 { bytes[len - 1] == b'\n' } else { false }
+    if len > 0 {
+        bytes[len - 1] == b'\n'
+    } else {
+        false
+    }
 }
 
 // The line of the bytes that are lost.
