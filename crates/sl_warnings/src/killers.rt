@@ -1,13 +1,14 @@
 //! The text of the places at which an iterator or a reference may have been invalidated.
 ghost use Rattle.std.specs.Prelude.{◌≡◌, [], ◌∷◌, ◌++◌, if◌then◌else◌, IfOk, OnOk};
 ghost use Rattle.sl_kind.specs.Kills.{has};
-ghost use Rattle.sl_model.specs.Reports.Texts.{place_text, site_text, further_sites, sites_text, killers_text};
+ghost use Rattle.sl_model.specs.Reports.Texts.{killers_text};
 ghost use Rattle.sl_warnings.specs.Views.{sites_in};
 
 use sl_base::failures::{INVALID_ITERATOR, INVALID_REFERENCE};
 use sl_base::limits::SITES;
 use sl_base::{Items, Place, Site};
 use sl_kind::Kills;
+use sl_wording::push_sites;
 use std::alloc::{AllocError, Global};
 
 // The places of these killers, where the kind is that of an invalid iterator or of an invalid reference.
@@ -46,58 +47,4 @@ fn push_killer(sites: &mut Items<Site>, killers: &Kills, site: Site) -> Result<(
         sites.push(site)?;
     }
     Ok(())
-}
-
-fn push_sites(
-    alloc: Global,
-    out: &mut Items<u8>,
-    sites: &[Place],
-    killers: &[Site],
-) -> Result<(), AllocError>
-    ensures { OnOk result (out.new ≡ out.old ++ sites_text sites.now killers.now) }
-{
-    if let [first, more @ ..] = killers {
-        out.extend_from_slice(b", invalidated at ")?;
-        push_site(alloc, out, sites, *first)?;
-        push_further(alloc, out, sites, more)?;
-    }
-    Ok(())
-}
-
-fn push_further(
-    alloc: Global,
-    out: &mut Items<u8>,
-    sites: &[Place],
-    killers: &[Site],
-) -> Result<(), AllocError>
-    ensures { OnOk result (out.new ≡ out.old ++ further_sites sites.now killers.now) }
-{
-    for killer in killers {
-        out.extend_from_slice(b", ")?;
-        push_site(alloc, out, sites, *killer)?;
-    }
-    Ok(())
-}
-
-// The place of a site.
-fn push_site(
-    alloc: Global,
-    out: &mut Items<u8>,
-    sites: &[Place],
-    site: Site,
-) -> Result<(), AllocError>
-    ensures { OnOk result (out.new ≡ out.old ++ site_text sites.now site) }
-{
-    match sites.get(usize::from(site.number())) {
-        Some(place) => push_place(alloc, out, *place),
-        None => Ok(()),
-    }
-}
-
-fn push_place(alloc: Global, out: &mut Items<u8>, place: Place) -> Result<(), AllocError>
-    ensures { OnOk result (out.new ≡ out.old ++ place_text place) }
-{
-    let line = place.line;
-    let col = place.col;
-    out.extend_from_slice(format!(in alloc; "{line}:{col}")?.as_bytes())
 }

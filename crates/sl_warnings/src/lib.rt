@@ -7,7 +7,6 @@ mod rendering;
 mod report;
 mod spot;
 mod warning;
-mod wording;
 
 pub use laws::{covers_more, stays_ascending, tells_its_sites};
 pub use rendering::render;

@@ -6,8 +6,8 @@ ghost use Rattle.sl_warnings.specs.Views.{warning_of};
 use crate::killers::push_killers;
 use crate::report::Report;
 use crate::warning::Warning;
-use crate::wording::{kind_words, push_who};
 use sl_base::{Items, Place};
+use sl_wording::{kind_words, push_who};
 use std::alloc::{AllocError, Global};
 
 /// The text of a report on a file of this name, in which the site with number i has the i-th of these places: a line

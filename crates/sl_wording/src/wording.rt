@@ -5,7 +5,7 @@ ghost use Rattle.sl_model.specs.Reports.Texts.{kind_text, who_text, name_text, n
 use sl_base::{Items, Name, failures};
 use std::alloc::{AllocError, Global};
 
-// The words for a kind, none where the number is no kind's.
+/// The words for a kind, none where the number is no kind's.
 pub fn kind_words(kind: u8) -> &'static str
     ensures { result.now ≡ kind_text kind }
 {
@@ -26,7 +26,7 @@ pub fn kind_words(kind: u8) -> &'static str
     }
 }
 
-// Whose need it is.
+/// Puts whose need it is behind `out`: the name of the argument of a call, or its number where it has none.
 pub fn push_who(
     alloc: Global,
     out: &mut Items<u8>,

@@ -1,6 +1,6 @@
 use Rattle.std.proofs.Common.{append_assoc}
-use Rattle.sl_warnings.proofs.LineLaws.{sites_text-first}
-use Rattle.sl_warnings.proofs.killers.push_sites.Goals as goal
+use Rattle.sl_wording.proofs.SitesLaws.{sites_text-first}
+use Rattle.sl_wording.proofs.sites.push_sites.Goals as goal
 
 pub returns-in_ok-push_further : goal.returns-in_ok-push_further
 returns-in_ok-push_further c =

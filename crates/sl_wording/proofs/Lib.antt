@@ -1,0 +1,2 @@
+-- ## The text of sites
+pub mod SitesLaws
