@@ -3,6 +3,7 @@
 use sl_base::limits::the_limits;
 use sl_grammar::{one_program, one_shape};
 use sl_lexer::{one_answer, one_cut, tokens_ascend};
+use sl_lists::list_or_fault;
 use sl_model::{
     all_and_end_invalidates, deques_invalidate, dropped_has_its_site, elements_go_over,
     elements_keep_their_marks, erasures_invalidate, hash_forms_invalidate,
@@ -57,4 +58,5 @@ fn laws() {
     one_refusal();
     one_typing();
     typed_or_refused();
+    list_or_fault();
 }

@@ -1,5 +1,6 @@
 //! Each public call of sl_tool but `run_tool`, which `outside` runs.
 
+use crate::calls_of_runs::expect_runs;
 use crate::calls_of_types::expect_only_main;
 use crate::expected::{expect_bytes, expect_that};
 use sl_tool::{Status, parsed_text, typed_text};
@@ -28,4 +29,5 @@ fn statuses_of_tool(rt: HostRuntime) {
         Status::Memory.number(),
     ];
     expect_bytes(&rt, &numbers, &[0, 1, 2, 3, 4, 5, 6]);
+    expect_runs(&rt, rt.alloc());
 }

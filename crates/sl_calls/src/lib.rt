@@ -23,6 +23,8 @@ mod calls_of_lexer;
 #[cfg(test)]
 mod calls_of_parser;
 #[cfg(test)]
+mod calls_of_runs;
+#[cfg(test)]
 mod calls_of_specs;
 #[cfg(test)]
 mod calls_of_syntax;
