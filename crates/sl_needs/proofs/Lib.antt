@@ -1,0 +1,2 @@
+-- ## What is read of a call
+mod ValueReadings

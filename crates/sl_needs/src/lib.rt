@@ -1,0 +1,10 @@
+//! The needs of a call of the library, read off a store: where its arguments stand, whether they are of the sorts that
+//! the call takes, and by which failure it ends.
+#![tactic(auto)]
+
+mod arguments;
+mod numbers;
+mod position;
+
+pub use arguments::Arguments;
+pub use position::Position;
