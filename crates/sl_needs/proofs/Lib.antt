@@ -1,2 +1,4 @@
 -- ## What is read of a call
 mod ValueReadings
+-- ## Which failure counts
+mod Counting

@@ -1,2 +1,3 @@
--- What private contracts say: values and containers of the store as the code has them. Nobody has to believe them.
+-- What private contracts say: values and containers of the store as the code has them, and failures one by one. Nobody has to believe them.
 pub mod Values
+pub mod Failures

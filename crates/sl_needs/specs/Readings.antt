@@ -8,6 +8,7 @@ use Rattle.sl_model.specs.LibraryCalls.Situation.{Situation}
 use Rattle.sl_slots.specs.declared.store.Store.{Store}
 use Rattle.sl_slots.specs.Shown.{Holds, contents, plain, value_of}
 use Rattle.sl_needs.specs.declared.arguments.Arguments.{Arguments}
+use Rattle.sl_needs.specs.declared.failure.Failure.{Failure}
 use Rattle.sl_needs.specs.declared.position.Position.{Position}
 
 -- A call on an object, at a site and with these picks left, meets a situation: the store shows its memory, and holds its arguments
@@ -30,3 +31,11 @@ pub record Reads (a : Arguments) (s : Situation) : Type 0 where
 -- a position that is there, as its container and its index
 abbrev pub placed : Option Position → Option (ℕ × ℕ)
 placed p = option_map (λ (q : Position). (q.container, q.index)) p
+
+-- a failure by its numbers
+abbrev pub pair_of : Failure → ℕ × ℕ
+pair_of f = (f.kind, f.argument)
+
+-- one that there may be
+abbrev pub told : Option Failure → Option (ℕ × ℕ)
+told f = option_map pair_of f

@@ -3,8 +3,11 @@
 #![tactic(auto)]
 
 mod arguments;
+mod failure;
 mod numbers;
+mod places;
 mod position;
 
 pub use arguments::Arguments;
+pub use failure::Failure;
 pub use position::Position;
