@@ -1,10 +1,11 @@
 -- What a call of the library meets in a store, and what is read of it.
 --
 -- Nothing here restates a standard: what a situation is, `sl_model` says.
-use Rattle.std.specs.Prelude.{◌≡◌, ℕ, List, map, length, ◌++◌, Option, option_map}
+use Rattle.std.specs.Prelude.{◌≡◌, ℕ, ℤ, List, map, length, ◌++◌, Option, option_map}
 use Rattle.sl_model.specs.Runs.State.{Pointer}
 use Rattle.sl_model.specs.LibraryCalls.Values.{Value}
 use Rattle.sl_model.specs.LibraryCalls.Situation.{Situation}
+use Rattle.sl_slots.specs.declared.container.Element.{Element}
 use Rattle.sl_slots.specs.declared.store.Store.{Store}
 use Rattle.sl_slots.specs.Shown.{Holds, contents, plain, value_of}
 use Rattle.sl_needs.specs.declared.arguments.Arguments.{Arguments}
@@ -39,3 +40,7 @@ pair_of f = (f.kind, f.argument)
 -- one that there may be
 abbrev pub told : Option Failure → Option (ℕ × ℕ)
 told f = option_map pair_of f
+
+-- the key of an element
+abbrev pub key_of : Element → ℤ
+key_of x = x.key

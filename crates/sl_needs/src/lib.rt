@@ -4,9 +4,12 @@
 
 mod arguments;
 mod failure;
+mod letters;
 mod numbers;
+mod orders;
 mod places;
 mod position;
+mod ranges;
 
 pub use arguments::Arguments;
 pub use failure::Failure;

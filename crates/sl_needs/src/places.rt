@@ -117,3 +117,47 @@ pub fn no_pair(
         ),
     )
 }
+
+// Where two arguments are the wrong way round, unless they may be.
+fn turned(
+    any_way: bool,
+    container: usize,
+    first: Option<Position>,
+    last: Option<Position>,
+    argument: usize,
+) -> Option<Failure>
+    ensures { told result ≡ first_failure (if any_way then [] else spec.order_fails container (placed first) (placed last) argument) }
+{
+    if any_way {
+        None
+    } else {
+        wrong_way(container, first, last, argument)
+    }
+}
+
+/// Where two arguments, the first with this number and in the container with a number, are no range of one container; they
+/// may be the wrong way round, or not.
+pub fn no_one_range(
+    any_way: bool,
+    container: usize,
+    first: Option<Position>,
+    last: Option<Position>,
+    argument: usize,
+) -> Option<Failure>
+    requires { argument < usize.MAX }
+    ensures { told result ≡ first_failure (spec.invalid_fails (placed first) argument ++
+        (spec.invalid_fails (placed last) (argument + 1) ++
+        (spec.one_container_fails (placed first) (placed last) argument ++
+        (if any_way then [] else spec.order_fails container (placed first) (placed last) argument)))) }
+{
+    earlier(
+        invalid(first, argument),
+        earlier(
+            invalid(last, argument + 1),
+            earlier(
+                apart(first, last, argument),
+                turned(any_way, container, first, last, argument),
+            ),
+        ),
+    )
+}
