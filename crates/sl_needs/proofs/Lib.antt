@@ -1,6 +1,6 @@
 -- ## What is read of a call
 mod ValueReadings
 mod RangeReadings
-mod LetterLaws
 -- ## Which failure counts
 mod Counting
+mod LetterLaws

@@ -3,3 +3,4 @@ pub mod Values
 pub mod Failures
 pub mod Bounds
 pub mod Letters
+pub mod Ranges

@@ -29,9 +29,13 @@ pub record Reads (a : Arguments) (s : Situation) : Type 0 where
   pub values : a.values.now ≡ map (value_of s.memory) s.values
   pub on : a.object ≡ s.object
 
--- a position that is there, as its container and its index
+-- a position as its container and its index
+abbrev pub at : Position → ℕ × ℕ
+at p = (p.container, p.index)
+
+-- one that there may be
 abbrev pub placed : Option Position → Option (ℕ × ℕ)
-placed p = option_map (λ (q : Position). (q.container, q.index)) p
+placed p = option_map at p
 
 -- a failure by its numbers
 abbrev pub pair_of : Failure → ℕ × ℕ

@@ -4,11 +4,13 @@
 
 mod arguments;
 mod failure;
+mod forms;
 mod letters;
 mod numbers;
 mod orders;
 mod places;
 mod position;
+mod range_test;
 mod ranges;
 
 pub use arguments::Arguments;
