@@ -4,3 +4,5 @@ mod RangeReadings
 -- ## Which failure counts
 mod Counting
 mod LetterLaws
+-- ## Steps
+mod StepReadings

@@ -4,3 +4,4 @@ pub mod Failures
 pub mod Bounds
 pub mod Letters
 pub mod Ranges
+pub mod Steps

@@ -12,7 +12,9 @@ mod places;
 mod position;
 mod range_test;
 mod ranges;
+mod steps;
 
 pub use arguments::Arguments;
 pub use failure::Failure;
 pub use position::Position;
+pub use steps::Steps;
