@@ -41,7 +41,7 @@ impl Steps {
     }
 
     /// The other way.
-    fn turned(self) -> Steps
+    pub fn turned(self) -> Steps
         ensures { result.by ≡ neg_ℤ self.by }
     {
         Steps { by: -self.by }
