@@ -6,3 +6,6 @@ mod Counting
 mod LetterLaws
 -- ## Steps
 mod StepReadings
+-- ## What a set operation writes
+mod MergeLaws
+mod WrittenCounts

@@ -5,3 +5,4 @@ pub mod Bounds
 pub mod Letters
 pub mod Ranges
 pub mod Steps
+pub mod Merging

@@ -9,12 +9,14 @@ mod letters;
 mod needs;
 mod numbers;
 mod operators;
+mod output;
 mod orders;
 mod places;
 mod position;
 mod range_test;
 mod ranges;
 mod steps;
+mod written;
 
 pub use arguments::Arguments;
 pub use failure::Failure;

@@ -26,3 +26,8 @@ number_shown v = pos 0
 -- the container with a number among these, and an empty one where there is none
 abbrev pub shown_at : List Container → ℕ → Plain
 shown_at cs j = elim (slice_get cs j) [ None ↦ record { form = Vector; elements = []; room = 0 } | Some c ↦ contents c ]
+
+-- the container that it is
+abbrev pub appended_shown : Value → Option ℕ
+appended_shown (ContainerAt j) = Some j
+appended_shown v = None
