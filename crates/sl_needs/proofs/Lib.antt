@@ -9,3 +9,4 @@ mod StepReadings
 -- ## What a set operation writes
 mod MergeLaws
 mod WrittenCounts
+mod NeedLaws

@@ -15,6 +15,7 @@ mod places;
 mod position;
 mod range_test;
 mod ranges;
+mod row;
 mod steps;
 mod written;
 

@@ -62,14 +62,14 @@ impl<'a> Arguments<'a> {
         is_partitioned(self.valid_range(1), bound)
     }
 
-    fn position_in_object(&self) -> Option<Failure>
+    pub fn position_in_object(&self) -> Option<Failure>
         ensures { (s : Situation) (r : Row) → Reads self.now s →
             told result ≡ first_failure (failures r s needs.PositionInObject) }
     {
         outside(self.object(), self.position(1), 1)
     }
 
-    fn erasable_position(&self) -> Option<Failure>
+    pub fn erasable_position(&self) -> Option<Failure>
         ensures { (s : Situation) (r : Row) → Reads self.now s →
             told result ≡ first_failure (failures r s needs.ErasablePosition) }
     {
@@ -77,14 +77,14 @@ impl<'a> Arguments<'a> {
         no_element(object, self.size(object), self.position(1), 1)
     }
 
-    fn range_in_object(&self) -> Option<Failure>
+    pub fn range_in_object(&self) -> Option<Failure>
         ensures { (s : Situation) (r : Row) → Reads self.now s →
             told result ≡ first_failure (failures r s needs.RangeInObject) }
     {
         no_range(self.object(), self.position(1), self.position(2), 1)
     }
 
-    fn one_range(&self, entry: &Entry) -> Option<Failure>
+    pub fn one_range(&self, entry: &Entry) -> Option<Failure>
         ensures { (s : Situation) → Reads self.now s →
             told result ≡ first_failure (failures (entry_row entry.now) s needs.OneRange) }
     {
@@ -92,7 +92,7 @@ impl<'a> Arguments<'a> {
         self.each_range(entry.signature.letters, RangeTest::Invalid { any_way })
     }
 
-    fn foreign_range(&self, entry: &Entry) -> Option<Failure>
+    pub fn foreign_range(&self, entry: &Entry) -> Option<Failure>
         ensures { (s : Situation) → Reads self.now s →
             told result ≡ first_failure (failures (entry_row entry.now) s needs.ForeignRange) }
     {
@@ -101,28 +101,28 @@ impl<'a> Arguments<'a> {
         earlier(self.range_failure(false, first), fails_if(own, OWN_ELEMENTS, first))
     }
 
-    fn not_empty(&self) -> Option<Failure>
+    pub fn not_empty(&self) -> Option<Failure>
         ensures { (s : Situation) (r : Row) → Reads self.now s →
             told result ≡ first_failure (failures r s needs.NotEmpty) }
     {
         fails_if(self.size(self.object()) == 0, EMPTY_CONTAINER, 0)
     }
 
-    fn index_in_size(&self) -> Option<Failure>
+    pub fn index_in_size(&self) -> Option<Failure>
         ensures { (s : Situation) (r : Row) → Reads self.now s →
             told result ≡ first_failure (failures r s needs.IndexInSize) }
     {
         fails_if(self.size(self.object()) <= self.size_argument(1), OUT_OF_RANGE, 0)
     }
 
-    fn other_container(&self) -> Option<Failure>
+    pub fn other_container(&self) -> Option<Failure>
         ensures { (s : Situation) (r : Row) → Reads self.now s →
             told result ≡ first_failure (failures r s needs.OtherContainer) }
     {
         fails_if(self.container(2) == self.object(), OWN_ELEMENTS, 2)
     }
 
-    fn spliced_element(&self) -> Option<Failure>
+    pub fn spliced_element(&self) -> Option<Failure>
         ensures { (s : Situation) (r : Row) → Reads self.now s →
             told result ≡ first_failure (failures r s needs.SplicedElement) }
     {
@@ -130,7 +130,7 @@ impl<'a> Arguments<'a> {
         no_element(container, self.size(container), self.position(3), 3)
     }
 
-    fn spliced_range(&self) -> Option<Failure>
+    pub fn spliced_range(&self) -> Option<Failure>
         ensures { (s : Situation) (r : Row) → Reads self.now s →
             told result ≡ first_failure (failures r s needs.SplicedRange) }
     {
@@ -141,7 +141,7 @@ impl<'a> Arguments<'a> {
         )
     }
 
-    fn both_sorted(&self) -> Option<Failure>
+    pub fn both_sorted(&self) -> Option<Failure>
         ensures { (s : Situation) (r : Row) → Reads self.now s →
             told result ≡ first_failure (failures r s needs.BothSorted) }
     {
@@ -150,7 +150,7 @@ impl<'a> Arguments<'a> {
         earlier(fails_if(!own, NOT_SORTED, 0), fails_if(!other, NOT_SORTED, 1))
     }
 
-    fn partitioned_below(&self) -> Option<Failure>
+    pub fn partitioned_below(&self) -> Option<Failure>
         ensures { (s : Situation) (r : Row) → Reads self.now s →
             told result ≡ first_failure (failures r s needs.PartitionedBelow) }
     {
@@ -158,7 +158,7 @@ impl<'a> Arguments<'a> {
         fails_if(!below, NOT_PARTITIONED, 1)
     }
 
-    fn partitioned_above(&self) -> Option<Failure>
+    pub fn partitioned_above(&self) -> Option<Failure>
         ensures { (s : Situation) (r : Row) → Reads self.now s →
             told result ≡ first_failure (failures r s needs.PartitionedAbove) }
     {
@@ -166,14 +166,14 @@ impl<'a> Arguments<'a> {
         fails_if(!up_to, NOT_PARTITIONED, 1)
     }
 
-    fn ranges_sorted(&self, entry: &Entry) -> Option<Failure>
+    pub fn ranges_sorted(&self, entry: &Entry) -> Option<Failure>
         ensures { (s : Situation) → Reads self.now s →
             told result ≡ first_failure (failures (entry_row entry.now) s needs.RangesSorted) }
     {
         self.each_range(entry.signature.letters, RangeTest::Unsorted)
     }
 
-    fn movable(&self, entry: &Entry) -> Option<Failure>
+    pub fn movable(&self, entry: &Entry) -> Option<Failure>
         ensures { (s : Situation) → Reads self.now s →
             told result ≡ first_failure (failures (entry_row entry.now) s needs.Movable) }
     {
