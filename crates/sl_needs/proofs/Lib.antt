@@ -10,3 +10,6 @@ mod StepReadings
 mod MergeLaws
 mod WrittenCounts
 mod NeedLaws
+-- ## Sorts of operands
+mod TakenLetters
+mod SortReadings

@@ -6,3 +6,4 @@ pub mod Letters
 pub mod Ranges
 pub mod Steps
 pub mod Merging
+pub mod Sorts

@@ -6,6 +6,7 @@ ghost use Rattle.sl_model.specs.LibraryCalls.Situation as spec;
 ghost use Rattle.sl_model.specs.LibraryCalls.Situation.{Situation};
 ghost use Rattle.sl_slots.specs.Shown.{element_of, value_of};
 ghost use Rattle.sl_needs.specs.Readings.{Meets, Reads, placed};
+ghost use Rattle.sl_needs.specs.Means.Sorts.{forms_of};
 ghost use Rattle.sl_needs.specs.Means.Values.{shown_at};
 
 use crate::numbers::{as_count, as_difference, as_int};
@@ -72,6 +73,13 @@ impl<'a> Arguments<'a> {
         self.object
     }
 
+    /// The arguments, from 1 on.
+    pub fn values(&self) -> &'a [Value]
+        ensures { result.now ≡ self.now.values.now }
+    {
+        self.values
+    }
+
     /// How many arguments there are.
     pub fn count(&self) -> usize
         ensures { (s : Situation) → Reads self.now s → result ≡ length s.values }
@@ -133,6 +141,16 @@ impl<'a> Arguments<'a> {
         ensures { (s : Situation) → Reads self.now s → result ≡ size (cont_at s.memory container) }
     {
         self.elements(container).len()
+    }
+
+    /// The form of the container with a number, if it is there.
+    pub fn form_of(&self, container: usize) -> Option<Form>
+        ensures { result ≡ forms_of self.now.containers.now container }
+    {
+        match self.containers.get(container) {
+            Some(container) => Some(container.form),
+            None => None,
+        }
     }
 
     /// The form of the container with a number, that of a vector where it isn't there.

@@ -4,6 +4,7 @@
 
 mod arguments;
 mod failure;
+mod fitting;
 mod forms;
 mod letters;
 mod needs;
@@ -16,6 +17,7 @@ mod position;
 mod range_test;
 mod ranges;
 mod row;
+mod shape;
 mod steps;
 mod written;
 

@@ -7,26 +7,14 @@ ghost use Rattle.sl_model.specs.LibraryCalls.Needs.{first_failure, failures};
 ghost use Rattle.sl_model.specs.LibraryCalls.Operands as operands;
 ghost use Rattle.sl_model.specs.LibraryCalls.Situation.{Situation, place_of};
 ghost use Rattle.sl_needs.specs.Readings.{Reads, told, placed, at};
-ghost use Rattle.sl_needs.specs.Means.Values.{appended_shown};
 
 use crate::arguments::Arguments;
 use crate::failure::{Failure, earlier, fails_if};
 use crate::places::invalid;
-use crate::position::Position;
+use crate::position::{Position, container_at};
 use crate::range_test::RangeTest;
 use sl_base::failures::NO_ROOM;
-use sl_slots::Value;
 use sl_specs::{Call, Entry};
-
-// The container that a value is.
-fn container_at(value: Value) -> Option<usize>
-    ensures { result ≡ appended_shown value }
-{
-    match value {
-        Value::ContainerAt(container) => Some(container),
-        _ => None,
-    }
-}
 
 /// Whether a call is `std::copy`.
 fn is_copy(call: Call) -> bool

@@ -2,7 +2,7 @@
 ghost use Rattle.std.specs.Prelude.{◌≡◌};
 ghost use Rattle.sl_model.specs.LibraryCalls.Situation as spec;
 ghost use Rattle.sl_needs.specs.Readings.{placed};
-ghost use Rattle.sl_needs.specs.Means.Values.{place_shown, container_shown};
+ghost use Rattle.sl_needs.specs.Means.Values.{place_shown, container_shown, appended_shown};
 
 use sl_slots::{Slot, Value};
 
@@ -53,5 +53,15 @@ pub fn container_of(value: Value) -> usize
     match value {
         Value::ContainerAt(container) => container,
         _ => container_in(position_of(value)),
+    }
+}
+
+/// The container that a value is.
+pub fn container_at(value: Value) -> Option<usize>
+    ensures { result ≡ appended_shown value }
+{
+    match value {
+        Value::ContainerAt(container) => Some(container),
+        _ => None,
     }
 }
