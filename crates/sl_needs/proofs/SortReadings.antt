@@ -153,6 +153,12 @@ pub fit_read : (a : Arguments) (s : Situation) → Reads a s → (sorts : List S
 fit_read a s h sorts = ap (are_shown (forms_of a.containers.now) sorts) h.values
     ∙ are_read (forms_of a.containers.now) s.memory (forms_read a.containers.now s.memory h.containers) sorts s.values
 
+-- a container of a form
+pub form_read : (a : Arguments) (s : Situation) → Reads a s → (form : Form) (j : ℕ)
+    → is_form (forms_of a.containers.now j) form ≡ is_of_form form (slice_get s.memory.conts j)
+form_read a s h form j = ap (λ (o : Option Form). is_form o form) (forms_read a.containers.now s.memory h.containers j)
+    ∙ form_at form (slice_get s.memory.conts j)
+
 -- the sorts of what a row takes
 pub row_sorts : (appends : Bool) (r : Row) → (meaning_of appends r).operands
     ≡ (elim r.form as (λ _. List Sort) [ Some form ↦ all_sorts form false r.letters | None ↦ all_sorts f.Vector appends r.letters ])

@@ -73,6 +73,13 @@ impl<'a> Arguments<'a> {
         self.object
     }
 
+    /// How many containers there are.
+    pub fn containers(&self) -> usize
+        ensures { (s : Situation) → Reads self.now s → result ≡ length s.memory.conts }
+    {
+        self.containers.len()
+    }
+
     /// The arguments, from 1 on.
     pub fn values(&self) -> &'a [Value]
         ensures { result.now ≡ self.now.values.now }

@@ -24,14 +24,22 @@ impl Failure {
 pub fn fails_if(test: bool, kind: u8, argument: usize) -> Option<Failure>
     ensures { told result ≡ first_failure (fails_if test kind argument) }
 {
-    if test { Some(Failure { kind, argument }) } else { None }
+    if test {
+        Some(Failure { kind, argument })
+    } else {
+        None
+    }
 }
 
 /// The one of two failures that counts.
 fn least(first: Failure, second: Failure) -> Option<Failure>
     ensures { told result ≡ sooner (told (Some first)) (told (Some second)) }
 {
-    if second.is_before(first) { Some(second) } else { Some(first) }
+    if second.is_before(first) {
+        Some(second)
+    } else {
+        Some(first)
+    }
 }
 
 /// The one of two failures that counts, where there are two.

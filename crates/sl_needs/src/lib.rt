@@ -9,9 +9,10 @@ mod forms;
 mod letters;
 mod needs;
 mod numbers;
+mod object;
 mod operators;
-mod output;
 mod orders;
+mod output;
 mod places;
 mod position;
 mod range_test;
@@ -23,5 +24,6 @@ mod written;
 
 pub use arguments::Arguments;
 pub use failure::Failure;
+pub use object::{Object, object_in};
 pub use position::Position;
 pub use steps::Steps;

@@ -88,7 +88,8 @@ impl<'a> Arguments<'a> {
         ensures { (s : Situation) → Reads self.now s →
             told result ≡ first_failure (failures (entry_row entry.now) s needs.OneRange) }
     {
-        let any_way = may_go_back(entry.signature.letters) & is_random_access(self.form(self.object()));
+        let any_way = may_go_back(entry.signature.letters)
+            & is_random_access(self.form(self.object()));
         self.each_range(entry.signature.letters, RangeTest::Invalid { any_way })
     }
 
@@ -98,7 +99,10 @@ impl<'a> Arguments<'a> {
     {
         let first = first_range(entry.signature.letters);
         let own = self.is_range(first) & (self.container(first) == self.object());
-        earlier(self.range_failure(false, first), fails_if(own, OWN_ELEMENTS, first))
+        earlier(
+            self.range_failure(false, first),
+            fails_if(own, OWN_ELEMENTS, first),
+        )
     }
 
     pub fn not_empty(&self) -> Option<Failure>
@@ -112,7 +116,11 @@ impl<'a> Arguments<'a> {
         ensures { (s : Situation) (r : Row) → Reads self.now s →
             told result ≡ first_failure (failures r s needs.IndexInSize) }
     {
-        fails_if(self.size(self.object()) <= self.size_argument(1), OUT_OF_RANGE, 0)
+        fails_if(
+            self.size(self.object()) <= self.size_argument(1),
+            OUT_OF_RANGE,
+            0,
+        )
     }
 
     pub fn other_container(&self) -> Option<Failure>
@@ -147,7 +155,10 @@ impl<'a> Arguments<'a> {
     {
         let own = self.is_in_order(self.object());
         let other = self.is_in_order(self.container(1));
-        earlier(fails_if(!own, NOT_SORTED, 0), fails_if(!other, NOT_SORTED, 1))
+        earlier(
+            fails_if(!own, NOT_SORTED, 0),
+            fails_if(!other, NOT_SORTED, 1),
+        )
     }
 
     pub fn partitioned_below(&self) -> Option<Failure>
@@ -179,5 +190,4 @@ impl<'a> Arguments<'a> {
     {
         self.movable_failure(self.steps(entry.call))
     }
-
 }

@@ -51,5 +51,8 @@ pub fn as_difference(value: Value) -> i128
     ensures low { pos 0 ≤ℤ (result +ℤ pos 9223372036854775808) }
     ensures high { result <ℤ pos 9223372036854775808 }
 {
-    centred(number_in(value).rem_euclid(18446744073709551616), 9223372036854775808)
+    centred(
+        number_in(value).rem_euclid(18446744073709551616),
+        9223372036854775808,
+    )
 }

@@ -61,7 +61,8 @@ impl<'a> Arguments<'a> {
             told result ≡ first_failure ((row_of_operator name operator).fails s) }
     {
         match operator {
-            Operator::Dereference | Operator::ArrowFirst | Operator::ArrowSecond => self.dereference_failure(),
+            Operator::Dereference | Operator::ArrowFirst | Operator::ArrowSecond =>
+                self.dereference_failure(),
             Operator::Difference | Operator::Compare(_) => self.pair_failure(),
             _ => self.step_failure(self.steps_by(operator)),
         }

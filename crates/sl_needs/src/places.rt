@@ -65,11 +65,7 @@ pub fn wrong_way(
 }
 
 /// Where two arguments that stand somewhere stand in two containers.
-pub fn apart(
-    first: Option<Position>,
-    second: Option<Position>,
-    argument: usize,
-) -> Option<Failure>
+pub fn apart(first: Option<Position>, second: Option<Position>, argument: usize) -> Option<Failure>
     requires { argument < usize.MAX }
     ensures { told result ≡ first_failure (spec.one_container_fails (placed first) (placed second) argument) }
 {
@@ -99,11 +95,7 @@ pub fn no_range(
 }
 
 /// Where two arguments, the first with this number, stand nowhere or in two containers.
-pub fn no_pair(
-    first: Option<Position>,
-    last: Option<Position>,
-    argument: usize,
-) -> Option<Failure>
+pub fn no_pair(first: Option<Position>, last: Option<Position>, argument: usize) -> Option<Failure>
     requires { argument < usize.MAX }
     ensures { told result ≡ first_failure (spec.invalid_fails (placed first) argument ++
         (spec.invalid_fails (placed last) (argument + 1) ++
@@ -111,10 +103,7 @@ pub fn no_pair(
 {
     earlier(
         invalid(first, argument),
-        earlier(
-            invalid(last, argument + 1),
-            apart(first, last, argument),
-        ),
+        earlier(invalid(last, argument + 1), apart(first, last, argument)),
     )
 }
 

@@ -20,7 +20,9 @@ use sl_specs::Letter;
 #[derive(Clone, Copy)]
 pub enum RangeTest {
     /// It is no range of one container, and not one that is the wrong way round where it may be.
-    Invalid { any_way: bool },
+    Invalid {
+        any_way: bool,
+    },
     /// An output of so many elements from a position on overlaps it. For `std::copy`, the position stands in it.
     Overlapped {
         output: Position,
@@ -29,7 +31,10 @@ pub enum RangeTest {
         argument: usize,
     },
     /// It holds an element of the container with a number.
-    Filled { container: usize, argument: usize },
+    Filled {
+        container: usize,
+        argument: usize,
+    },
     /// It is a valid range, and not in order.
     Unsorted,
 }
@@ -67,7 +72,8 @@ impl<'a> Arguments<'a> {
         requires { number < usize.MAX }
         ensures { (s : Situation) → Reads self.now s → result ≡ needs.is_filled_from s container number }
     {
-        (self.is_range(number) & (self.container(number) == container)) & (0 < self.range_size(number))
+        (self.is_range(number) & (self.container(number) == container))
+            & (0 < self.range_size(number))
     }
 
     // How the range at an argument fails a test.
@@ -82,12 +88,20 @@ impl<'a> Arguments<'a> {
                 count,
                 copies,
                 argument,
-            } => fails_if(self.overlaps(output, count, copies, number), OVERLAP, argument),
+            } => fails_if(
+                self.overlaps(output, count, copies, number),
+                OVERLAP,
+                argument,
+            ),
             RangeTest::Filled {
                 container,
                 argument,
             } => fails_if(self.is_filled(container, number), OWN_ELEMENTS, argument),
-            RangeTest::Unsorted => fails_if(!is_ascending(self.valid_range(number)), NOT_SORTED, number),
+            RangeTest::Unsorted => fails_if(
+                !is_ascending(self.valid_range(number)),
+                NOT_SORTED,
+                number,
+            ),
         }
     }
 

@@ -17,11 +17,7 @@ fn between<'a>(elements: &'a [Element], low: usize, high: usize) -> &'a [Element
     ensures { result.now ≡ slice_range elements.now low high }
 {
     let end = high.min(elements.len());
-    if low < end {
-        &elements[low..end]
-    } else {
-        &[]
-    }
+    if low < end { &elements[low..end] } else { &[] }
 }
 
 impl<'a> Arguments<'a> {

@@ -26,8 +26,8 @@ pub fn is_iterator(value: Value) -> bool
     matches!(value, Value::Iterator(_))
 }
 
-// Whether a form that there may be is another one.
-fn is_form(own: Option<Form>, form: Form) -> bool
+/// Whether a form that there may be is another one.
+pub fn is_form(own: Option<Form>, form: Form) -> bool
     ensures { result ≡ spec.is_form own form }
 {
     match own {

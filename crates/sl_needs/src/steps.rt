@@ -36,7 +36,11 @@ impl Steps {
         if self.by < 0 {
             if to < 0 { None } else { Some(to as usize) }
         } else {
-            if to <= size as i128 { Some(to as usize) } else { None }
+            if to <= size as i128 {
+                Some(to as usize)
+            } else {
+                None
+            }
         }
     }
 
@@ -66,12 +70,7 @@ fn no_step(position: Option<Position>, size: usize, steps: Steps) -> Option<Fail
 }
 
 // The same, where a forward iterator may not go back either.
-fn no_move(
-    position: Option<Position>,
-    size: usize,
-    form: Form,
-    steps: Steps,
-) -> Option<Failure>
+fn no_move(position: Option<Position>, size: usize, form: Form, steps: Steps) -> Option<Failure>
     ensures { told result ≡ first_failure (movable_fails_at (placed position) size form steps.by) }
 {
     match position {
