@@ -3,8 +3,8 @@ use Rattle.std.proofs.Common.{◌≡◌, ℕ, Bool, true, false, List, [], ◌�
 use Rattle.std.specs.Bool.{if◌then◌else◌}
 use Rattle.sl_model.specs.LibraryCalls.Needs.{first_failure, is_before}
 use Rattle.sl_needs.specs.declared.failure.Failure.{Failure}
-use Rattle.sl_needs.specs.Readings.{told}
-use Rattle.sl_needs.specs.Means.Failures.{sooner}
+use Rattle.sl_needs.specs.Failures.{told}
+use Rattle.sl_needs.specs.Means.Sooner.{sooner}
 
 -- of three in a row
 through : (f g h : ℕ × ℕ) → is_before g f ≡ true → is_before h g ≡ true → is_before h f ≡ true

@@ -5,8 +5,8 @@ use Rattle.sl_specs.specs.declared.letter.Letter.TheVariants as a
 use Rattle.sl_model.specs.LibraryCalls.Operands.{ranges_from}
 use Rattle.sl_model.specs.LibraryCalls.Needs.{each_range, first_failure}
 use Rattle.sl_needs.specs.declared.failure.Failure.{Failure}
-use Rattle.sl_needs.specs.Readings.{told}
-use Rattle.sl_needs.specs.Means.Failures.{sooner}
+use Rattle.sl_needs.specs.Failures.{told}
+use Rattle.sl_needs.specs.Means.Sooner.{sooner}
 use Rattle.sl_needs.specs.Means.Letters.{takes_range, arguments_of}
 use Rattle.sl_needs.proofs.Counting.{first-both, sooner_assoc}
 

@@ -8,8 +8,8 @@ use Rattle.sl_model.specs.LibraryCalls.Situation.{Situation}
 use Rattle.sl_model.specs.LibraryCalls.Needs.{failures, all_failures, first_failure}
 use Rattle.sl_model.specs.LibraryCalls.Rows.{meaning_of}
 use Rattle.sl_needs.specs.declared.failure.Failure.{Failure}
-use Rattle.sl_needs.specs.Readings.{told}
-use Rattle.sl_needs.specs.Means.Failures.{sooner}
+use Rattle.sl_needs.specs.Failures.{told}
+use Rattle.sl_needs.specs.Means.Sooner.{sooner}
 use Rattle.sl_needs.proofs.Counting.{first-both, sooner_assoc}
 
 -- of one need that is another

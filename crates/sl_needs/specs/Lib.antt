@@ -1,3 +1,2 @@
-pub mod Readings
-pub mod Objects
+pub mod Failures
 pub mod Means

@@ -1,8 +1,8 @@
 //! Failures of needs.
 ghost use Rattle.std.specs.Prelude.{◌≡◌};
 ghost use Rattle.sl_model.specs.LibraryCalls.Needs.{first_failure, fails_if, is_before};
-ghost use Rattle.sl_needs.specs.Readings.{told, pair_of};
-ghost use Rattle.sl_needs.specs.Means.Failures.{sooner};
+ghost use Rattle.sl_needs.specs.Failures.{told, pair_of};
+ghost use Rattle.sl_needs.specs.Means.Sooner.{sooner};
 
 /// A need that fails: its kind, one of `sl_base::failures`, and the argument at which it does, where the object is 0.
 #[derive(Clone, Copy)]

@@ -17,10 +17,3 @@ pub fn is_hash(form: Form) -> bool
 {
     matches!(form, Form::HashSet | Form::HashMap)
 }
-
-/// Whether its elements are known by keys.
-pub fn is_keyed(form: Form) -> bool
-    ensures { result ≡ spec.is_keyed form }
-{
-    !matches!(form, Form::Vector | Form::Deque | Form::List)
-}

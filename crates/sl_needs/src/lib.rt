@@ -1,29 +1,20 @@
-//! The needs of a call of the library, read off a store: where its arguments stand, whether they are of the sorts that
-//! the call takes, and by which failure it ends.
+//! The needs of a call of the library: by which failure it ends, if one of them fails.
 #![tactic(auto)]
 
-mod arguments;
 mod failure;
-mod fitting;
 mod forms;
 mod letters;
+mod moves;
 mod needs;
-mod numbers;
-mod object;
 mod operators;
 mod orders;
 mod output;
 mod places;
-mod position;
 mod range_test;
 mod ranges;
 mod row;
-mod shape;
-mod steps;
 mod written;
 
-pub use arguments::Arguments;
 pub use failure::Failure;
-pub use object::{Object, object_in};
-pub use position::Position;
-pub use steps::Steps;
+pub use operators::operator_failure;
+pub use row::row_failure;

@@ -10,10 +10,14 @@ ghost use Rattle.sl_model.specs.LibraryCalls.Needs.{first_failure, failures};
 ghost use Rattle.sl_model.specs.LibraryCalls.Rows.{meaning_of};
 ghost use Rattle.sl_model.specs.LibraryCalls.Situation.{Situation, int_of};
 ghost use Rattle.sl_needs.specs.declared.orders.Bound.TheVariants as bounds;
-ghost use Rattle.sl_needs.specs.Readings.{Reads, told};
+ghost use Rattle.sl_arguments.specs.Readings.{Reads};
+ghost use Rattle.sl_needs.specs.Failures.{told};
 ghost use Rattle.sl_needs.specs.Means.Bounds.{is_within};
 
-use crate::arguments::Arguments;
+use crate::moves::{movable_failure, steps_of};
+use crate::range_test::{each_range};
+use crate::ranges::{is_valid_range, range_failure, valid_range};
+use sl_arguments::Arguments;
 use crate::failure::{Failure, earlier, fails_if};
 use crate::forms::is_random_access;
 use crate::letters::{first_range, may_go_back};
@@ -25,169 +29,167 @@ use sl_base::failures::{
 };
 use sl_specs::{Entry, Need};
 
-impl<'a> Arguments<'a> {
-    // Whether the position, argument 1, stands in the range that begins at argument 3.
-    fn is_position_inside(&self) -> bool
-        ensures { (s : Situation) → Reads self.now s → result ≡ spec.is_position_inside s }
-    {
-        (self.index(3) <= self.index(1)) & (self.index(1) < self.index(4))
-    }
+// Whether the position, argument 1, stands in the range that begins at argument 3.
+fn is_position_inside(arguments: &Arguments) -> bool
+    ensures { (s : Situation) → Reads arguments.now s → result ≡ spec.is_position_inside s }
+{
+    (arguments.index(3) <= arguments.index(1)) & (arguments.index(1) < arguments.index(4))
+}
 
-    // Whether the elements of the container with a number are in order.
-    fn is_in_order(&self, container: usize) -> bool
-        ensures { (s : Situation) → Reads self.now s → result ≡ orders.is_ascending (keys (cont_at s.memory container)) }
-    {
-        is_ascending(self.elements(container))
-    }
+// Whether the elements of the container with a number are in order.
+fn is_in_order(arguments: &Arguments, container: usize) -> bool
+    ensures { (s : Situation) → Reads arguments.now s → result ≡ orders.is_ascending (keys (cont_at s.memory container)) }
+{
+    is_ascending(arguments.elements(container))
+}
 
-    // The keys below an argument.
-    fn below(&self, number: usize) -> Bound
-        ensures { (s : Situation) → Reads self.now s → result ≡ bounds.Below (int_of s number) }
-    {
-        Bound::Below(self.int(number))
-    }
+// The keys below an argument.
+fn below(arguments: &Arguments, number: usize) -> Bound
+    ensures { (s : Situation) → Reads arguments.now s → result ≡ bounds.Below (int_of s number) }
+{
+    Bound::Below(arguments.int(number))
+}
 
-    // The keys up to an argument.
-    fn up_to(&self, number: usize) -> Bound
-        ensures { (s : Situation) → Reads self.now s → result ≡ bounds.UpTo (int_of s number) }
-    {
-        Bound::UpTo(self.int(number))
-    }
+// The keys up to an argument.
+fn up_to(arguments: &Arguments, number: usize) -> Bound
+    ensures { (s : Situation) → Reads arguments.now s → result ≡ bounds.UpTo (int_of s number) }
+{
+    Bound::UpTo(arguments.int(number))
+}
 
-    // Whether in the range that begins at argument 1 the elements within a bound come first.
-    fn is_range_partitioned(&self, bound: Bound) -> bool
-        ensures { (s : Situation) → Reads self.now s →
-            result ≡ orders.is_partitioned (is_within bound) (spec.valid_keys s 1) }
-    {
-        is_partitioned(self.valid_range(1), bound)
-    }
+// Whether in the range that begins at argument 1 the elements within a bound come first.
+fn is_range_partitioned(arguments: &Arguments, bound: Bound) -> bool
+    ensures { (s : Situation) → Reads arguments.now s →
+        result ≡ orders.is_partitioned (is_within bound) (spec.valid_keys s 1) }
+{
+    is_partitioned(valid_range(arguments, 1), bound)
+}
 
-    pub fn position_in_object(&self) -> Option<Failure>
-        ensures { (s : Situation) (r : Row) → Reads self.now s →
-            told result ≡ first_failure (failures r s needs.PositionInObject) }
-    {
-        outside(self.object(), self.position(1), 1)
-    }
+pub fn position_in_object(arguments: &Arguments) -> Option<Failure>
+    ensures { (s : Situation) (r : Row) → Reads arguments.now s →
+        told result ≡ first_failure (failures r s needs.PositionInObject) }
+{
+    outside(arguments.object(), arguments.position(1), 1)
+}
 
-    pub fn erasable_position(&self) -> Option<Failure>
-        ensures { (s : Situation) (r : Row) → Reads self.now s →
-            told result ≡ first_failure (failures r s needs.ErasablePosition) }
-    {
-        let object = self.object();
-        no_element(object, self.size(object), self.position(1), 1)
-    }
+pub fn erasable_position(arguments: &Arguments) -> Option<Failure>
+    ensures { (s : Situation) (r : Row) → Reads arguments.now s →
+        told result ≡ first_failure (failures r s needs.ErasablePosition) }
+{
+    let object = arguments.object();
+    no_element(object, arguments.size(object), arguments.position(1), 1)
+}
 
-    pub fn range_in_object(&self) -> Option<Failure>
-        ensures { (s : Situation) (r : Row) → Reads self.now s →
-            told result ≡ first_failure (failures r s needs.RangeInObject) }
-    {
-        no_range(self.object(), self.position(1), self.position(2), 1)
-    }
+pub fn range_in_object(arguments: &Arguments) -> Option<Failure>
+    ensures { (s : Situation) (r : Row) → Reads arguments.now s →
+        told result ≡ first_failure (failures r s needs.RangeInObject) }
+{
+    no_range(arguments.object(), arguments.position(1), arguments.position(2), 1)
+}
 
-    pub fn one_range(&self, entry: &Entry) -> Option<Failure>
-        ensures { (s : Situation) → Reads self.now s →
-            told result ≡ first_failure (failures (entry_row entry.now) s needs.OneRange) }
-    {
-        let any_way = may_go_back(entry.signature.letters)
-            & is_random_access(self.form(self.object()));
-        self.each_range(entry.signature.letters, RangeTest::Invalid { any_way })
-    }
+pub fn one_range(arguments: &Arguments, entry: &Entry) -> Option<Failure>
+    ensures { (s : Situation) → Reads arguments.now s →
+        told result ≡ first_failure (failures (entry_row entry.now) s needs.OneRange) }
+{
+    let any_way = may_go_back(entry.signature.letters)
+        & is_random_access(arguments.form(arguments.object()));
+    each_range(arguments, entry.signature.letters, RangeTest::Invalid { any_way })
+}
 
-    pub fn foreign_range(&self, entry: &Entry) -> Option<Failure>
-        ensures { (s : Situation) → Reads self.now s →
-            told result ≡ first_failure (failures (entry_row entry.now) s needs.ForeignRange) }
-    {
-        let first = first_range(entry.signature.letters);
-        let own = self.is_range(first) & (self.container(first) == self.object());
-        earlier(
-            self.range_failure(false, first),
-            fails_if(own, OWN_ELEMENTS, first),
-        )
-    }
+pub fn foreign_range(arguments: &Arguments, entry: &Entry) -> Option<Failure>
+    ensures { (s : Situation) → Reads arguments.now s →
+        told result ≡ first_failure (failures (entry_row entry.now) s needs.ForeignRange) }
+{
+    let first = first_range(entry.signature.letters);
+    let own = is_valid_range(arguments, first) & (arguments.container(first) == arguments.object());
+    earlier(
+        range_failure(arguments, false, first),
+        fails_if(own, OWN_ELEMENTS, first),
+    )
+}
 
-    pub fn not_empty(&self) -> Option<Failure>
-        ensures { (s : Situation) (r : Row) → Reads self.now s →
-            told result ≡ first_failure (failures r s needs.NotEmpty) }
-    {
-        fails_if(self.size(self.object()) == 0, EMPTY_CONTAINER, 0)
-    }
+pub fn not_empty(arguments: &Arguments) -> Option<Failure>
+    ensures { (s : Situation) (r : Row) → Reads arguments.now s →
+        told result ≡ first_failure (failures r s needs.NotEmpty) }
+{
+    fails_if(arguments.size(arguments.object()) == 0, EMPTY_CONTAINER, 0)
+}
 
-    pub fn index_in_size(&self) -> Option<Failure>
-        ensures { (s : Situation) (r : Row) → Reads self.now s →
-            told result ≡ first_failure (failures r s needs.IndexInSize) }
-    {
-        fails_if(
-            self.size(self.object()) <= self.size_argument(1),
-            OUT_OF_RANGE,
-            0,
-        )
-    }
+pub fn index_in_size(arguments: &Arguments) -> Option<Failure>
+    ensures { (s : Situation) (r : Row) → Reads arguments.now s →
+        told result ≡ first_failure (failures r s needs.IndexInSize) }
+{
+    fails_if(
+        arguments.size(arguments.object()) <= arguments.size_argument(1),
+        OUT_OF_RANGE,
+        0,
+    )
+}
 
-    pub fn other_container(&self) -> Option<Failure>
-        ensures { (s : Situation) (r : Row) → Reads self.now s →
-            told result ≡ first_failure (failures r s needs.OtherContainer) }
-    {
-        fails_if(self.container(2) == self.object(), OWN_ELEMENTS, 2)
-    }
+pub fn other_container(arguments: &Arguments) -> Option<Failure>
+    ensures { (s : Situation) (r : Row) → Reads arguments.now s →
+        told result ≡ first_failure (failures r s needs.OtherContainer) }
+{
+    fails_if(arguments.container(2) == arguments.object(), OWN_ELEMENTS, 2)
+}
 
-    pub fn spliced_element(&self) -> Option<Failure>
-        ensures { (s : Situation) (r : Row) → Reads self.now s →
-            told result ≡ first_failure (failures r s needs.SplicedElement) }
-    {
-        let container = self.container(2);
-        no_element(container, self.size(container), self.position(3), 3)
-    }
+pub fn spliced_element(arguments: &Arguments) -> Option<Failure>
+    ensures { (s : Situation) (r : Row) → Reads arguments.now s →
+        told result ≡ first_failure (failures r s needs.SplicedElement) }
+{
+    let container = arguments.container(2);
+    no_element(container, arguments.size(container), arguments.position(3), 3)
+}
 
-    pub fn spliced_range(&self) -> Option<Failure>
-        ensures { (s : Situation) (r : Row) → Reads self.now s →
-            told result ≡ first_failure (failures r s needs.SplicedRange) }
-    {
-        let own = self.is_range(3) & (self.container(2) == self.object());
-        earlier(
-            no_range(self.container(2), self.position(3), self.position(4), 3),
-            fails_if(own & self.is_position_inside(), OVERLAP, 1),
-        )
-    }
+pub fn spliced_range(arguments: &Arguments) -> Option<Failure>
+    ensures { (s : Situation) (r : Row) → Reads arguments.now s →
+        told result ≡ first_failure (failures r s needs.SplicedRange) }
+{
+    let own = is_valid_range(arguments, 3) & (arguments.container(2) == arguments.object());
+    earlier(
+        no_range(arguments.container(2), arguments.position(3), arguments.position(4), 3),
+        fails_if(own & is_position_inside(arguments), OVERLAP, 1),
+    )
+}
 
-    pub fn both_sorted(&self) -> Option<Failure>
-        ensures { (s : Situation) (r : Row) → Reads self.now s →
-            told result ≡ first_failure (failures r s needs.BothSorted) }
-    {
-        let own = self.is_in_order(self.object());
-        let other = self.is_in_order(self.container(1));
-        earlier(
-            fails_if(!own, NOT_SORTED, 0),
-            fails_if(!other, NOT_SORTED, 1),
-        )
-    }
+pub fn both_sorted(arguments: &Arguments) -> Option<Failure>
+    ensures { (s : Situation) (r : Row) → Reads arguments.now s →
+        told result ≡ first_failure (failures r s needs.BothSorted) }
+{
+    let own = is_in_order(arguments, arguments.object());
+    let other = is_in_order(arguments, arguments.container(1));
+    earlier(
+        fails_if(!own, NOT_SORTED, 0),
+        fails_if(!other, NOT_SORTED, 1),
+    )
+}
 
-    pub fn partitioned_below(&self) -> Option<Failure>
-        ensures { (s : Situation) (r : Row) → Reads self.now s →
-            told result ≡ first_failure (failures r s needs.PartitionedBelow) }
-    {
-        let below = self.is_range_partitioned(self.below(3));
-        fails_if(!below, NOT_PARTITIONED, 1)
-    }
+pub fn partitioned_below(arguments: &Arguments) -> Option<Failure>
+    ensures { (s : Situation) (r : Row) → Reads arguments.now s →
+        told result ≡ first_failure (failures r s needs.PartitionedBelow) }
+{
+    let below = is_range_partitioned(arguments, below(arguments, 3));
+    fails_if(!below, NOT_PARTITIONED, 1)
+}
 
-    pub fn partitioned_above(&self) -> Option<Failure>
-        ensures { (s : Situation) (r : Row) → Reads self.now s →
-            told result ≡ first_failure (failures r s needs.PartitionedAbove) }
-    {
-        let up_to = self.is_range_partitioned(self.up_to(3));
-        fails_if(!up_to, NOT_PARTITIONED, 1)
-    }
+pub fn partitioned_above(arguments: &Arguments) -> Option<Failure>
+    ensures { (s : Situation) (r : Row) → Reads arguments.now s →
+        told result ≡ first_failure (failures r s needs.PartitionedAbove) }
+{
+    let up_to = is_range_partitioned(arguments, up_to(arguments, 3));
+    fails_if(!up_to, NOT_PARTITIONED, 1)
+}
 
-    pub fn ranges_sorted(&self, entry: &Entry) -> Option<Failure>
-        ensures { (s : Situation) → Reads self.now s →
-            told result ≡ first_failure (failures (entry_row entry.now) s needs.RangesSorted) }
-    {
-        self.each_range(entry.signature.letters, RangeTest::Unsorted)
-    }
+pub fn ranges_sorted(arguments: &Arguments, entry: &Entry) -> Option<Failure>
+    ensures { (s : Situation) → Reads arguments.now s →
+        told result ≡ first_failure (failures (entry_row entry.now) s needs.RangesSorted) }
+{
+    each_range(arguments, entry.signature.letters, RangeTest::Unsorted)
+}
 
-    pub fn movable(&self, entry: &Entry) -> Option<Failure>
-        ensures { (s : Situation) → Reads self.now s →
-            told result ≡ first_failure (failures (entry_row entry.now) s needs.Movable) }
-    {
-        self.movable_failure(self.steps(entry.call))
-    }
+pub fn movable(arguments: &Arguments, entry: &Entry) -> Option<Failure>
+    ensures { (s : Situation) → Reads arguments.now s →
+        told result ≡ first_failure (failures (entry_row entry.now) s needs.Movable) }
+{
+    movable_failure(arguments, steps_of(arguments, entry.call))
 }

@@ -1,7 +1,7 @@
 //! Elements in order.
 ghost use Rattle.std.specs.Prelude.{◌≡◌, map, length};
 ghost use Rattle.sl_model.specs.Memory.Orders as spec;
-ghost use Rattle.sl_needs.specs.Readings.{key_of};
+ghost use Rattle.sl_arguments.specs.Readings.{key_of};
 ghost use Rattle.sl_needs.specs.Means.Bounds.{is_within};
 
 use sl_slots::Element;

@@ -2,10 +2,11 @@
 ghost use Rattle.std.specs.Prelude.{◌≡◌, ◌≢◌, ◌+◌, ◌<◌, ◌++◌, [], if◌then◌else◌, length};
 ghost use Rattle.sl_model.specs.LibraryCalls.Needs as spec;
 ghost use Rattle.sl_model.specs.LibraryCalls.Needs.{first_failure};
-ghost use Rattle.sl_needs.specs.Readings.{told, placed};
+ghost use Rattle.sl_arguments.specs.Readings.{placed};
+ghost use Rattle.sl_needs.specs.Failures.{told};
 
 use crate::failure::{Failure, earlier, fails_if};
-use crate::position::Position;
+use sl_arguments::{Position};
 use sl_base::failures::{BAD_RANGE, END_ITERATOR, INVALID_ITERATOR, WRONG_CONTAINER};
 
 /// Where an argument stands nowhere.

@@ -1,80 +1,47 @@
-//! Ranges among the arguments of a call.
-ghost use Rattle.std.specs.Prelude.{◌≡◌, ◌+◌, ◌-◌, ◌<◌, map, length, slice_range};
+//! Valid ranges among the arguments of a call.
+ghost use Rattle.std.specs.Prelude.{◌≡◌, ◌+◌, ◌<◌, map};
 ghost use Rattle.sl_model.specs.LibraryCalls.Needs as needs;
 ghost use Rattle.sl_model.specs.LibraryCalls.Needs.{first_failure};
-ghost use Rattle.sl_model.specs.LibraryCalls.Situation as spec;
 ghost use Rattle.sl_model.specs.LibraryCalls.Situation.{Situation};
-ghost use Rattle.sl_slots.specs.Shown.{element_of};
-ghost use Rattle.sl_needs.specs.Readings.{Reads, told, key_of};
+ghost use Rattle.sl_arguments.specs.Readings.{Reads, key_of};
+ghost use Rattle.sl_needs.specs.Failures.{told};
 
-use crate::arguments::Arguments;
 use crate::failure::Failure;
 use crate::places::no_one_range;
+use sl_arguments::Arguments;
 use sl_slots::Element;
 
-// The elements from a place on, up to below another one.
-fn between<'a>(elements: &'a [Element], low: usize, high: usize) -> &'a [Element]
-    ensures { result.now ≡ slice_range elements.now low high }
+/// Where the arguments from one on are no range of one container; they may be the wrong way round, or not.
+pub fn range_failure(arguments: &Arguments, any_way: bool, number: usize) -> Option<Failure>
+    requires { number < usize.MAX }
+    ensures { (s : Situation) → Reads arguments.now s →
+        told result ≡ first_failure (needs.one_range_fails any_way s number) }
 {
-    let end = high.min(elements.len());
-    if low < end { &elements[low..end] } else { &[] }
+    no_one_range(
+        any_way,
+        arguments.container(number),
+        arguments.position(number),
+        arguments.position(number + 1),
+        number,
+    )
 }
 
-impl<'a> Arguments<'a> {
-    /// Where the arguments from one on are no range of one container; they may be the wrong way round, or not.
-    pub fn range_failure(&self, any_way: bool, number: usize) -> Option<Failure>
-        requires { number < usize.MAX }
-        ensures { (s : Situation) → Reads self.now s →
-            told result ≡ first_failure (needs.one_range_fails any_way s number) }
-    {
-        no_one_range(
-            any_way,
-            self.container(number),
-            self.position(number),
-            self.position(number + 1),
-            number,
-        )
-    }
+/// Whether the arguments from one on are a valid range.
+pub fn is_valid_range(arguments: &Arguments, number: usize) -> bool
+    requires { number < usize.MAX }
+    ensures { (s : Situation) → Reads arguments.now s → result ≡ needs.is_range s number }
+{
+    range_failure(arguments, false, number).is_none()
+}
 
-    /// Whether the arguments from one on are a valid range.
-    pub fn is_range(&self, number: usize) -> bool
-        requires { number < usize.MAX }
-        ensures { (s : Situation) → Reads self.now s → result ≡ needs.is_range s number }
-    {
-        self.range_failure(false, number).is_none()
-    }
-
-    /// The elements from an argument on up to the next one, where they are a range.
-    pub fn range(&self, number: usize) -> &'a [Element]
-        requires { number < usize.MAX }
-        ensures elements { (s : Situation) → Reads self.now s → result.now ≡
-            slice_range (map element_of (spec.their s number).cells) (spec.index s number) (spec.index s (number + 1)) }
-        ensures keys { (s : Situation) → Reads self.now s → map key_of result.now ≡ spec.range_keys s number }
-    {
-        between(
-            self.elements(self.container(number)),
-            self.index(number),
-            self.index(number + 1),
-        )
-    }
-
-    /// The elements of that range where it is a valid one, else none.
-    pub fn valid_range(&self, number: usize) -> &'a [Element]
-        requires { number < usize.MAX }
-        ensures { (s : Situation) → Reads self.now s → map key_of result.now ≡ needs.valid_keys s number }
-    {
-        if self.is_range(number) {
-            self.range(number)
-        } else {
-            &[]
-        }
-    }
-
-    /// How many elements that range has.
-    pub fn range_size(&self, number: usize) -> usize
-        requires { number < usize.MAX }
-        ensures { (s : Situation) → Reads self.now s → result ≡ spec.range_size s number }
-    {
-        self.index(number + 1).saturating_sub(self.index(number))
+/// The elements of that range where it is a valid one, else none.
+pub fn valid_range<'a>(arguments: &Arguments<'a>, number: usize) -> &'a [Element]
+    requires { number < usize.MAX }
+    ensures { (s : Situation) → Reads arguments.now s → map key_of result.now ≡ needs.valid_keys s number }
+{
+    if is_valid_range(arguments, number) {
+        arguments.range(number)
+    } else {
+        &[]
     }
 }

@@ -2,10 +2,10 @@
 ghost use Rattle.std.specs.Prelude.{◌≡◌, ◌≤◌, ◌+◌, ◌-◌, ◌&&◌, length, map, not, false};
 ghost use Rattle.sl_model.specs.LibraryCalls.Operands as operands;
 ghost use Rattle.sl_model.specs.LibraryCalls.Situation.{Situation};
-ghost use Rattle.sl_needs.specs.Readings.{Reads, key_of};
+ghost use Rattle.sl_arguments.specs.Readings.{Reads, key_of};
 ghost use Rattle.sl_needs.specs.Means.Merging as spec;
 
-use crate::arguments::Arguments;
+use sl_arguments::Arguments;
 use crate::orders::is_ascending;
 use sl_slots::Element;
 use sl_specs::Call;
@@ -89,30 +89,28 @@ fn is_set_operation(call: Call) -> bool
     )
 }
 
-impl<'a> Arguments<'a> {
-    // Whether both ranges are in order.
-    fn are_in_order(&self) -> bool
-        ensures { (s : Situation) → Reads self.now s → result ≡ operands.are_ascending s }
-    {
-        is_ascending(self.range(1)) & is_ascending(self.range(3))
-    }
+// Whether both ranges are in order.
+fn are_in_order(arguments: &Arguments) -> bool
+    ensures { (s : Situation) → Reads arguments.now s → result ≡ operands.are_ascending s }
+{
+    is_ascending(arguments.range(1)) & is_ascending(arguments.range(3))
+}
 
-    // How many elements an algorithm writes; a set operation, where both ranges are in order.
-    fn written_count(&self, call: Call) -> usize
-        ensures { (s : Situation) → Reads self.now s → (operands.is_set_operation call && not (operands.are_ascending s)) ≡ false →
-            result ≡ length (operands.written_keys call s) }
-    {
-        counted(call, self.range(1), self.range(3))
-    }
+// How many elements an algorithm writes; a set operation, where both ranges are in order.
+fn written_count(arguments: &Arguments, call: Call) -> usize
+    ensures { (s : Situation) → Reads arguments.now s → (operands.is_set_operation call && not (operands.are_ascending s)) ≡ false →
+        result ≡ length (operands.written_keys call s) }
+{
+    counted(call, arguments.range(1), arguments.range(3))
+}
 
-    /// How many elements an algorithm writes, where that is told: a set operation tells it where both ranges are in order.
-    pub fn output_count(&self, call: Call) -> Option<usize>
-        ensures { (s : Situation) → Reads self.now s → result ≡ operands.output_count call s }
-    {
-        if is_set_operation(call) & !self.are_in_order() {
-            None
-        } else {
-            Some(self.written_count(call))
-        }
+/// How many elements an algorithm writes, where that is told: a set operation tells it where both ranges are in order.
+pub fn output_count(arguments: &Arguments, call: Call) -> Option<usize>
+    ensures { (s : Situation) → Reads arguments.now s → result ≡ operands.output_count call s }
+{
+    if is_set_operation(call) & !are_in_order(arguments) {
+        None
+    } else {
+        Some(written_count(arguments, call))
     }
 }

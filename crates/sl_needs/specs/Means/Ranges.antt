@@ -6,7 +6,7 @@ use Rattle.sl_model.specs.LibraryCalls.Situation.{Situation, index, container_of
 use Rattle.sl_model.specs.LibraryCalls.Needs.{is_range, one_range_fails, overlap, is_filled_from, fails_if, valid_keys}
 use Rattle.sl_needs.specs.declared.range_test.RangeTest.{RangeTest}
 use Rattle.sl_needs.specs.declared.range_test.RangeTest.TheVariants.{Invalid, Overlapped, Filled, Unsorted}
-use Rattle.sl_needs.specs.Readings.{at}
+use Rattle.sl_arguments.specs.Readings.{at}
 
 -- so many places from one on meet those from low to below high; for std::copy, the first stands there
 abbrev pub meets : Bool → ℕ → ℕ → ℕ → ℕ → Bool

@@ -1,6 +1,6 @@
 use Rattle.std.proofs.Common.{◌≡◌, ◌∷◌, map, drop}
 use Rattle.sl_model.specs.Memory.Orders.{is_ascending}
-use Rattle.sl_needs.specs.Readings.{key_of}
+use Rattle.sl_arguments.specs.Readings.{key_of}
 use Rattle.sl_needs.proofs.orders.is_ascending.Given as goal
 
 abbrev pub invariant-loop-element : goal.invariant-loop-element

@@ -1,7 +1,7 @@
 use Rattle.std.proofs.Common.{◌≡◌, map, drop, ◌==◌}
 use Rattle.std.specs.Bool.{if◌then◌else◌}
 use Rattle.sl_model.specs.Memory.Orders.{is_partitioned, how_many}
-use Rattle.sl_needs.specs.Readings.{key_of}
+use Rattle.sl_arguments.specs.Readings.{key_of}
 use Rattle.sl_needs.specs.Means.Bounds.{is_within}
 use Rattle.sl_needs.proofs.orders.is_partitioned.Given as goal
 

@@ -1,6 +1,6 @@
 use Rattle.std.proofs.Common.{ℕ, ◌+◌, List, [], ◌++◌, if◌then◌else◌}
 use Rattle.sl_model.specs.LibraryCalls.Needs.{invalid_fails, one_container_fails, order_fails}
-use Rattle.sl_needs.specs.Readings.{placed}
+use Rattle.sl_arguments.specs.Readings.{placed}
 use Rattle.sl_needs.proofs.Counting.{both_told}
 use Rattle.sl_needs.proofs.places.no_one_range.Goals as goal
 

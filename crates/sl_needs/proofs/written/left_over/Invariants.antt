@@ -1,5 +1,5 @@
 use Rattle.std.proofs.Common.{◌≡◌, ◌+◌, ◌≤◌, map, drop}
-use Rattle.sl_needs.specs.Readings.{key_of}
+use Rattle.sl_arguments.specs.Readings.{key_of}
 use Rattle.sl_needs.specs.Means.Merging.{left_over}
 use Rattle.sl_needs.proofs.written.left_over.Given as goal
 
