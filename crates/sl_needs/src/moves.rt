@@ -77,7 +77,12 @@ pub fn movable_failure(arguments: &Arguments, steps: Steps) -> Option<Failure>
 {
     let position = arguments.position(1);
     let container = container_in(position);
-    no_move(position, arguments.size(container), arguments.form(container), steps)
+    no_move(
+        position,
+        arguments.size(container),
+        arguments.form(container),
+        steps,
+    )
 }
 
 /// How the first operand can't be moved so far by an operator.

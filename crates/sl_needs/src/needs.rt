@@ -14,16 +14,15 @@ ghost use Rattle.sl_arguments.specs.Readings.{Reads};
 ghost use Rattle.sl_needs.specs.Failures.{told};
 ghost use Rattle.sl_needs.specs.Means.Bounds.{is_within};
 
-use crate::moves::{movable_failure, steps_of};
-use crate::range_test::{each_range};
-use crate::ranges::{is_valid_range, range_failure, valid_range};
-use sl_arguments::Arguments;
 use crate::failure::{Failure, earlier, fails_if};
 use crate::forms::is_random_access;
 use crate::letters::{first_range, may_go_back};
+use crate::moves::{movable_failure, steps_of};
 use crate::orders::{Bound, is_ascending, is_partitioned};
 use crate::places::{no_element, no_range, outside};
-use crate::range_test::RangeTest;
+use crate::range_test::{RangeTest, each_range};
+use crate::ranges::{is_valid_range, range_failure, valid_range};
+use sl_arguments::Arguments;
 use sl_base::failures::{
     EMPTY_CONTAINER, NOT_PARTITIONED, NOT_SORTED, OUT_OF_RANGE, OVERLAP, OWN_ELEMENTS,
 };
@@ -84,7 +83,12 @@ pub fn range_in_object(arguments: &Arguments) -> Option<Failure>
     ensures { (s : Situation) (r : Row) → Reads arguments.now s →
         told result ≡ first_failure (failures r s needs.RangeInObject) }
 {
-    no_range(arguments.object(), arguments.position(1), arguments.position(2), 1)
+    no_range(
+        arguments.object(),
+        arguments.position(1),
+        arguments.position(2),
+        1,
+    )
 }
 
 pub fn one_range(arguments: &Arguments, entry: &Entry) -> Option<Failure>
@@ -93,7 +97,11 @@ pub fn one_range(arguments: &Arguments, entry: &Entry) -> Option<Failure>
 {
     let any_way = may_go_back(entry.signature.letters)
         & is_random_access(arguments.form(arguments.object()));
-    each_range(arguments, entry.signature.letters, RangeTest::Invalid { any_way })
+    each_range(
+        arguments,
+        entry.signature.letters,
+        RangeTest::Invalid { any_way },
+    )
 }
 
 pub fn foreign_range(arguments: &Arguments, entry: &Entry) -> Option<Failure>
@@ -130,7 +138,11 @@ pub fn other_container(arguments: &Arguments) -> Option<Failure>
     ensures { (s : Situation) (r : Row) → Reads arguments.now s →
         told result ≡ first_failure (failures r s needs.OtherContainer) }
 {
-    fails_if(arguments.container(2) == arguments.object(), OWN_ELEMENTS, 2)
+    fails_if(
+        arguments.container(2) == arguments.object(),
+        OWN_ELEMENTS,
+        2,
+    )
 }
 
 pub fn spliced_element(arguments: &Arguments) -> Option<Failure>
@@ -138,7 +150,12 @@ pub fn spliced_element(arguments: &Arguments) -> Option<Failure>
         told result ≡ first_failure (failures r s needs.SplicedElement) }
 {
     let container = arguments.container(2);
-    no_element(container, arguments.size(container), arguments.position(3), 3)
+    no_element(
+        container,
+        arguments.size(container),
+        arguments.position(3),
+        3,
+    )
 }
 
 pub fn spliced_range(arguments: &Arguments) -> Option<Failure>
@@ -147,7 +164,12 @@ pub fn spliced_range(arguments: &Arguments) -> Option<Failure>
 {
     let own = is_valid_range(arguments, 3) & (arguments.container(2) == arguments.object());
     earlier(
-        no_range(arguments.container(2), arguments.position(3), arguments.position(4), 3),
+        no_range(
+            arguments.container(2),
+            arguments.position(3),
+            arguments.position(4),
+            3,
+        ),
         fails_if(own & is_position_inside(arguments), OVERLAP, 1),
     )
 }

@@ -8,12 +8,10 @@ ghost use Rattle.sl_arguments.specs.Readings.{Reads, placed};
 ghost use Rattle.sl_needs.specs.Failures.{told};
 ghost use Rattle.sl_needs.specs.Means.Steps.{dereference_at};
 
-use crate::moves::{step_failure};
-use sl_arguments::Arguments;
 use crate::failure::{Failure, fails_if};
+use crate::moves::step_failure;
 use crate::places::{invalid, no_pair};
-use sl_arguments::{Position, container_in};
-use sl_arguments::Steps;
+use sl_arguments::{Arguments, Position, Steps, container_in};
 use sl_base::failures::END_ITERATOR;
 use sl_syntax::typed::Operator;
 
@@ -62,8 +60,9 @@ pub fn operator_failure(arguments: &Arguments, operator: Operator) -> Option<Fai
         told result ≡ first_failure ((row_of_operator name operator).fails s) }
 {
     match operator {
-        Operator::Dereference | Operator::ArrowFirst | Operator::ArrowSecond =>
-            dereference_failure(arguments),
+        Operator::Dereference | Operator::ArrowFirst | Operator::ArrowSecond => dereference_failure(
+            arguments,
+        ),
         Operator::Difference | Operator::Compare(_) => pair_failure(arguments),
         _ => step_failure(arguments, steps_by(arguments, operator)),
     }

@@ -9,13 +9,11 @@ ghost use Rattle.sl_model.specs.LibraryCalls.Situation.{Situation, place_of};
 ghost use Rattle.sl_arguments.specs.Readings.{Reads, placed, at};
 ghost use Rattle.sl_needs.specs.Failures.{told};
 
-use crate::range_test::{each_range};
-use crate::written::{output_count};
-use sl_arguments::Arguments;
 use crate::failure::{Failure, earlier, fails_if};
 use crate::places::invalid;
-use sl_arguments::{Position, container_at};
-use crate::range_test::RangeTest;
+use crate::range_test::{RangeTest, each_range};
+use crate::written::output_count;
+use sl_arguments::{Arguments, Position, container_at};
 use sl_base::failures::NO_ROOM;
 use sl_specs::{Call, Entry};
 
@@ -27,12 +25,19 @@ fn is_copy(call: Call) -> bool
 }
 
 // Where so many elements that an algorithm writes from a position on have no room, or overlap a range.
-fn written_failure(arguments: &Arguments, entry: &Entry, output: Position, count: usize) -> Option<Failure>
+fn written_failure(
+    arguments: &Arguments,
+    entry: &Entry,
+    output: Position,
+    count: usize,
+) -> Option<Failure>
     ensures { (s : Situation) → Reads arguments.now s →
         told result ≡ first_failure (spec.places_fail (entry_row entry.now) s (length s.values) (at output) (Some count)) }
 {
     let argument = arguments.count();
-    let room = arguments.size(output.container).saturating_sub(output.index);
+    let room = arguments
+        .size(output.container)
+        .saturating_sub(output.index);
     let test = RangeTest::Overlapped {
         output,
         count,
@@ -75,7 +80,9 @@ pub fn output_fits(arguments: &Arguments, entry: &Entry) -> Option<Failure>
 {
     let argument = arguments.count();
     match container_at(arguments.value(argument)) {
-        Some(container) => each_range(arguments, entry.signature.letters,
+        Some(container) => each_range(
+            arguments,
+            entry.signature.letters,
             RangeTest::Filled {
                 container,
                 argument,

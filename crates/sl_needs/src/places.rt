@@ -6,7 +6,7 @@ ghost use Rattle.sl_arguments.specs.Readings.{placed};
 ghost use Rattle.sl_needs.specs.Failures.{told};
 
 use crate::failure::{Failure, earlier, fails_if};
-use sl_arguments::{Position};
+use sl_arguments::Position;
 use sl_base::failures::{BAD_RANGE, END_ITERATOR, INVALID_ITERATOR, WRONG_CONTAINER};
 
 /// Where an argument stands nowhere.

@@ -9,12 +9,11 @@ ghost use Rattle.sl_needs.specs.Failures.{told};
 ghost use Rattle.sl_needs.specs.Means.Letters.{takes_range};
 ghost use Rattle.sl_needs.specs.Means.Ranges.{overlaps_as, meets, range_fails};
 
-use crate::ranges::{is_valid_range, range_failure, valid_range};
-use sl_arguments::Arguments;
 use crate::failure::{Failure, earlier, fails_if};
 use crate::letters::{is_range, width};
 use crate::orders::is_ascending;
-use sl_arguments::{Position};
+use crate::ranges::{is_valid_range, range_failure, valid_range};
+use sl_arguments::{Arguments, Position};
 use sl_base::failures::{NOT_SORTED, OVERLAP, OWN_ELEMENTS};
 use sl_specs::Letter;
 
@@ -54,7 +53,13 @@ fn meet(copies: bool, index: usize, count: usize, low: usize, high: usize) -> bo
 }
 
 // Whether an output of so many elements from a position on overlaps the range at an argument.
-fn overlaps(arguments: &Arguments, output: Position, count: usize, copies: bool, number: usize) -> bool
+fn overlaps(
+    arguments: &Arguments,
+    output: Position,
+    count: usize,
+    copies: bool,
+    number: usize,
+) -> bool
     requires { number < usize.MAX }
     ensures { (s : Situation) → Reads arguments.now s → result ≡ overlaps_as copies s (at output) count number }
 {
@@ -97,7 +102,11 @@ fn test_failure(arguments: &Arguments, test: RangeTest, number: usize) -> Option
         RangeTest::Filled {
             container,
             argument,
-        } => fails_if(is_filled(arguments, container, number), OWN_ELEMENTS, argument),
+        } => fails_if(
+            is_filled(arguments, container, number),
+            OWN_ELEMENTS,
+            argument,
+        ),
         RangeTest::Unsorted => fails_if(
             !is_ascending(valid_range(arguments, number)),
             NOT_SORTED,
@@ -107,7 +116,12 @@ fn test_failure(arguments: &Arguments, test: RangeTest, number: usize) -> Option
 }
 
 // How the range that begins at an argument fails a test, where a letter stands for one.
-fn letter_failure(arguments: &Arguments, letter: Letter, test: RangeTest, number: usize) -> Option<Failure>
+fn letter_failure(
+    arguments: &Arguments,
+    letter: Letter,
+    test: RangeTest,
+    number: usize,
+) -> Option<Failure>
     requires { number < usize.MAX }
     ensures { (s : Situation) → Reads arguments.now s →
         told result ≡ first_failure (if takes_range letter then range_fails test s number else []) }

@@ -7,10 +7,14 @@ ghost use Rattle.sl_model.specs.LibraryCalls.Situation.{Situation};
 ghost use Rattle.sl_arguments.specs.Readings.{Reads};
 ghost use Rattle.sl_needs.specs.Failures.{told};
 
-use crate::needs::{both_sorted, erasable_position, foreign_range, index_in_size, movable, not_empty, one_range, other_container, partitioned_above, partitioned_below, position_in_object, range_in_object, ranges_sorted, spliced_element, spliced_range};
-use crate::output::{output_fits};
-use sl_arguments::Arguments;
 use crate::failure::{Failure, earlier};
+use crate::needs::{
+    both_sorted, erasable_position, foreign_range, index_in_size, movable, not_empty, one_range,
+    other_container, partitioned_above, partitioned_below, position_in_object, range_in_object,
+    ranges_sorted, spliced_element, spliced_range,
+};
+use crate::output::output_fits;
+use sl_arguments::Arguments;
 use sl_specs::{Entry, Need};
 
 // The first failure of a need of a row.

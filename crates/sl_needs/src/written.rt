@@ -5,8 +5,8 @@ ghost use Rattle.sl_model.specs.LibraryCalls.Situation.{Situation};
 ghost use Rattle.sl_arguments.specs.Readings.{Reads, key_of};
 ghost use Rattle.sl_needs.specs.Means.Merging as spec;
 
-use sl_arguments::Arguments;
 use crate::orders::is_ascending;
+use sl_arguments::Arguments;
 use sl_slots::Element;
 use sl_specs::Call;
 
